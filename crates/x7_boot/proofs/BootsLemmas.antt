@@ -9,8 +9,8 @@ use Rattle.x7_regs.specs.declared.boot_status.Cause.TheVariants.{Wrap}
 use Rattle.x7_regs.specs.declared.boot_status.Kind.{Kind}
 use Rattle.x7_regs.specs.declared.boot_status.Kind.TheVariants.{Fallback}
 use Rattle.x7_engine.specs.Kept.{is_fallback}
-use Rattle.x7_engine.specs.State.{kept_after, state_of, stop_in, taken_of, why_of}
-use Rattle.x7_engine.specs.Stop.{stop_fault}
+use Rattle.x7_engine.specs.State.{kept_after, state_of, first_stop_of_bytes, taken_of, why_stopped}
+use Rattle.x7_engine.specs.Stop.{fault_of_stop}
 use Rattle.x7_engine.specs.Value.{failure_of}
 use Rattle.x7_engine.specs.declared.fault.Fault.{Fault}
 use Rattle.x7_engine.specs.declared.fault.Fault.TheVariants as fault
@@ -57,7 +57,7 @@ failed_is : (o : Option Cause) (cause : Cause) → failed_by o ≡ Some (ending.
 failed_is None cause e = absurd (cc)
 failed_is (Some c) cause e = cc
 
-cause_by : (o : Option StopCause) (cause : Cause) → ending_by o ≡ Some (ending.Failed cause) → failure_of (stop_fault o) false ≡ Some cause
+cause_by : (o : Option StopCause) (cause : Cause) → ending_by o ≡ Some (ending.Failed cause) → failure_of (fault_of_stop o) false ≡ Some cause
 cause_by None cause e = failed_is None cause e
 cause_by (Some stop.Iprog) cause e = absurd (cc)
 cause_by (Some (stop.Fault f)) cause e = failed_is (failure_of (Some f) false) cause e
@@ -93,17 +93,17 @@ never_ends part kept from n none = elim (cases_lt n (suc (length from))) [
       ap (ending_at part kept) same ∙ none (length from) (omega arith))
 ]
 
-pub cause_is : (part : PartData) (flash : List ℕ) (t : AttemptCourse) (cause : Cause) → IsFlashAttempt part flash t → t.ending ≡ ending.Failed cause → failure_of (stop_fault (why_of (stop_in part t.kept t.bytes))) t.wrapped ≡ Some cause
+pub cause_is : (part : PartData) (flash : List ℕ) (t : AttemptCourse) (cause : Cause) → IsFlashAttempt part flash t → t.ending ≡ ending.Failed cause → failure_of (fault_of_stop (why_stopped (first_stop_of_bytes part t.kept t.bytes))) t.wrapped ≡ Some cause
 cause_is part flash t cause (inl first) e =
-    let why : Option StopCause = why_of (stop_in part t.kept t.bytes) in
+    let why : Option StopCause = why_stopped (first_stop_of_bytes part t.kept t.bytes) in
     let ends : ending_by why ≡ Some (ending.Failed cause) = not_started ((state_of part t.kept false t.bytes).phase == 7) (ending_by why) cause (first.ends ∙ ap Some e) in
-    ap (failure_of (stop_fault why)) first.in_flash ∙ cause_by why cause ends
+    ap (failure_of (fault_of_stop why)) first.in_flash ∙ cause_by why cause ends
 cause_is part flash t cause (inr out) e =
     let from : List ℕ = drop t.address flash in
-    let why : Option StopCause = why_of (stop_in part t.kept t.bytes) in
+    let why : Option StopCause = why_stopped (first_stop_of_bytes part t.kept t.bytes) in
     let none : ending_at part t.kept t.bytes ≡ None = ap (ending_at part t.kept) out.taken ∙ never_ends part t.kept from (taken_of part t.kept from) out.none in
     let not_ended : ending_by why ≡ None = not_ended ((state_of part t.kept false t.bytes).phase == 7) (ending_by why) none in
-    ap (failure_of (stop_fault why)) out.past_end ∙ wrapped_by (stop_fault why) (no_cause why not_ended) ∙ some_failed Wrap cause (sym out.failed ∙ e)
+    ap (failure_of (fault_of_stop why)) out.past_end ∙ wrapped_by (fault_of_stop why) (no_cause why not_ended) ∙ some_failed Wrap cause (sym out.failed ∙ e)
 
 -- a fallback follows an attempt that failed, where that is none itself and CTL0 allows it; else the boot stops
 pub fallback_next : (part : PartData) (number : ℕ) (t : AttemptCourse) (cause : Cause) → is_fallback t.kept.kind ≡ false → forbids_fallback (end_state part t).ctl0 ≡ false

@@ -6,7 +6,7 @@ use Rattle.x7_words.proofs.ListLemmas.{all_back, all_prefix, all_take}
 use Rattle.x7_packets.specs.History.{Write}
 use Rattle.x7_part.specs.Part.{PartData}
 use Rattle.x7_engine.specs.Kept.{is_fallback}
-use Rattle.x7_engine.specs.State.{why_of, state_of, stop_in, taken_of}
+use Rattle.x7_engine.specs.State.{why_stopped, state_of, first_stop_of_bytes, taken_of}
 use Rattle.x7_engine.specs.Value.{failure_of}
 use Rattle.x7_engine.specs.declared.kept.Kept.{Kept}
 use Rattle.x7_engine.specs.declared.stop.StopCause.{StopCause}
@@ -39,7 +39,7 @@ starts_by true o e = refl
 starts_by false o e = absurd (no_stop_starts o e)
 
 started_late : (part : PartData) (kept : Kept) (bytes : List ℕ) → ending_at part kept bytes ≡ Some ending.Started → 0 < (state_of part kept false bytes).phase
-started_late part kept bytes e = seven_late (state_of part kept false bytes).phase (starts_by ((state_of part kept false bytes).phase == 7) (why_of (stop_in part kept bytes)) e)
+started_late part kept bytes e = seven_late (state_of part kept false bytes).phase (starts_by ((state_of part kept false bytes).phase == 7) (why_stopped (first_stop_of_bytes part kept bytes)) e)
 
 pub checked : (part : PartData) (kept : Kept) (wrapped : Bool) (bytes : List ℕ) → AreBytes bytes → 0 < (state_of part kept wrapped bytes).phase → HasChecked part kept bytes
 checked part kept wrapped bytes fits late = record {

@@ -14,8 +14,8 @@ use Rattle.x7_engine.specs.declared.regs.Regs.{Regs}
 use Rattle.x7_engine.specs.declared.stop.StopCause.{StopCause}
 use Rattle.x7_engine.specs.declared.stop.StopCause.TheVariants as stop
 use Rattle.x7_engine.specs.Standing.{DeviceState, DeviceStandsFor, MayWrap, NoWordDue}
-use Rattle.x7_engine.specs.State.{why_of, state_of, stop_in, taken_of, taken_by}
-use Rattle.x7_engine.specs.Stop.{Stopped, stop_fault, stopped_at}
+use Rattle.x7_engine.specs.State.{why_stopped, state_of, first_stop_of_bytes, taken_of, taken_by}
+use Rattle.x7_engine.specs.Stop.{Stopped, fault_of_stop, stop_at_place}
 use Rattle.x7_engine.specs.Value.{failure_of}
 use Rattle.x7_engine.proofs.BootLemmas.{may_wrap, none_due_at_first}
 use Rattle.x7_engine.proofs.StateLemmas.{stop_is_final_state, stop_is_final_stop}
@@ -37,11 +37,11 @@ not_started part kept bytes none = by ((state_of part kept false bytes).phase ==
     by false e = e
     by true e = let some : ending_at part kept bytes ≡ Some Started = ends_started part kept bytes e in cc
 
-no_ending : (part : PartData) (kept : Kept) (bytes : List ℕ) → ending_at part kept bytes ≡ None → ending_by (why_of (stop_in part kept bytes)) ≡ None
+no_ending : (part : PartData) (kept : Kept) (bytes : List ℕ) → ending_at part kept bytes ≡ None → ending_by (why_stopped (first_stop_of_bytes part kept bytes)) ≡ None
 no_ending part kept bytes none = sym (ends_by_stop part kept bytes (not_started part kept bytes none)) ∙ none
 
 -- what ends no attempt is no cause of a failure
-pub no_cause : (o : Option StopCause) → ending_by o ≡ None → failure_of (stop_fault o) false ≡ None
+pub no_cause : (o : Option StopCause) → ending_by o ≡ None → failure_of (fault_of_stop o) false ≡ None
 no_cause None e = refl
 no_cause (Some stop.Iprog) e = refl
 no_cause (Some (stop.Fault f)) e = by (failure_of (Some f) false) e
@@ -56,8 +56,8 @@ not_left o e f = let some : ending_by o ≡ Some Iprog = ap ending_by f in cc
 -- the flash may end where nothing ended the attempt
 pub ends_here : (part : PartData) (kept : Kept) (d : DeviceState) (bytes : List ℕ) → (kept.kind ≡ Bench → ⊥) → DeviceStandsFor part kept false d bytes → ending_at part kept bytes ≡ None → NoWordDue d → MayWrap d
 ends_here part kept d bytes boots s none due =
-    let o : ending_by (why_of (stop_in part kept bytes)) ≡ None = no_ending part kept bytes none in
-    may_wrap part kept false d bytes s boots (not_started part kept bytes none) (no_cause (why_of (stop_in part kept bytes)) o) (not_left (why_of (stop_in part kept bytes)) o) due
+    let o : ending_by (why_stopped (first_stop_of_bytes part kept bytes)) ≡ None = no_ending part kept bytes none in
+    may_wrap part kept false d bytes s boots (not_started part kept bytes none) (no_cause (why_stopped (first_stop_of_bytes part kept bytes)) o) (not_left (why_stopped (first_stop_of_bytes part kept bytes)) o) due
 
 -- ---- how an attempt begins, and goes on
 
@@ -174,25 +174,25 @@ tries_ended part kept address all d new page at end step e order f knows t is =
     }
 
 -- a stop that doesn't end an attempt stays to the flash's end
-stays_open : (part : PartData) (kept : Kept) (bytes more : List ℕ) → AreBytes (bytes ++ more) → IsSome (stop_in part kept bytes) → ending_at part kept bytes ≡ None → ending_at part kept (bytes ++ more) ≡ None
-stays_open part kept bytes more fits some none = by (stop_in part kept bytes) refl some
+stays_open : (part : PartData) (kept : Kept) (bytes more : List ℕ) → AreBytes (bytes ++ more) → IsSome (first_stop_of_bytes part kept bytes) → ending_at part kept bytes ≡ None → ending_at part kept (bytes ++ more) ≡ None
+stays_open part kept bytes more fits some none = by (first_stop_of_bytes part kept bytes) refl some
   where
-    by : (o : Option Stopped) → stop_in part kept bytes ≡ o → IsSome o → ending_at part kept (bytes ++ more) ≡ None
+    by : (o : Option Stopped) → first_stop_of_bytes part kept bytes ≡ o → IsSome o → ending_at part kept (bytes ++ more) ≡ None
     by None e s = cc
     by (Some s) e i =
-        let later : stop_in part kept (bytes ++ more) ≡ Some s = stop_is_final_stop part kept bytes more s fits e in
+        let later : first_stop_of_bytes part kept (bytes ++ more) ≡ Some s = stop_is_final_stop part kept bytes more s fits e in
         let same : state_of part kept false (bytes ++ more) ≡ state_of part kept false bytes = stop_is_final_state part kept false bytes more s fits e in
         let no : ((state_of part kept false (bytes ++ more)).phase == 7) ≡ false = ap (λ (r : Regs). r.phase == 7) same ∙ not_started part kept bytes none in
-        ends_by_stop part kept (bytes ++ more) no ∙ ap (λ (o : Option Stopped). ending_by (why_of o)) (later ∙ sym e) ∙ no_ending part kept bytes none
+        ends_by_stop part kept (bytes ++ more) no ∙ ap (λ (o : Option Stopped). ending_by (why_stopped o)) (later ∙ sym e) ∙ no_ending part kept bytes none
 
-stop_at_last : (part : PartData) (kept : Kept) (d : DeviceState) (bytes : List ℕ) → DeviceStandsFor part kept false d bytes → (s : Stopped) → stop_in part kept bytes ≡ Some s → s.place ≡ length bytes
+stop_at_last : (part : PartData) (kept : Kept) (d : DeviceState) (bytes : List ℕ) → DeviceStandsFor part kept false d bytes → (s : Stopped) → first_stop_of_bytes part kept bytes ≡ Some s → s.place ≡ length bytes
 stop_at_last part kept d bytes stands s e = by d.registers.stop (sym e ∙ stands.stop_is)
   where
-    by : (o : Option StopCause) → Some s ≡ stopped_at (length bytes) o → s.place ≡ length bytes
+    by : (o : Option StopCause) → Some s ≡ stop_at_place (length bytes) o → s.place ≡ length bytes
     by None f = cc
     by (Some why) f = cc
 
-none_stopped : (part : PartData) (kept : Kept) (from bytes rest : List ℕ) → from ≡ bytes ++ rest → AreBytes (bytes ++ rest) → IsSome (stop_in part kept bytes) → ending_at part kept bytes ≡ None
+none_stopped : (part : PartData) (kept : Kept) (from bytes rest : List ℕ) → from ≡ bytes ++ rest → AreBytes (bytes ++ rest) → IsSome (first_stop_of_bytes part kept bytes) → ending_at part kept bytes ≡ None
     → ((k : ℕ) → k < length bytes → ending_at part kept (take k bytes) ≡ None) → NoneBefore part kept from (suc (length from))
 none_stopped part kept from bytes rest e fits some not_ended none k l = elim (cases_lt k (length bytes)) [
   | inl early ↦ none_of part kept from bytes rest e none k early
@@ -205,14 +205,14 @@ none_stopped part kept from bytes rest e fits some not_ended none k l = elim (ca
       subst (λ (b : List ℕ). ending_at part kept b ≡ None) (sym here) (stays_open part kept bytes (take m rest) fits' some not_ended)
 ]
 
-taken_stopped : (part : PartData) (kept : Kept) (d : DeviceState) (from bytes rest : List ℕ) → from ≡ bytes ++ rest → AreBytes (bytes ++ rest) → DeviceStandsFor part kept false d bytes → IsSome (stop_in part kept bytes)
+taken_stopped : (part : PartData) (kept : Kept) (d : DeviceState) (from bytes rest : List ℕ) → from ≡ bytes ++ rest → AreBytes (bytes ++ rest) → DeviceStandsFor part kept false d bytes → IsSome (first_stop_of_bytes part kept bytes)
     → bytes ≡ take (taken_of part kept from) from
-taken_stopped part kept d from bytes rest e fits stands some = by (stop_in part kept bytes) refl some
+taken_stopped part kept d from bytes rest e fits stands some = by (first_stop_of_bytes part kept bytes) refl some
   where
-    by : (o : Option Stopped) → stop_in part kept bytes ≡ o → IsSome o → bytes ≡ take (taken_of part kept from) from
+    by : (o : Option Stopped) → first_stop_of_bytes part kept bytes ≡ o → IsSome o → bytes ≡ take (taken_of part kept from) from
     by None f s = cc
     by (Some s) f i =
-        let later : stop_in part kept from ≡ Some s = ap (stop_in part kept) e ∙ stop_is_final_stop part kept bytes rest s fits f in
+        let later : first_stop_of_bytes part kept from ≡ Some s = ap (first_stop_of_bytes part kept) e ∙ stop_is_final_stop part kept bytes rest s fits f in
         let count : taken_of part kept from ≡ length bytes = ap (λ (o : Option Stopped). taken_by o (length from)) later ∙ stop_at_last part kept d bytes stands s f in
         sym (ap (λ (n : ℕ). take n from) count ∙ ap (take (length bytes)) e ∙ take-append_seam bytes rest)
 
@@ -248,7 +248,7 @@ tries_out part kept address all d wrapped at f past w =
     let left : length from ≡ length all - address = length-drop address all in
     let count : address + length f.bytes ≡ at = f.count in
     let whole : f.bytes ≡ from = f.read ∙ take_all (at - address) from (omega (arith, left, past, count)) in
-    let going : stop_in part kept from ≡ None = ap (stop_in part kept) (sym whole) ∙ f.going in
+    let going : first_stop_of_bytes part kept from ≡ None = ap (first_stop_of_bytes part kept) (sym whole) ∙ f.going in
     let taken : taken_of part kept from ≡ length from = ap (λ (o : Option Stopped). taken_by o (length from)) going in
     record {
       course = record { kept = kept; address = address; bytes = f.bytes; wrapped = true; ending = Failed Wrap };

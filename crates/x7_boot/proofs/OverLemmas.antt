@@ -8,7 +8,7 @@ use Rattle.x7_packets.specs.History.{history_of}
 use Rattle.x7_part.specs.Part.{PartData}
 use Rattle.x7_engine.specs.Kept.{AreFallbacks}
 use Rattle.x7_engine.specs.Startup.{phase_by, startup_progress}
-use Rattle.x7_engine.specs.State.{history_by, state_of, stop_in, taken_by, why_of}
+use Rattle.x7_engine.specs.State.{history_by, state_of, first_stop_of_bytes, taken_by, why_stopped}
 use Rattle.x7_engine.specs.Stop.{Stopped}
 use Rattle.x7_engine.specs.declared.kept.Kept.{Kept}
 use Rattle.x7_engine.specs.declared.regs.Regs.{Regs}
@@ -70,8 +70,8 @@ attempt_over part flash other t (inr x) in_flash e = let both : true ≡ false =
 
 alike_ending : (part : PartData) (kept : Kept) (one other : List ℕ) → AreAlike one other → ending_at part kept one ≡ ending_at part kept other
 alike_ending part kept one other a =
-    ap (λ (r : Regs). if r.phase == 7 then Some Started else ending_by (why_of (stop_in part kept one))) (alike_state part kept one other a false)
-    ∙ ap (λ (o : Option Stopped). if (state_of part kept false other).phase == 7 then Some Started else ending_by (why_of o)) (alike_stop part kept one other a)
+    ap (λ (r : Regs). if r.phase == 7 then Some Started else ending_by (why_stopped (first_stop_of_bytes part kept one))) (alike_state part kept one other a false)
+    ∙ ap (λ (o : Option Stopped). if (state_of part kept false other).phase == 7 then Some Started else ending_by (why_stopped o)) (alike_stop part kept one other a)
 
 abbrev pub alike_attempt : AttemptCourse → List ℕ → AttemptCourse
 alike_attempt t other = record { kept = t.kept; address = t.address; bytes = take (length t.bytes) other; wrapped = false; ending = t.ending }
@@ -84,7 +84,7 @@ alike_ends part from other t x long alike =
 
 kept_ending : (part : PartData) (one other : Kept) (bytes : List ℕ) → AreFallbacks one other → ending_at part one bytes ≡ ending_at part other bytes
 kept_ending part one other bytes f =
-    ap (λ (o : Option Stopped). if phase_by part (startup_progress (history_by o (history_of bytes)) (taken_by o (length bytes))) == 7 then Some Started else ending_by (why_of o)) (kept_stop part one other bytes f)
+    ap (λ (o : Option Stopped). if phase_by part (startup_progress (history_by o (history_of bytes)) (taken_by o (length bytes))) == 7 then Some Started else ending_by (why_stopped o)) (kept_stop part one other bytes f)
 
 abbrev pub with_kept : AttemptCourse → Kept → AttemptCourse
 with_kept t kept = record { kept = kept; address = t.address; bytes = t.bytes; wrapped = t.wrapped; ending = t.ending }

@@ -8,7 +8,7 @@ use Rattle.x7_packets.specs.History.{Entry, History, executes, history_of, until
 use Rattle.x7_packets.proofs.GrowthLemmas.{prefix_of}
 use Rattle.x7_part.specs.Part.{PartData}
 use Rattle.x7_engine.specs.Checked.{HasStartAndDesync}
-use Rattle.x7_engine.specs.State.{history_by, history_taken, last_counted, why_of, state_of, stop_in, taken_of}
+use Rattle.x7_engine.specs.State.{history_by, history_taken, last_counted, why_stopped, state_of, first_stop_of_bytes, taken_of}
 use Rattle.x7_engine.specs.Stop.{Stopped}
 use Rattle.x7_engine.specs.declared.kept.Kept.{Kept}
 use Rattle.x7_engine.proofs.CheckedLemmas.{phase_started}
@@ -48,7 +48,7 @@ never_until n (e ∷ h) never = by (nat_lt n e.place) (never_until n h never.1)
 -- ---- of bytes
 
 never_taken : (part : PartData) (kept : Kept) (bytes : List ℕ) → NeverStarts (history_of bytes) → NeverStarts (history_taken part kept bytes)
-never_taken part kept bytes never = by (stop_in part kept bytes)
+never_taken part kept bytes never = by (first_stop_of_bytes part kept bytes)
   where
     by : (o : Option Stopped) → NeverStarts (history_by o (history_of bytes))
     by None = never
@@ -79,22 +79,22 @@ prefix_history k bytes fits =
     sym (prefix_of (take k bytes) (drop k bytes) (subst AreBytes (sym whole) fits)) ∙ ap (λ (b : List ℕ). until (length (take k bytes)) (history_of b)) whole
 
 -- no stop in more bytes, none in fewer
-pub prefix_goes : (part : PartData) (kept : Kept) (k : ℕ) (bytes : List ℕ) → AreBytes bytes → stop_in part kept bytes ≡ None → stop_in part kept (take k bytes) ≡ None
-prefix_goes part kept k bytes fits none = by (stop_in part kept (take k bytes)) refl
+pub prefix_goes : (part : PartData) (kept : Kept) (k : ℕ) (bytes : List ℕ) → AreBytes bytes → first_stop_of_bytes part kept bytes ≡ None → first_stop_of_bytes part kept (take k bytes) ≡ None
+prefix_goes part kept k bytes fits none = by (first_stop_of_bytes part kept (take k bytes)) refl
   where
-    by : (o : Option Stopped) → stop_in part kept (take k bytes) ≡ o → o ≡ None
+    by : (o : Option Stopped) → first_stop_of_bytes part kept (take k bytes) ≡ o → o ≡ None
     by None e = refl
     by (Some s) e =
         let whole : take k bytes ++ drop k bytes ≡ bytes = take-append-drop k bytes in
-        let later : stop_in part kept (take k bytes ++ drop k bytes) ≡ Some s = stop_is_final_stop part kept (take k bytes) (drop k bytes) s (subst AreBytes (sym whole) fits) e in
-        let both : Some s ≡ None = sym later ∙ ap (stop_in part kept) whole ∙ none in absurd (cc)
+        let later : first_stop_of_bytes part kept (take k bytes ++ drop k bytes) ≡ Some s = stop_is_final_stop part kept (take k bytes) (drop k bytes) s (subst AreBytes (sym whole) fits) e in
+        let both : Some s ≡ None = sym later ∙ ap (first_stop_of_bytes part kept) whole ∙ none in absurd (cc)
 
 -- neither phase 7 nor a stop
-pub goes_on : (part : PartData) (kept : Kept) (bytes : List ℕ) → ((state_of part kept false bytes).phase == 7) ≡ false → stop_in part kept bytes ≡ None → ending_at part kept bytes ≡ None
-goes_on part kept bytes early none = ends_by_stop part kept bytes early ∙ ap (λ (o : Option Stopped). ending_by (why_of o)) none
+pub goes_on : (part : PartData) (kept : Kept) (bytes : List ℕ) → ((state_of part kept false bytes).phase == 7) ≡ false → first_stop_of_bytes part kept bytes ≡ None → ending_at part kept bytes ≡ None
+goes_on part kept bytes early none = ends_by_stop part kept bytes early ∙ ap (λ (o : Option Stopped). ending_by (why_stopped o)) none
 
 -- nothing ends an attempt at fewer bytes, where startup begins nowhere and those have no stop
-pub prefix_open : (part : PartData) (kept : Kept) (k : ℕ) (bytes : List ℕ) → AreBytes bytes → NeverStarts (history_of bytes) → stop_in part kept (take k bytes) ≡ None → ending_at part kept (take k bytes) ≡ None
+pub prefix_open : (part : PartData) (kept : Kept) (k : ℕ) (bytes : List ℕ) → AreBytes bytes → NeverStarts (history_of bytes) → first_stop_of_bytes part kept (take k bytes) ≡ None → ending_at part kept (take k bytes) ≡ None
 prefix_open part kept k bytes fits never none =
     goes_on part kept (take k bytes)
     (never_seven part kept (take k bytes) (all_take (λ b. b < 256) k bytes fits) (subst NeverStarts (sym (prefix_history k bytes fits)) (never_until (length (take k bytes)) (history_of bytes) never))) none

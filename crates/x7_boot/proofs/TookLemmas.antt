@@ -15,9 +15,9 @@ use Rattle.x7_engine.specs.Value.{failure_of}
 use Rattle.x7_engine.specs.ReadBuffer.{IsFullBy, ReadBufState}
 use Rattle.x7_engine.specs.Past.{AnswersAt, AnswersUntilAt}
 use Rattle.x7_engine.specs.Standing.{CanBeGiven, DeviceState, DeviceStandsFor, NoWordDue, taken_in}
-use Rattle.x7_engine.specs.State.{history_by, why_of, state_of, stop_in, taken_by}
+use Rattle.x7_engine.specs.State.{history_by, why_stopped, state_of, first_stop_of_bytes, taken_by}
 use Rattle.x7_engine.specs.Startup.{phase_by, startup_progress}
-use Rattle.x7_engine.specs.Stop.{Stopped, stop_fault}
+use Rattle.x7_engine.specs.Stop.{Stopped, fault_of_stop}
 use Rattle.x7_engine.specs.UntilStarted.{NoneStarted, has_started, says_started, taken_until}
 use Rattle.x7_engine.proofs.UntilLemmas.{going_before}
 use Rattle.x7_boot.specs.Attempt.{ending_at, ending_by, failed_by, CanTakePage, step_by, StepsTo, TookPiece, past_in_flash}
@@ -35,15 +35,15 @@ other : (b : Bool) (x y : Option Ending) → b ≡ false → (if b then x else y
 other b x y e = ap (λ (c : Bool). if c then x else y) e
 
 pub ends_started : (part : PartData) (kept : Kept) (bytes : List ℕ) → ((state_of part kept false bytes).phase == 7) ≡ true → ending_at part kept bytes ≡ Some Started
-ends_started part kept bytes e = chosen ((state_of part kept false bytes).phase == 7) (Some Started) (ending_by (why_of (stop_in part kept bytes))) e
+ends_started part kept bytes e = chosen ((state_of part kept false bytes).phase == 7) (Some Started) (ending_by (why_stopped (first_stop_of_bytes part kept bytes))) e
 
-pub ends_by_stop : (part : PartData) (kept : Kept) (bytes : List ℕ) → ((state_of part kept false bytes).phase == 7) ≡ false → ending_at part kept bytes ≡ ending_by (why_of (stop_in part kept bytes))
-ends_by_stop part kept bytes e = other ((state_of part kept false bytes).phase == 7) (Some Started) (ending_by (why_of (stop_in part kept bytes))) e
+pub ends_by_stop : (part : PartData) (kept : Kept) (bytes : List ℕ) → ((state_of part kept false bytes).phase == 7) ≡ false → ending_at part kept bytes ≡ ending_by (why_stopped (first_stop_of_bytes part kept bytes))
+ends_by_stop part kept bytes e = other ((state_of part kept false bytes).phase == 7) (Some Started) (ending_by (why_stopped (first_stop_of_bytes part kept bytes))) e
 
 -- where nothing has stopped the device
-pub ends_going : (part : PartData) (kept : Kept) (bytes : List ℕ) → stop_in part kept bytes ≡ None → ending_at part kept bytes ≡ (if phase_by part (startup_progress (history_of bytes) (length bytes)) == 7 then Some Started else None)
+pub ends_going : (part : PartData) (kept : Kept) (bytes : List ℕ) → first_stop_of_bytes part kept bytes ≡ None → ending_at part kept bytes ≡ (if phase_by part (startup_progress (history_of bytes) (length bytes)) == 7 then Some Started else None)
 ends_going part kept bytes none =
-    ap (λ (o : Option Stopped). if phase_by part (startup_progress (history_by o (history_of bytes)) (taken_by o (length bytes))) == 7 then Some Started else ending_by (why_of o)) none
+    ap (λ (o : Option Stopped). if phase_by part (startup_progress (history_by o (history_of bytes)) (taken_by o (length bytes))) == 7 then Some Started else ending_by (why_stopped o)) none
 
 -- ---- nothing earlier
 
@@ -54,8 +54,8 @@ none_yet part kept d bytes page n s within first k l =
     let prefix : take n page ≡ take k page ++ rest = sym (take-append-drop k (take n page)) ∙ ap (λ (x : List ℕ). x ++ rest) (take-take k n page (omega (arith, l))) in
     let some : length rest ≡ n - k = length-drop k (take n page) ∙ ap (λ (x : ℕ). x - k) (length-take-le n page within) in
     let joined : bytes ++ take n page ≡ (bytes ++ take k page) ++ rest = ap (λ (x : List ℕ). bytes ++ x) prefix ∙ sym (append_assoc bytes (take k page) rest) in
-    let going : stop_in part kept (bytes ++ take k page) ≡ None = going_before part kept false d (bytes ++ take k page) rest (subst (DeviceStandsFor part kept false d) joined s) (omega (arith, some, l)) in
-    ends_by_stop part kept (bytes ++ take k page) (first k l) ∙ ap (λ (o : Option Stopped). ending_by (why_of o)) going
+    let going : first_stop_of_bytes part kept (bytes ++ take k page) ≡ None = going_before part kept false d (bytes ++ take k page) rest (subst (DeviceStandsFor part kept false d) joined s) (omega (arith, some, l)) in
+    ends_by_stop part kept (bytes ++ take k page) (first k l) ∙ ap (λ (o : Option Stopped). ending_by (why_stopped o)) going
 
 -- ---- what a feed does
 
@@ -71,14 +71,14 @@ failed_at f cause e = ap failed_by (sym e)
 
 -- what it does to an attempt in which startup hasn't ended by then
 steps_to : (part : PartData) (kept : Kept) (d : DeviceState) (bytes : List ℕ) (read : ReadBufState) (answer : Fed) (cause : Option Cause) → read.most ≡ None
-    → AnswersAt (past_in_flash part kept bytes) d read answer → has_started part kept bytes ≡ false → cause ≡ failure_of (stop_fault (why_of (stop_in part kept bytes))) false
+    → AnswersAt (past_in_flash part kept bytes) d read answer → has_started part kept bytes ≡ false → cause ≡ failure_of (fault_of_stop (why_stopped (first_stop_of_bytes part kept bytes))) false
     → StepsTo part kept bytes (step_by answer cause)
-steps_to part kept d bytes read fed.All cause dropping a e f = (a.0, ends_by_stop part kept bytes e ∙ ap (λ (o : Option Stopped). ending_by (why_of o)) a.0)
-steps_to part kept d bytes read (fed.Iprog n) cause dropping a e f = ends_by_stop part kept bytes e ∙ ap (λ (o : Option Stopped). ending_by (why_of o)) a.0
+steps_to part kept d bytes read fed.All cause dropping a e f = (a.0, ends_by_stop part kept bytes e ∙ ap (λ (o : Option Stopped). ending_by (why_stopped o)) a.0)
+steps_to part kept d bytes read (fed.Iprog n) cause dropping a e f = ends_by_stop part kept bytes e ∙ ap (λ (o : Option Stopped). ending_by (why_stopped o)) a.0
 steps_to part kept d bytes read (fed.ReadFull n) cause dropping a e f = absurd (subst (λ (m : Option ℕ). IsFullBy m (length read.words)) dropping a.2)
-steps_to part kept d bytes read (fed.Stopped n) (Some cause) dropping a e f = ends_by_stop part kept bytes e ∙ ap (λ (o : Option Stopped). ending_by (why_of o)) a.1 ∙ failed_at a.0 (Some cause) (f ∙ ap (λ (o : Option Stopped). failure_of (stop_fault (why_of o)) false) a.1)
+steps_to part kept d bytes read (fed.Stopped n) (Some cause) dropping a e f = ends_by_stop part kept bytes e ∙ ap (λ (o : Option Stopped). ending_by (why_stopped o)) a.1 ∙ failed_at a.0 (Some cause) (f ∙ ap (λ (o : Option Stopped). failure_of (fault_of_stop (why_stopped o)) false) a.1)
 steps_to part kept d bytes read (fed.Stopped n) None dropping a e f =
-    (subst (λ (o : Option Stopped). IsSome o) (sym a.1) refl, ends_by_stop part kept bytes e ∙ ap (λ (o : Option Stopped). ending_by (why_of o)) a.1 ∙ failed_at a.0 None (f ∙ ap (λ (o : Option Stopped). failure_of (stop_fault (why_of o)) false) a.1))
+    (subst (λ (o : Option Stopped). IsSome o) (sym a.1) refl, ends_by_stop part kept bytes e ∙ ap (λ (o : Option Stopped). ending_by (why_stopped o)) a.1 ∙ failed_at a.0 None (f ∙ ap (λ (o : Option Stopped). failure_of (fault_of_stop (why_stopped o)) false) a.1))
 
 -- an attempt goes on only where all was taken
 goes_all : (part : PartData) (kept : Kept) (d : DeviceState) (bytes : List ℕ) (read : ReadBufState) (answer : Fed) (cause : Option Cause) (length : ℕ) → read.most ≡ None → AnswersAt (past_in_flash part kept bytes) d read answer → step_by answer cause ≡ GoesOn
@@ -101,7 +101,7 @@ due_until part kept d bytes read (until.Started n) dropping a = a
 due_until part kept d bytes read (until.Fed answer) dropping a = none_due part kept d bytes read answer dropping a
 
 steps_until : (part : PartData) (kept : Kept) (d : DeviceState) (bytes : List ℕ) (read : ReadBufState) (answer : UntilStarted) (cause : Option Cause) → read.most ≡ None → AnswersUntilAt (past_in_flash part kept bytes) d read answer
-    → says_started answer ≡ has_started part kept bytes → cause ≡ failure_of (stop_fault (why_of (stop_in part kept bytes))) false → StepsTo part kept bytes (step_until answer cause)
+    → says_started answer ≡ has_started part kept bytes → cause ≡ failure_of (fault_of_stop (why_stopped (first_stop_of_bytes part kept bytes))) false → StepsTo part kept bytes (step_until answer cause)
 steps_until part kept d bytes read (until.Started n) cause dropping a e f = ends_started part kept bytes (sym e)
 steps_until part kept d bytes read (until.Fed answer) cause dropping a e f = steps_to part kept d bytes read answer cause dropping a (sym e) f
 
@@ -114,7 +114,7 @@ all_until part kept d bytes read (until.Fed answer) cause length dropping a e = 
 pub page_took : (part : PartData) (kept : Kept) (d : DeviceState) (bytes page : List ℕ) (read : ReadBufState) (answer : UntilStarted) (cause : Option Cause)
     → (let n : ℕ = taken_until (length page) answer in let all : List ℕ = bytes ++ take n page in
     n ≤ length page → DeviceStandsFor part kept false d all → NoneStarted part kept bytes page n → read.most ≡ None → AnswersUntilAt (past_in_flash part kept all) d read answer
-    → (NoWordDue d → says_started answer ≡ has_started part kept all) → cause ≡ failure_of (stop_fault (why_of (stop_in part kept all))) false → TookPiece (past_in_flash part kept bytes) d page (step_until answer cause))
+    → (NoWordDue d → says_started answer ≡ has_started part kept all) → cause ≡ failure_of (fault_of_stop (why_stopped (first_stop_of_bytes part kept all))) false → TookPiece (past_in_flash part kept bytes) d page (step_until answer cause))
 page_took part kept d bytes page read answer cause within s first dropping a started f =
     let n : ℕ = taken_until (length page) answer in
     let due : NoWordDue d = due_until part kept d (bytes ++ take n page) read answer dropping a in

@@ -8,8 +8,8 @@ use Rattle.x7_regs.specs.declared.boot_status.Cause.{Cause}
 use Rattle.x7_regs.specs.declared.boot_status.Cause.TheVariants.{Wrap}
 use Rattle.x7_engine.specs.Past.{HasPast, Past, later}
 use Rattle.x7_engine.specs.Standing.{DeviceState, DeviceStandsFor, NoWordDue}
-use Rattle.x7_engine.specs.State.{why_of, state_of, stop_in, taken_of}
-use Rattle.x7_engine.specs.Stop.{stop_fault}
+use Rattle.x7_engine.specs.State.{why_stopped, state_of, first_stop_of_bytes, taken_of}
+use Rattle.x7_engine.specs.Stop.{fault_of_stop}
 use Rattle.x7_engine.specs.Value.{failure_of}
 use Rattle.x7_engine.specs.declared.fed.Fed.{Fed}
 use Rattle.x7_engine.specs.declared.fed.Fed.TheVariants as fed
@@ -29,12 +29,12 @@ failed_by (Some cause) = Some (Failed cause)
 -- what a stop ends an attempt by: an obeyed IPROG, or a fault Id, Crc or Watchdog; another fault doesn't end it
 abbrev pub ending_by : Option StopCause → Option Ending
 ending_by (Some stop.Iprog) = Some Iprog
-ending_by why = failed_by (failure_of (stop_fault why) false)
+ending_by why = failed_by (failure_of (fault_of_stop why) false)
 
 -- what ends an attempt at these bytes, if anything does; phase 7 comes first
 abbrev pub ending_at : PartData → Kept → List ℕ → Option Ending
 ending_at part kept bytes =
-    if (state_of part kept false bytes).phase == 7 then Some Started else ending_by (why_of (stop_in part kept bytes))
+    if (state_of part kept false bytes).phase == 7 then Some Started else ending_by (why_stopped (first_stop_of_bytes part kept bytes))
 
 -- an attempt: what its device kept over the reset, its address in the flash, the bytes that the device took, whether
 -- the flash ended before anything ended the attempt, and how the attempt ended
@@ -89,9 +89,9 @@ step_by (fed.ReadFull n) cause = GoesOn
 -- what the bytes taken do to an attempt that fewer of them hadn't ended: it goes on, it ends, or its device stops,
 -- which ends no attempt before the flash's end
 abbrev pub StepsTo : PartData → Kept → List ℕ → AttemptStep → Type 0
-StepsTo part kept bytes GoesOn = (stop_in part kept bytes ≡ None) × (ending_at part kept bytes ≡ None)
+StepsTo part kept bytes GoesOn = (first_stop_of_bytes part kept bytes ≡ None) × (ending_at part kept bytes ≡ None)
 StepsTo part kept bytes (Ends e) = ending_at part kept bytes ≡ Some e
-StepsTo part kept bytes Stops = IsSome (stop_in part kept bytes) × (ending_at part kept bytes ≡ None)
+StepsTo part kept bytes Stops = IsSome (first_stop_of_bytes part kept bytes) × (ending_at part kept bytes ≡ None)
 
 -- the past of a device in an attempt whose flash hasn't come to its end
 abbrev pub past_in_flash : PartData → Kept → List ℕ → Past
@@ -111,7 +111,7 @@ pub record TookPiece (p : Past) (d : DeviceState) (piece : List ℕ) (step : Att
 -- a device takes bytes of a page, whatever it had taken before without a stop and in an attempt that nothing had ended
 abbrev pub TakesPage : DeviceState → List ℕ → AttemptStep → DeviceState → Type 0
 TakesPage old page step new =
-    (part : PartData) (kept : Kept) (bytes : List ℕ) → DeviceStandsFor part kept false old bytes → stop_in part kept bytes ≡ None → ending_at part kept bytes ≡ None
+    (part : PartData) (kept : Kept) (bytes : List ℕ) → DeviceStandsFor part kept false old bytes → first_stop_of_bytes part kept bytes ≡ None → ending_at part kept bytes ≡ None
     → TookPiece (past_in_flash part kept bytes) new page step
 
 -- a device can take `more` bytes of a page: it is in an attempt that nothing has ended, and all its bytes with these
@@ -121,7 +121,7 @@ pub record CanTakePage (d : DeviceState) (more : ℕ) : Type 0 where
   pub kept : Kept
   pub bytes : List ℕ
   pub stands : DeviceStandsFor part kept false d bytes
-  pub going : stop_in part kept bytes ≡ None
+  pub going : first_stop_of_bytes part kept bytes ≡ None
   pub not_ended : ending_at part kept bytes ≡ None
   pub fits : length bytes + more ≤ taken_bytes_limit
 
@@ -149,7 +149,7 @@ pub record AttemptEnds (a : AttemptStart) (flash : List ℕ) (d : DeviceState) (
 pub record IsUnderWay (a : AttemptStart) (known : Option (List ℕ)) (d : DeviceState) (place : ℕ) : Type 0 where
   pub bytes : List ℕ
   pub stands : DeviceStandsFor a.part a.kept false d bytes
-  pub going : stop_in a.part a.kept bytes ≡ None
+  pub going : first_stop_of_bytes a.part a.kept bytes ≡ None
   pub not_ended : ending_at a.part a.kept bytes ≡ None
   pub due : NoWordDue d
   pub count : a.address + length bytes ≡ place

@@ -9,7 +9,7 @@ use Rattle.x7_packets.specs.Reading.{is_synced}
 use Rattle.x7_part.specs.Part.{PartData}
 use Rattle.x7_engine.specs.declared.stop.StopCause.{StopCause}
 use Rattle.x7_engine.specs.Kept.{on_the_bench}
-use Rattle.x7_engine.specs.State.{end_by, why_of, stop_in}
+use Rattle.x7_engine.specs.State.{end_by, why_stopped, first_stop_of_bytes}
 use Rattle.x7_engine.specs.Stop.{Stopped}
 use Rattle.x7_engine.proofs.StateLemmas.{stop_is_final_stop, stop_place}
 use Rattle.x7_debug.specs.declared.order.Stop.TheVariants as stop
@@ -18,8 +18,8 @@ use Rattle.x7_debug.proofs.FeedLemmas.{taken_stopped}
 use Rattle.x7_debug.proofs.PositionLemmas.{last_within, until_last, until_there}
 
 -- before the last position nothing has stopped
-none_before : (part : PartData) (stream : List ℕ) (n : ℕ) → AreBytes stream → n < last_of part stream → stop_in part on_the_bench (take n stream) ≡ None
-none_before part stream n fits lt = by (stop_in part on_the_bench (take n stream)) refl
+none_before : (part : PartData) (stream : List ℕ) (n : ℕ) → AreBytes stream → n < last_of part stream → first_stop_of_bytes part on_the_bench (take n stream) ≡ None
+none_before part stream n fits lt = by (first_stop_of_bytes part on_the_bench (take n stream)) refl
   where
     whole : take n stream ++ drop n stream ≡ stream
     whole = take-append-drop n stream
@@ -30,10 +30,10 @@ none_before part stream n fits lt = by (stop_in part on_the_bench (take n stream
     long : length (take n stream) ≡ n
     long = length-take-le n stream (omega (arith, lt, last_within part stream fits))
 
-    by : (o : Option Stopped) → stop_in part on_the_bench (take n stream) ≡ o → stop_in part on_the_bench (take n stream) ≡ None
+    by : (o : Option Stopped) → first_stop_of_bytes part on_the_bench (take n stream) ≡ o → first_stop_of_bytes part on_the_bench (take n stream) ≡ None
     by None e = e
     by (Some s) e =
-        let later : stop_in part on_the_bench stream ≡ Some s = ap (stop_in part on_the_bench) (sym whole) ∙ stop_is_final_stop part on_the_bench (take n stream) (drop n stream) s fit e in
+        let later : first_stop_of_bytes part on_the_bench stream ≡ Some s = ap (first_stop_of_bytes part on_the_bench) (sym whole) ∙ stop_is_final_stop part on_the_bench (take n stream) (drop n stream) s fit e in
         let place = stop_place part on_the_bench (take n stream) s (all_prefix (λ b. b < 256) (take n stream) (drop n stream) fit) e in
         absurd (omega (arith, taken_stopped part on_the_bench stream s later, place.1, long, lt))
 
@@ -42,7 +42,7 @@ going o true wbstar e = ap (λ (x : Option StopCause). ends_at_stop (end_by x tr
 going o false wbstar e = ap (λ (x : Option StopCause). ends_at_stop (end_by x false wbstar)) e
 
 not_stopped : (part : PartData) (stream : List ℕ) (n : ℕ) → AreBytes stream → n < last_of part stream → holds_at part stream stop.Stopped n ≡ false
-not_stopped part stream n fits lt = going (why_of (stop_in part on_the_bench (take n stream))) (is_synced (reading_of (take n stream)).place) _ (ap why_of (none_before part stream n fits lt))
+not_stopped part stream n fits lt = going (why_stopped (first_stop_of_bytes part on_the_bench (take n stream))) (is_synced (reading_of (take n stream)).place) _ (ap why_stopped (none_before part stream n fits lt))
 
 pub until_stopped : (part : PartData) (stream : List ℕ) (at : ℕ) → AreBytes stream → at ≤ last_of part stream → until_of part stream stop.Stopped at ≡ last_of part stream
 until_stopped part stream at fits le = by (holds_at part stream stop.Stopped (last_of part stream)) refl

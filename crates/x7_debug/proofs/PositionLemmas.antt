@@ -14,7 +14,7 @@ use Rattle.x7_engine.specs.declared.stop.StopCause.TheVariants as stops
 use Rattle.x7_engine.specs.FirstStop.{why_at_byte, why_at_newest}
 use Rattle.x7_engine.specs.Kept.{on_the_bench}
 use Rattle.x7_engine.specs.Standing.{DeviceState, DeviceStandsFor, NoWordDue}
-use Rattle.x7_engine.specs.State.{stop_in, taken_of}
+use Rattle.x7_engine.specs.State.{first_stop_of_bytes, taken_of}
 use Rattle.x7_engine.specs.Stop.{Stopped}
 use Rattle.x7_engine.specs.Watching.{watchdog_fires}
 use Rattle.x7_engine.proofs.FirstStopLemmas.{no_stop_none, stop_is_first}
@@ -36,13 +36,13 @@ same_cause part stream n m le =
     ∙ ap (λ (b : List ℕ). if watchdog_fires part on_the_bench (history_of (take (m - 1) stream)) m then Some (stops.Fault faults.Watchdog) else why_at_newest part on_the_bench (history_of b) m) (take-take m n stream le)
 
 -- bytes without a stop end at the last position or before it
-goes_on : (part : PartData) (stream : List ℕ) (n : ℕ) → AreBytes stream → n ≤ length stream → stop_in part on_the_bench (take n stream) ≡ None → n ≤ last_of part stream
-goes_on part stream n fits few none = by (stop_in part on_the_bench stream) refl
+goes_on : (part : PartData) (stream : List ℕ) (n : ℕ) → AreBytes stream → n ≤ length stream → first_stop_of_bytes part on_the_bench (take n stream) ≡ None → n ≤ last_of part stream
+goes_on part stream n fits few none = by (first_stop_of_bytes part on_the_bench stream) refl
   where
     prefix : AreBytes (take n stream)
     prefix = all_prefix (λ b. b < 256) (take n stream) (drop n stream) (subst (λ b. AreBytes b) (sym (take-append-drop n stream)) fits)
 
-    by : (o : Option Stopped) → stop_in part on_the_bench stream ≡ o → n ≤ last_of part stream
+    by : (o : Option Stopped) → first_stop_of_bytes part on_the_bench stream ≡ o → n ≤ last_of part stream
     by None e = omega (arith, taken_all part on_the_bench stream e, few)
     by (Some s) e =
         let first = stop_is_first part on_the_bench stream s fits e in
@@ -54,7 +54,7 @@ goes_on part stream n fits few none = by (stop_in part on_the_bench stream) refl
 
 -- how many of the first bytes are taken: all, or those up to the last position
 taken_first : (part : PartData) (stream : List ℕ) (n : ℕ) → AreBytes stream → n ≤ length stream → taken_of part on_the_bench (take n stream) ≡ min n (last_of part stream)
-taken_first part stream n fits few = by (stop_in part on_the_bench (take n stream)) refl
+taken_first part stream n fits few = by (first_stop_of_bytes part on_the_bench (take n stream)) refl
   where
     long : length (take n stream) ≡ n
     long = length-take-le n stream few
@@ -65,10 +65,10 @@ taken_first part stream n fits few = by (stop_in part on_the_bench (take n strea
     fit : AreBytes (take n stream ++ drop n stream)
     fit = subst (λ b. AreBytes b) (sym whole) fits
 
-    by : (o : Option Stopped) → stop_in part on_the_bench (take n stream) ≡ o → taken_of part on_the_bench (take n stream) ≡ min n (last_of part stream)
+    by : (o : Option Stopped) → first_stop_of_bytes part on_the_bench (take n stream) ≡ o → taken_of part on_the_bench (take n stream) ≡ min n (last_of part stream)
     by None e = omega (arith, taken_all part on_the_bench (take n stream) e, long, goes_on part stream n fits few e)
     by (Some s) e =
-        let later : stop_in part on_the_bench stream ≡ Some s = ap (stop_in part on_the_bench) (sym whole) ∙ stop_is_final_stop part on_the_bench (take n stream) (drop n stream) s fit e in
+        let later : first_stop_of_bytes part on_the_bench stream ≡ Some s = ap (first_stop_of_bytes part on_the_bench) (sym whole) ∙ stop_is_final_stop part on_the_bench (take n stream) (drop n stream) s fit e in
         let last : last_of part stream ≡ s.place = taken_stopped part on_the_bench stream s later in
         let here : taken_of part on_the_bench (take n stream) ≡ s.place = taken_stopped part on_the_bench (take n stream) s e in
         let place = stop_place part on_the_bench (take n stream) s (all_prefix (λ b. b < 256) (take n stream) (drop n stream) fit) e in

@@ -16,7 +16,7 @@ use Rattle.x7_flow.specs.FrameMemory.{memory_of}
 use Rattle.x7_engine.specs.declared.kept.Kept.{Kept}
 use Rattle.x7_engine.specs.Rest.{AtRest}
 use Rattle.x7_engine.specs.Startup.{phase_by, phase_of, startup_progress}
-use Rattle.x7_engine.specs.State.{history_by, memory_in, reads_of, state_of, stop_in, taken_by}
+use Rattle.x7_engine.specs.State.{history_by, memory_in, reads_of, state_of, first_stop_of_bytes, taken_by}
 use Rattle.x7_engine.specs.Stop.{Stopped}
 use Rattle.x7_engine.specs.Value.{lines_by, read_out}
 use Rattle.x7_engine.proofs.UntilLemmas.{phase_going}
@@ -32,13 +32,13 @@ use Rattle.x7_effects.proofs.WalkLemmas.{IsReady, going_one, quiet_one}
 
 -- ---- where there is no stop, all of the history counts
 
-pub memory_all : (part : PartData) (kept : Kept) (bytes : List ℕ) → stop_in part kept bytes ≡ None → memory_in part kept bytes ≡ memory_of part (history_of bytes)
+pub memory_all : (part : PartData) (kept : Kept) (bytes : List ℕ) → first_stop_of_bytes part kept bytes ≡ None → memory_in part kept bytes ≡ memory_of part (history_of bytes)
 memory_all part kept bytes e = ap (λ o. memory_of part (history_by o (history_of bytes))) e
 
-pub reads_all : (part : PartData) (kept : Kept) (bytes : List ℕ) → stop_in part kept bytes ≡ None → reads_of part kept bytes ≡ read_out part kept (history_of bytes)
+pub reads_all : (part : PartData) (kept : Kept) (bytes : List ℕ) → first_stop_of_bytes part kept bytes ≡ None → reads_of part kept bytes ≡ read_out part kept (history_of bytes)
 reads_all part kept bytes e = ap (λ o. read_out part kept (history_by o (history_of bytes))) e
 
-pub lines_going : (part : PartData) (kept : Kept) (wrapped : Bool) (bytes : List ℕ) → stop_in part kept bytes ≡ None → (state_of part kept wrapped bytes).lines ≡ lines_by part (startup_progress (history_of bytes) (length bytes))
+pub lines_going : (part : PartData) (kept : Kept) (wrapped : Bool) (bytes : List ℕ) → first_stop_of_bytes part kept bytes ≡ None → (state_of part kept wrapped bytes).lines ≡ lines_by part (startup_progress (history_of bytes) (length bytes))
 lines_going part kept wrapped bytes none = ap (λ (o : Option Stopped). lines_by part (startup_progress (history_by o (history_of bytes)) (taken_by o (length bytes)))) none
 
 -- ---- the beginning of a partial stream: RCRC, and IDCODE

@@ -26,7 +26,7 @@ use Rattle.x7_engine.specs.declared.kept.Kept.{Kept}
 use Rattle.x7_engine.specs.Registers.{is_pending}
 use Rattle.x7_engine.specs.Rest.{AtRest}
 use Rattle.x7_engine.specs.Startup.{phase_by, phase_of, startup_progress}
-use Rattle.x7_engine.specs.Stop.{why_by_access, asks_decryption, why_at, stop_of}
+use Rattle.x7_engine.specs.Stop.{why_besides_frames, asks_decryption, why_at_access, first_stop_of_history}
 use Rattle.x7_engine.proofs.MaskLemmas.{bit_step}
 use Rattle.x7_engine.proofs.PassesLemmas.{went_past}
 use Rattle.x7_engine.proofs.StateLemmas.{parts_none}
@@ -58,7 +58,7 @@ second_test true b s t x e = absurd (cc)
 second_test false true s t x e = absurd (cc)
 second_test false false s t x e = refl
 
-asks_none : (part : PartData) (kept : Kept) (h : History) (r w : ℕ) → why_by_access part kept h (access.Write r w) ≡ None → asks_decryption h r w ≡ false
+asks_none : (part : PartData) (kept : Kept) (h : History) (r w : ℕ) → why_besides_frames part kept h (access.Write r w) ≡ None → asks_decryption h r w ≡ false
 asks_none part kept h r w e = second_test (r == 0 && not (w == running_check h)) (asks_decryption h r w) _ _ _ e
 
 either_none : (a b c : Bool) → (a || (b && c)) ≡ false → b ≡ true → c ≡ false
@@ -66,7 +66,7 @@ either_none true b c e f = absurd (cc)
 either_none false true c e f = e
 either_none false false c e f = absurd (cc)
 
-dec_step : (part : PartData) (kept : Kept) (h : History) (a : Access) → has_dec (ctl0_held h) ≡ false → why_by_access part kept h a ≡ None → has_dec (masked_word 5 (mask_held h) a (ctl0_held h)) ≡ false
+dec_step : (part : PartData) (kept : Kept) (h : History) (a : Access) → has_dec (ctl0_held h) ≡ false → why_besides_frames part kept h a ≡ None → has_dec (masked_word 5 (mask_held h) a (ctl0_held h)) ≡ false
 dec_step part kept h (access.Read r n) d e = d
 dec_step part kept h (access.Bad w) d e = d
 dec_step part kept h (access.Write r w) d e = by (r == 5) refl
@@ -75,11 +75,11 @@ dec_step part kept h (access.Write r w) d e = by (r == 5) refl
     by true f = either_none (r == 11) (r == 5) (has_dec (masked_word 5 (mask_held h) (access.Write r w) (ctl0_held h))) (asks_none part kept h r w e) f
     by false f = rw f d
 
-no_dec : (part : PartData) (kept : Kept) (h : History) (n : ℕ) → stop_of part kept h n ≡ None → has_dec (ctl0_held h) ≡ false
+no_dec : (part : PartData) (kept : Kept) (h : History) (n : ℕ) → first_stop_of_history part kept h n ≡ None → has_dec (ctl0_held h) ≡ false
 no_dec part kept [] n s = refl
 no_dec part kept (e ∷ h) n s =
-    let past : (stop_of part kept h e.place ≡ None) × (why_at part kept h e.access ≡ None) = went_past part kept h e n s in
-    dec_step part kept h e.access (no_dec part kept h e.place past.0) (parts_none (why_by_access part kept h e.access) _ past.1).0
+    let past : (first_stop_of_history part kept h e.place ≡ None) × (why_at_access part kept h e.access ≡ None) = went_past part kept h e n s in
+    dec_step part kept h e.access (no_dec part kept h e.place past.0) (parts_none (why_besides_frames part kept h e.access) _ past.1).0
 
 -- ---- the bits of CTL0 that a full stream leaves as they were
 

@@ -13,7 +13,7 @@ use Rattle.x7_engine.specs.Registers.{clears_check, is_pending, takes_shutdown}
 use Rattle.x7_engine.specs.Startup.{startup_call}
 use Rattle.x7_flow.specs.HistoryFlow.{frame_fault}
 use Rattle.x7_regs.specs.Control.{has_dec}
-use Rattle.x7_engine.specs.Stop.{why_by_access, why_by_frames, why_at}
+use Rattle.x7_engine.specs.Stop.{why_besides_frames, why_by_frames, why_at_access}
 use Rattle.x7_effects.proofs.Items.{Item, item_words, items_entered, item_entered}
 use Rattle.x7_effects.proofs.Checking.{Checking, Piece, checking_of, piece_item, piece_length, pieces_length, with_checks}
 use Rattle.x7_effects.proofs.CheckingLemmas.{item_checked}
@@ -78,7 +78,7 @@ pub still_none_pending : (h : History) (access : Access) (place : ℕ) → is_pe
 still_none_pending h access place e f = pending_by (clears_check h access) (executes 11 h access) (is_pending h) f e
 
 pub going_access : (part : PartData) (kept : Kept) (startup : StartupProgress) (h : History) (access : Access) (n place : ℕ) → n ≤ place → IsGoing part kept startup h n
-    → IsQuiet h access → why_at part kept h access ≡ None → IsOff kept (entry access place ∷ h) → IsGoing part kept startup (entry access place ∷ h) place
+    → IsQuiet h access → why_at_access part kept h access ≡ None → IsOff kept (entry access place ∷ h) → IsGoing part kept startup (entry access place ∷ h) place
 going_access part kept startup h access n place l g q none off =
     let before : IsGoing part kept startup h place = going_bytes part kept startup h n place l g in
     record {
@@ -92,7 +92,7 @@ desync_call : (h : History) → startup_call h (access.Write 4 13) ≡ call.Desy
 desync_call h = refl
 
 pub going_desync : (part : PartData) (kept : Kept) (startup : StartupProgress) (h : History) (n place : ℕ) → n ≤ place → IsGoing part kept startup h n
-    → why_at part kept h (access.Write 4 13) ≡ None → IsGoing part kept startup (entry (access.Write 4 13) place ∷ h) place
+    → why_at_access part kept h (access.Write 4 13) ≡ None → IsGoing part kept startup (entry (access.Write 4 13) place ∷ h) place
 going_desync part kept startup h n place l g none =
     let before : IsGoing part kept startup h place = going_bytes part kept startup h n place l g in
     record {
@@ -111,29 +111,29 @@ quiet_far h far held e a b c d = record { start = rw (e, c, d) a; shutdown = rw 
 -- ---- lines that no access of a stream comes to
 
 -- no stop by the registers, and no fault of the frames
-pub why_none : (part : PartData) (kept : Kept) (h : History) (access : Access) → why_by_access part kept h access ≡ None → frame_fault part h access ≡ None → why_at part kept h access ≡ None
+pub why_none : (part : PartData) (kept : Kept) (h : History) (access : Access) → why_besides_frames part kept h access ≡ None → frame_fault part h access ≡ None → why_at_access part kept h access ≡ None
 why_none part kept h access e f = ap (λ o. option_or o (why_by_frames (frame_fault part h access))) e ∙ ap why_by_frames f
 
-pub far_passes : (part : PartData) (kept : Kept) (h : History) (far held : ℕ) → command_held h ≡ held → (held == 5) ≡ false → (held == 13) ≡ false → (held == 15) ≡ false → why_by_access part kept h (access.Write 1 far) ≡ None
+pub far_passes : (part : PartData) (kept : Kept) (h : History) (far held : ℕ) → command_held h ≡ held → (held == 5) ≡ false → (held == 13) ≡ false → (held == 15) ≡ false → why_besides_frames part kept h (access.Write 1 far) ≡ None
 far_passes part kept h far held e a b c = rw (e, b, c, a) refl
 
 pub eq_itself : (n : ℕ) → (n == n) ≡ true
 eq_itself n = grind arith
 
-pub idcode_passes : (part : PartData) (kept : Kept) (h : History) → why_by_access part kept h (access.Write 12 part.idcode) ≡ None
+pub idcode_passes : (part : PartData) (kept : Kept) (h : History) → why_besides_frames part kept h (access.Write 12 part.idcode) ≡ None
 idcode_passes part kept h = rw (eq_itself (part.idcode % 2 ^ 28)) refl
 
-pub check_passes : (part : PartData) (kept : Kept) (h : History) → why_by_access part kept h (access.Write 0 (running_check h)) ≡ None
+pub check_passes : (part : PartData) (kept : Kept) (h : History) → why_besides_frames part kept h (access.Write 0 (running_check h)) ≡ None
 check_passes part kept h = rw (eq_itself (running_check h)) refl
 
-pub data_passes : (part : PartData) (kept : Kept) (h : History) (w : ℕ) → has_idcode part.idcode h ≡ true → why_by_access part kept h (access.Write 2 w) ≡ None
+pub data_passes : (part : PartData) (kept : Kept) (h : History) (w : ℕ) → has_idcode part.idcode h ≡ true → why_besides_frames part kept h (access.Write 2 w) ≡ None
 data_passes part kept h w m = rw m refl
 
-pub copy_passes : (part : PartData) (kept : Kept) (h : History) (w : ℕ) → has_idcode part.idcode h ≡ true → why_by_access part kept h (access.Write 10 w) ≡ None
+pub copy_passes : (part : PartData) (kept : Kept) (h : History) (w : ℕ) → has_idcode part.idcode h ≡ true → why_besides_frames part kept h (access.Write 10 w) ≡ None
 copy_passes part kept h w m = rw m refl
 
-pub start_passes : (part : PartData) (kept : Kept) (h : History) → has_idcode part.idcode h ≡ true → why_by_access part kept h (access.Write 4 5) ≡ None
+pub start_passes : (part : PartData) (kept : Kept) (h : History) → has_idcode part.idcode h ≡ true → why_besides_frames part kept h (access.Write 4 5) ≡ None
 start_passes part kept h m = rw m refl
 
-pub ctl0_passes : (part : PartData) (kept : Kept) (h : History) (w : ℕ) → has_dec (masked_word 5 (mask_held h) (access.Write 5 w) (ctl0_held h)) ≡ false → why_by_access part kept h (access.Write 5 w) ≡ None
+pub ctl0_passes : (part : PartData) (kept : Kept) (h : History) (w : ℕ) → has_dec (masked_word 5 (mask_held h) (access.Write 5 w) (ctl0_held h)) ≡ false → why_besides_frames part kept h (access.Write 5 w) ≡ None
 ctl0_passes part kept h w e = rw e refl

@@ -11,7 +11,7 @@ use Rattle.x7_memory.specs.Plan.{PlanRow}
 use Rattle.x7_flow.specs.Controls.{masked_register}
 use Rattle.x7_engine.specs.declared.kept.Kept.{Kept}
 use Rattle.x7_engine.specs.Kept.{kept_word}
-use Rattle.x7_engine.specs.State.{history_by, history_taken, state_of, stop_in}
+use Rattle.x7_engine.specs.State.{history_by, history_taken, state_of, first_stop_of_bytes}
 use Rattle.x7_engine.specs.Stop.{Stopped}
 use Rattle.x7_planner.specs.PartialStream.{Copies, Rows, Section, sections_of}
 use Rattle.x7_effects.specs.Played.{KeepsSettings, KeepsUnwritten}
@@ -120,7 +120,7 @@ unwritten_is r o a b c = record { other = o; ctl0 = a; mask = b; cor0 = c }
 -- ---- after a stream that nothing stops
 
 module _ (part : PartData) (kept : Kept) (bytes : List ℕ) (pieces : List Piece) (noops : ℕ) (fit : AreBytes bytes) (searching : is_synced (reading_of bytes).place ≡ false) (are : ArePieces pieces) (clear : ClearFirst pieces)
-    (before : stop_in part kept bytes ≡ None) (after : stop_in part kept (bytes ++ stream_of pieces noops) ≡ None) where
+    (before : first_stop_of_bytes part kept bytes ≡ None) (after : first_stop_of_bytes part kept (bytes ++ stream_of pieces noops) ≡ None) where
   stays : (r : ℕ) (f : History → ℕ) → Reads r f → IsOther r → AreApart r pieces → f (history_taken part kept (bytes ++ stream_of pieces noops)) ≡ f (history_taken part kept bytes)
   stays r f of o a =
       ap (λ (s : Option Stopped). f (history_by s (history_of (bytes ++ stream_of pieces noops)))) after

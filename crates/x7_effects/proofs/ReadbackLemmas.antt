@@ -32,7 +32,7 @@ use Rattle.x7_engine.specs.declared.kept.Kept.{Kept}
 use Rattle.x7_engine.specs.Rest.{AtRest}
 use Rattle.x7_engine.specs.Startup.{startup_progress}
 use Rattle.x7_engine.specs.State.{reads_of}
-use Rattle.x7_engine.specs.Stop.{why_at}
+use Rattle.x7_engine.specs.Stop.{why_at_access}
 use Rattle.x7_engine.specs.Value.{words_read_by, read_out, read_value, words_of_read}
 use Rattle.x7_engine.proofs.UntilLemmas.{phase_going}
 use Rattle.x7_effects.proofs.Checking.{Piece, pieces_length}
@@ -80,7 +80,7 @@ gives part h count some e f = let none : (count == 0) ≡ false = grind (arith, 
 read_none : (part : PartData) (h : History) (count : ℕ) → reads_frame_data h (access.Read 3 count) ≡ true → has_frame_at part (base_of part h) ≡ true → frame_fault part h (access.Read 3 count) ≡ None
 read_none part h count t a = ap (λ (b : Bool). fault_by part (if b then Reads count else NothingAsked) (flow_of part h)) t ∙ no_fault part (base_of part h) count a
 
-read_answer : (part : PartData) (kept : Kept) (h : History) (count place : ℕ) → reads_frame_data h (access.Read 3 count) ≡ true → why_at part kept h (access.Read 3 count) ≡ None → words_read_by part kept h (access.Read 3 count) place ≡ frames_read part h count
+read_answer : (part : PartData) (kept : Kept) (h : History) (count place : ℕ) → reads_frame_data h (access.Read 3 count) ≡ true → why_at_access part kept h (access.Read 3 count) ≡ None → words_read_by part kept h (access.Read 3 count) place ≡ frames_read part h count
 read_answer part kept h count place t e =
     ap (λ o. if is_some o then [] else words_of_read (course_at part kept h place) 3 count) e
     ∙ ap (λ (b : Bool). if b then frames_read part h count else replicate count (read_value (course_at part kept h place) 3)) t
@@ -122,7 +122,7 @@ read_plays part kept bytes far n f r is has l =
     let base : base_of part c ≡ far = ap (λ (x : Flow). x.base) flow ∙ t.0 in
     let given : count_given part c ≡ 0 = ap (λ (x : Flow). x.given) flow in
     let asks : reads_frame_data c (access.Read 3 count) ≡ true = gives part c count some refl r.sbits in
-    let none : why_at part kept c (access.Read 3 count) ≡ None = why_none part kept c (access.Read 3 count) refl (read_none part c count asks (ap (has_frame_at part) base ∙ t.1)) in
+    let none : why_at_access part kept c (access.Read 3 count) ≡ None = why_none part kept c (access.Read 3 count) refl (read_none part c count asks (ap (has_frame_at part) base ∙ t.1)) in
     let d : History = entry (access.Read 3 count) (at + 8) ∷ c in
     let read : IsGoing part kept startup d (at + 8) = going_access part kept startup c (access.Read 3 count) at (at + 8) (omega arith) loaded (record { start = refl; shutdown = refl; desync = refl }) none loaded.calm.off in
     let same : AreSame (memory_of part c) (memory_of part h) =

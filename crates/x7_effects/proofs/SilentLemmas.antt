@@ -8,7 +8,7 @@ use Rattle.x7_packets.specs.History.{History, entry, history_of}
 use Rattle.x7_packets.specs.Reading.{is_synced}
 use Rattle.x7_part.specs.Part.{PartData}
 use Rattle.x7_engine.specs.declared.kept.Kept.{Kept}
-use Rattle.x7_engine.specs.State.{reads_of, stop_in}
+use Rattle.x7_engine.specs.State.{reads_of, first_stop_of_bytes}
 use Rattle.x7_engine.specs.Value.{read_out}
 use Rattle.x7_planner.specs.PartialStream.{Copies, Rows, Section}
 use Rattle.x7_effects.proofs.Items as item
@@ -48,7 +48,7 @@ pieces_silent part kept place (p ∷ pieces) h s =
 
 -- a stream of such pieces that nothing stops
 pub stream_silent : (part : PartData) (kept : Kept) (bytes : List ℕ) (pieces : List Piece) (noops : ℕ) → AreBytes bytes → is_synced (reading_of bytes).place ≡ false → ArePieces pieces → ClearFirst pieces → AreSilent pieces
-    → stop_in part kept bytes ≡ None → stop_in part kept (bytes ++ stream_of pieces noops) ≡ None → reads_of part kept (bytes ++ stream_of pieces noops) ≡ reads_of part kept bytes
+    → first_stop_of_bytes part kept bytes ≡ None → first_stop_of_bytes part kept (bytes ++ stream_of pieces noops) ≡ None → reads_of part kept (bytes ++ stream_of pieces noops) ≡ reads_of part kept bytes
 stream_silent part kept bytes pieces noops f e a c s before after =
     reads_all part kept (bytes ++ stream_of pieces noops) after
     ∙ ap (read_out part kept) (stream_history bytes pieces noops f e a c)

@@ -26,7 +26,7 @@ use Rattle.x7_flow.proofs.FlowLemmas.{flow_more}
 use Rattle.x7_flow.proofs.ManyLemmas.{words_settings}
 use Rattle.x7_flow.proofs.QuietLemmas.{quiet_memory}
 use Rattle.x7_engine.specs.declared.kept.Kept.{Kept}
-use Rattle.x7_engine.specs.Stop.{why_by_access}
+use Rattle.x7_engine.specs.Stop.{why_besides_frames}
 use Rattle.x7_effects.proofs.Items.{Write, WriteLong, item_entered, writes_entered}
 use Rattle.x7_effects.proofs.Checking.{Put, piece_length}
 use Rattle.x7_effects.proofs.Streams.{command, one}
@@ -37,7 +37,7 @@ use Rattle.x7_effects.proofs.ItemLemmas.{payload_enters}
 
 -- ---- one word written to a register
 
-pub going_one : (part : PartData) (kept : Kept) (startup : StartupProgress) (h : History) (n r w : ℕ) → IsQuiet h (access.Write r w) → why_by_access part kept h (access.Write r w) ≡ None → frame_fault part h (access.Write r w) ≡ None
+pub going_one : (part : PartData) (kept : Kept) (startup : StartupProgress) (h : History) (n r w : ℕ) → IsQuiet h (access.Write r w) → why_besides_frames part kept h (access.Write r w) ≡ None → frame_fault part h (access.Write r w) ≡ None
     → IsOff kept (entry (access.Write r w) (n + 4 + 4) ∷ h) → IsGoing part kept startup h n → IsGoing part kept startup (item_entered n (Write r (w ∷ [])) h) (n + 8)
 going_one part kept startup h n r w q why fault off g =
     going_bytes part kept startup (entry (access.Write r w) (n + 4 + 4) ∷ h) (n + 4 + 4) (n + 8) (omega arith)

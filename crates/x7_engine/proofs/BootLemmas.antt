@@ -10,24 +10,24 @@ use Rattle.x7_engine.specs.declared.due.Due.{Due}
 use Rattle.x7_engine.specs.declared.due.Due.TheVariants as due
 use Rattle.x7_engine.specs.Standing.{DeviceState, DeviceStandsFor, MayWrap, NoWordDue, due_count, words_still_due}
 use Rattle.x7_engine.specs.Startup.{phase_of}
-use Rattle.x7_engine.specs.State.{history_taken, why_of, state_of, stop_in}
-use Rattle.x7_engine.specs.Stop.{stop_fault}
+use Rattle.x7_engine.specs.State.{history_taken, why_stopped, state_of, first_stop_of_bytes}
+use Rattle.x7_engine.specs.Stop.{fault_of_stop}
 use Rattle.x7_engine.specs.Value.{failure_of}
 use Rattle.x7_engine.proofs.ClockLemmas.{phase_by_clock}
 use Rattle.x7_engine.proofs.StateLemmas.{why_is, taken_is}
 
 pub may_wrap : (part : PartData) (kept : Kept) (wrapped : Bool) (d : DeviceState) (bytes : List ℕ) → DeviceStandsFor part kept wrapped d bytes → (kept.kind ≡ Bench → ⊥)
-    → ((state_of part kept wrapped bytes).phase == 7) ≡ false → failure_of (stop_fault (why_of (stop_in part kept bytes))) false ≡ None
-    → (why_of (stop_in part kept bytes) ≡ Some stop.Iprog → ⊥) → NoWordDue d → MayWrap d
+    → ((state_of part kept wrapped bytes).phase == 7) ≡ false → failure_of (fault_of_stop (why_stopped (first_stop_of_bytes part kept bytes))) false ≡ None
+    → (why_stopped (first_stop_of_bytes part kept bytes) ≡ Some stop.Iprog → ⊥) → NoWordDue d → MayWrap d
 may_wrap part kept wrapped d bytes s boots not_started not_failed not_left none =
     let h : History = history_taken part kept bytes in
     let phase : d.registers.clock.startup.phase ≡ phase_of part h (length bytes) = phase_by_clock part h (length bytes) d.registers.clock.startup.phase s.registers_are.clock.startup.stores.phase_is in
     let all : phase_of part h (length bytes) ≡ (state_of part kept wrapped bytes).phase = ap (phase_of part h) (sym (taken_is part kept wrapped d bytes s)) in
-    let why : why_of (stop_in part kept bytes) ≡ d.registers.stop = why_is part kept wrapped d bytes s in
+    let why : why_stopped (first_stop_of_bytes part kept bytes) ≡ d.registers.stop = why_is part kept wrapped d bytes s in
     record {
       boots = λ e. boots (sym s.registers_are.kind ∙ e);
       not_started = ap (λ (p : ℕ). p == 7) (phase ∙ all) ∙ not_started;
-      not_failed = ap (λ (o : Option StopCause). failure_of (stop_fault o) false) (sym why) ∙ not_failed;
+      not_failed = ap (λ (o : Option StopCause). failure_of (fault_of_stop o) false) (sym why) ∙ not_failed;
       not_left = λ e. not_left (why ∙ e);
       no_word_due = none;
     }

@@ -17,25 +17,25 @@ use Rattle.x7_engine.specs.Checked.{HasStartAndDesync, StandsIn}
 use Rattle.x7_flow.specs.Controls.{has_idcode, same_idcode}
 use Rattle.x7_engine.specs.Sequence.{StartupBegins}
 use Rattle.x7_engine.specs.Startup.{phase_by, startup_progress}
-use Rattle.x7_engine.specs.State.{history_by, history_taken, last_counted, state_of, stop_in, taken_by, taken_of}
-use Rattle.x7_engine.specs.Stop.{Stopped, asks_decryption, why_at, needs_match, stop_of, stopped_at, why_by_write}
+use Rattle.x7_engine.specs.State.{history_by, history_taken, last_counted, state_of, first_stop_of_bytes, taken_by, taken_of}
+use Rattle.x7_engine.specs.Stop.{Stopped, asks_decryption, why_at_access, needs_match, first_stop_of_history, stop_at_place, why_by_write}
 use Rattle.x7_engine.proofs.BeginsLemmas.{begins_by}
 use Rattle.x7_engine.proofs.StateLemmas.{counted_least, no_stop_before, stop_place, parts_none}
 use Rattle.x7_engine.proofs.TurnLemmas.{until_until}
 
-pub none_at : (place : ℕ) (o : Option StopCause) → stopped_at place o ≡ None → o ≡ None
+pub none_at : (place : ℕ) (o : Option StopCause) → stop_at_place place o ≡ None → o ≡ None
 none_at place None e = refl
 none_at place (Some why) e = absurd (cc)
 
 -- ---- nothing in a history without a stop stops a device
 
-no_why : (part : PartData) (kept : Kept) (newer older : History) (access : Access) (place n : ℕ) → stop_of part kept (newer ++ entry access place ∷ older) n ≡ None → why_at part kept older access ≡ None
+no_why : (part : PartData) (kept : Kept) (newer older : History) (access : Access) (place n : ℕ) → first_stop_of_history part kept (newer ++ entry access place ∷ older) n ≡ None → why_at_access part kept older access ≡ None
 no_why part kept [] older access place n e =
-    let parts = parts_none (stop_of part kept older place) _ e in
-    let own = parts_none (stopped_at place (why_at part kept older access)) _ parts.1 in
-    none_at place (why_at part kept older access) own.0
+    let parts = parts_none (first_stop_of_history part kept older place) _ e in
+    let own = parts_none (stop_at_place place (why_at_access part kept older access)) _ parts.1 in
+    none_at place (why_at_access part kept older access) own.0
 no_why part kept (x ∷ newer) older access place n e =
-    no_why part kept newer older access place x.place (parts_none (stop_of part kept (newer ++ entry access place ∷ older) x.place) _ e).0
+    no_why part kept newer older access place x.place (parts_none (first_stop_of_history part kept (newer ++ entry access place ∷ older) x.place) _ e).0
 
 -- ---- the history of fewer bytes
 
@@ -70,18 +70,18 @@ counted_most stop.Iprog place = omega arith
 -- ---- nor anything before the stop of bytes
 
 pub taken_placed : (part : PartData) (kept : Kept) (bytes : List ℕ) → AreBytes bytes → Placed (taken_of part kept bytes) (history_taken part kept bytes)
-taken_placed part kept bytes fits = by (stop_in part kept bytes)
+taken_placed part kept bytes fits = by (first_stop_of_bytes part kept bytes)
   where
     by : (o : Option Stopped) → Placed (taken_by o (length bytes)) (history_by o (history_of bytes))
     by None = placed_of bytes fits
     by (Some s) = placed_within (last_counted s.why s.place) s.place (until (last_counted s.why s.place) (history_of bytes)) (counted_least s.why s.place) (placed_until (length bytes) (last_counted s.why s.place) (history_of bytes) (placed_of bytes fits))
 
 pub none_before : (part : PartData) (kept : Kept) (bytes : List ℕ) (access : Access) (place : ℕ) (older : History) → AreBytes bytes → StandsIn (history_taken part kept bytes) access place older → place < taken_of part kept bytes
-    → why_at part kept older access ≡ None
-none_before part kept bytes access place older fits s l = by (stop_in part kept bytes) refl s.newer s.split l
+    → why_at_access part kept older access ≡ None
+none_before part kept bytes access place older fits s l = by (first_stop_of_bytes part kept bytes) refl s.newer s.split l
   where
-    by : (o : Option Stopped) → stop_in part kept bytes ≡ o → (newer : History) → history_by o (history_of bytes) ≡ newer ++ entry access place ∷ older → place < taken_by o (length bytes) → why_at part kept older access ≡ None
-    by None e newer p k = no_why part kept newer older access place (length bytes) (ap (λ (h : History). stop_of part kept h (length bytes)) (sym p) ∙ e)
+    by : (o : Option Stopped) → first_stop_of_bytes part kept bytes ≡ o → (newer : History) → history_by o (history_of bytes) ≡ newer ++ entry access place ∷ older → place < taken_by o (length bytes) → why_at_access part kept older access ≡ None
+    by None e newer p k = no_why part kept newer older access place (length bytes) (ap (λ (h : History). first_stop_of_history part kept h (length bytes)) (sym p) ∙ e)
     by (Some t) e newer p k =
         let m : ℕ = t.place - 1 in
         let within = stop_place part kept bytes t fits e in
@@ -89,7 +89,7 @@ none_before part kept bytes access place older fits s l = by (stop_in part kept 
         let all : prefix ++ drop m bytes ≡ bytes = take-append-drop m bytes in
         let count : length prefix ≡ m = length-take-le m bytes (omega (arith, within.1)) in
         let whole : AreBytes (prefix ++ drop m bytes) = subst AreBytes (sym all) fits in
-        let none : stop_in part kept prefix ≡ None = no_stop_before part kept prefix (drop m bytes) t whole (ap (stop_in part kept) all ∙ e) (omega (arith, count, within.0)) in
+        let none : first_stop_of_bytes part kept prefix ≡ None = no_stop_before part kept prefix (drop m bytes) t whole (ap (first_stop_of_bytes part kept) all ∙ e) (omega (arith, count, within.0)) in
         let kept_on = until_keeps m newer older access place (omega (arith, k)) in
         let same : history_of prefix ≡ kept_on.0 ++ entry access place ∷ older =
         sym (prefix_of prefix (drop m bytes) whole)
@@ -98,7 +98,7 @@ none_before part kept bytes access place older fits s l = by (stop_in part kept 
         ∙ sym (until_until m (last_counted t.why t.place) (history_of bytes) (counted_most t.why t.place))
         ∙ ap (until m) p
         ∙ kept_on.1 in
-        no_why part kept kept_on.0 older access place (length prefix) (ap (λ (h : History). stop_of part kept h (length prefix)) (sym same) ∙ none)
+        no_why part kept kept_on.0 older access place (length prefix) (ap (λ (h : History). first_stop_of_history part kept h (length prefix)) (sym same) ∙ none)
 
 -- ---- what this means
 
@@ -109,7 +109,7 @@ none_of false false true d e v w x y z q = absurd (cc)
 none_of false false false true e v w x y z q = absurd (cc)
 none_of false false false false e v w x y z q = (refl, refl, refl, refl)
 
-write_none : (part : PartData) (kept : Kept) (h : History) (register w : ℕ) → why_at part kept h (Write register w) ≡ None
+write_none : (part : PartData) (kept : Kept) (h : History) (register w : ℕ) → why_at_access part kept h (Write register w) ≡ None
     → ((register == 0 && not (w == running_check h)) ≡ false) × (asks_decryption h register w ≡ false) × ((register == 12 && not (same_idcode part.idcode w)) ≡ false) × ((needs_match h register w && not (has_idcode part.idcode h)) ≡ false)
 write_none part kept h register w e = none_of _ _ _ _ _ _ _ _ _ _ (parts_none (why_by_write part kept h register w) _ e).0
 
@@ -121,12 +121,12 @@ and_not : (a b : Bool) → (a && not b) ≡ false → a ≡ true → b ≡ true
 and_not true b e f = not_false b e
 and_not false b e f = absurd (cc)
 
-pub check_equals : (part : PartData) (kept : Kept) (h : History) (w : ℕ) → why_at part kept h (Write 0 w) ≡ None → w ≡ running_check h
+pub check_equals : (part : PartData) (kept : Kept) (h : History) (w : ℕ) → why_at_access part kept h (Write 0 w) ≡ None → w ≡ running_check h
 check_equals part kept h w e =
     let same : (w == running_check h) ≡ true = not_false (w == running_check h) (write_none part kept h 0 w e).0 in
     grind (arith, nat_tests, same)
 
-pub idcode_matches : (part : PartData) (kept : Kept) (h : History) (w : ℕ) → why_at part kept h (Write 12 w) ≡ None → IsTrue (same_idcode part.idcode w)
+pub idcode_matches : (part : PartData) (kept : Kept) (h : History) (w : ℕ) → why_at_access part kept h (Write 12 w) ≡ None → IsTrue (same_idcode part.idcode w)
 idcode_matches part kept h w e = not_false (same_idcode part.idcode w) (write_none part kept h 12 w e).2
 
 needs_start : (h : History) (register w : ℕ) → executes 5 h (Write register w) ≡ true → needs_match h register w ≡ true
@@ -137,7 +137,7 @@ needs_start h register w e = by (register == 2) (register == 10)
     by false true = refl
     by false false = e
 
-matched_at : (part : PartData) (kept : Kept) (h : History) (access : Access) → executes 5 h access ≡ true → why_at part kept h access ≡ None → IsTrue (has_idcode part.idcode h)
+matched_at : (part : PartData) (kept : Kept) (h : History) (access : Access) → executes 5 h access ≡ true → why_at_access part kept h access ≡ None → IsTrue (has_idcode part.idcode h)
 matched_at part kept h (Read register n) x e = absurd (cc)
 matched_at part kept h (Bad w) x e = absurd (cc)
 matched_at part kept h (Write register w) x e = and_not (needs_match h register w) (has_idcode part.idcode h) (write_none part kept h register w e).3 (needs_start h register w x)
@@ -160,7 +160,7 @@ begun_started part kept bytes fits b =
     let start = placed_split (b.desync.place - 1) armed.newer armed.older armed.latest (subst (λ (x : History). Placed (b.desync.place - 1) x) armed.split desync.2) in
     let split : h ≡ b.newer ++ b.desync ∷ (armed.newer ++ armed.latest ∷ armed.older) = b.split ∙ ap (λ (x : History). b.newer ++ b.desync ∷ x) armed.split in
     let whole : h ≡ (b.newer ++ b.desync ∷ armed.newer) ++ armed.latest ∷ armed.older = split ∙ sym (append_assoc b.newer (b.desync ∷ armed.newer) (armed.latest ∷ armed.older)) in
-    let none : why_at part kept armed.older armed.latest.access ≡ None =
+    let none : why_at_access part kept armed.older armed.latest.access ≡ None =
     none_before part kept bytes armed.latest.access armed.latest.place armed.older fits (record { newer = b.newer ++ b.desync ∷ armed.newer; split = whole }) (omega (arith, start.1, desync.0, desync.1)) in
     record {
       newer = b.newer;

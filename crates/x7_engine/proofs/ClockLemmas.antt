@@ -16,7 +16,7 @@ use Rattle.x7_engine.specs.Clock.{AreEndedAlike, ClockState, IsClock, ClockTakes
 use Rattle.x7_engine.specs.Kept.{is_fallback}
 use Rattle.x7_engine.specs.Registers.{takes_shutdown}
 use Rattle.x7_engine.specs.Startup.{has_ended, phase_by, phase_of, startup_call, startup_calls, startup_progress}
-use Rattle.x7_engine.specs.Stop.{why_at, stop_of, stopped_at, stopped_by_watchdog, Stopped}
+use Rattle.x7_engine.specs.Stop.{why_at_access, first_stop_of_history, stop_at_place, stop_at_firing, Stopped}
 use Rattle.x7_engine.specs.Watching.{fired_or, watchdog_fires, first_firing, timer_held, watch_call, watch_calls, watched_bytes}
 use Rattle.x7_engine.proofs.StartupLemmas.{phase_is}
 
@@ -76,7 +76,7 @@ firing_more part kept h from a (suc b) =
     ∙ ap (λ (m : ℕ). fired_or (option_or (first_firing part kept h from a) (first_firing part kept h (from + a) b)) (watchdog_fires part kept h m) m) here
     ∙ or_fired (first_firing part kept h from a) (first_firing part kept h (from + a) b) (watchdog_fires part kept h (from + a + b + 1)) (from + a + b + 1)
 
-watchdog_or : (o p : Option ℕ) → stopped_by_watchdog (option_or o p) ≡ option_or (stopped_by_watchdog o) (stopped_by_watchdog p)
+watchdog_or : (o p : Option ℕ) → stop_at_firing (option_or o p) ≡ option_or (stop_at_firing o) (stop_at_firing p)
 watchdog_or None p = refl
 watchdog_or (Some x) p = refl
 
@@ -86,30 +86,30 @@ or_assoc None (Some x) c d = refl
 or_assoc None None c d = refl
 
 -- the stop of bytes more
-pub stop_more_bytes : (part : PartData) (kept : Kept) (h : History) (n k : ℕ) → newest_place h ≤ n → stop_of part kept h (n + k) ≡ option_or (stop_of part kept h n) (stopped_by_watchdog (first_firing part kept h n k))
+pub stop_more_bytes : (part : PartData) (kept : Kept) (h : History) (n k : ℕ) → newest_place h ≤ n → first_stop_of_history part kept h (n + k) ≡ option_or (first_stop_of_history part kept h n) (stop_at_firing (first_firing part kept h n k))
 stop_more_bytes part kept [] n k l =
     let first : 0 + n ≡ n = omega arith in
-    ap stopped_by_watchdog (firing_more part kept [] 0 n k ∙ ap (λ (m : ℕ). option_or (first_firing part kept [] 0 n) (first_firing part kept [] m k)) first)
+    ap stop_at_firing (firing_more part kept [] 0 n k ∙ ap (λ (m : ℕ). option_or (first_firing part kept [] 0 n) (first_firing part kept [] m k)) first)
     ∙ watchdog_or (first_firing part kept [] 0 n) (first_firing part kept [] n k)
 stop_more_bytes part kept (e ∷ h) n k l =
     let count : n + k - e.place ≡ n - e.place + k = omega (arith, l) in
     let place : e.place + (n - e.place) ≡ n = omega (arith, l) in
-    let before : Option Stopped = stop_of part kept h e.place in
-    let why : Option Stopped = stopped_at e.place (why_at part kept h e.access) in
+    let before : Option Stopped = first_stop_of_history part kept h e.place in
+    let why : Option Stopped = stop_at_place e.place (why_at_access part kept h e.access) in
     let first : Option ℕ = first_firing part kept (e ∷ h) e.place (n - e.place) in
-    ap (λ (m : ℕ). option_or before (option_or why (stopped_by_watchdog (first_firing part kept (e ∷ h) e.place m)))) count
-    ∙ ap (λ (o : Option ℕ). option_or before (option_or why (stopped_by_watchdog o)))
+    ap (λ (m : ℕ). option_or before (option_or why (stop_at_firing (first_firing part kept (e ∷ h) e.place m)))) count
+    ∙ ap (λ (o : Option ℕ). option_or before (option_or why (stop_at_firing o)))
     (firing_more part kept (e ∷ h) e.place (n - e.place) k ∙ ap (λ (m : ℕ). option_or first (first_firing part kept (e ∷ h) m k)) place)
     ∙ ap (λ (o : Option Stopped). option_or before (option_or why o)) (watchdog_or first (first_firing part kept (e ∷ h) n k))
-    ∙ or_assoc before why (stopped_by_watchdog first) (stopped_by_watchdog (first_firing part kept (e ∷ h) n k))
+    ∙ or_assoc before why (stop_at_firing first) (stop_at_firing (first_firing part kept (e ∷ h) n k))
 
 -- the stop at the place of an access more
-pub stop_of_access : (part : PartData) (kept : Kept) (h : History) (access : Access) (place : ℕ) → stop_of part kept h place ≡ None → stop_of part kept (entry access place ∷ h) place ≡ stopped_at place (why_at part kept h access)
+pub stop_of_access : (part : PartData) (kept : Kept) (h : History) (access : Access) (place : ℕ) → first_stop_of_history part kept h place ≡ None → first_stop_of_history part kept (entry access place ∷ h) place ≡ stop_at_place place (why_at_access part kept h access)
 stop_of_access part kept h access place e =
     let none : place - place ≡ 0 = omega arith in
-    ap (λ (o : Option Stopped). option_or o (option_or (stopped_at place (why_at part kept h access)) (stopped_by_watchdog (first_firing part kept (entry access place ∷ h) place (place - place))))) e
-    ∙ ap (λ (m : ℕ). option_or (stopped_at place (why_at part kept h access)) (stopped_by_watchdog (first_firing part kept (entry access place ∷ h) place m))) none
-    ∙ or_none (stopped_at place (why_at part kept h access))
+    ap (λ (o : Option Stopped). option_or o (option_or (stop_at_place place (why_at_access part kept h access)) (stop_at_firing (first_firing part kept (entry access place ∷ h) place (place - place))))) e
+    ∙ ap (λ (m : ℕ). option_or (stop_at_place place (why_at_access part kept h access)) (stop_at_firing (first_firing part kept (entry access place ∷ h) place m))) none
+    ∙ or_none (stop_at_place place (why_at_access part kept h access))
 
 -- ---- an access more
 

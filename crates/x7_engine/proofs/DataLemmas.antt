@@ -18,7 +18,7 @@ use Rattle.x7_regs.specs.declared.register.Reg.TheVariants as reg
 use Rattle.x7_regs.specs.Register.{number_of}
 use Rattle.x7_engine.specs.declared.kept.Kept.{Kept}
 use Rattle.x7_engine.specs.declared.stop.StopCause.{StopCause}
-use Rattle.x7_engine.specs.Stop.{why_by_frames, why_by_write, why_at}
+use Rattle.x7_engine.specs.Stop.{why_by_frames, why_by_write, why_at_access}
 use Rattle.x7_engine.proofs.BodyLemmas.{length_of_words}
 use Rattle.x7_engine.proofs.FrameLemmas.{why_fdri, why_mfwr}
 use Rattle.x7_engine.proofs.PlainLemmas.{IsQuiet, NoneStop, fdri_quiet, mfwr_quiet}
@@ -30,7 +30,7 @@ none_stop : (part : PartData) (kept : Kept) (r : Reg) (n : ℕ) (ws : List ℕ) 
 unfolding NoneRefused
 none_stop part kept r n [] h own stays m none = tt
 none_stop part kept r n (w ∷ ws) h own stays m none =
-    let free : why_at part kept h (Write (number_of r) w) ≡ None = ap (λ (o : Option StopCause). option_or o (why_by_frames (frame_fault part h (Write (number_of r) w)))) (own h w m) ∙ ap why_by_frames none.0 in
+    let free : why_at_access part kept h (Write (number_of r) w) ≡ None = ap (λ (o : Option StopCause). option_or o (why_by_frames (frame_fault part h (Write (number_of r) w)))) (own h w m) ∙ ap why_by_frames none.0 in
     (free, none_stop part kept r (n + 4) ws (entry (Write (number_of r) w) (n + 4) ∷ h) own stays (stays h w (n + 4) m) none.1)
 
 pub data_none : (part : PartData) (kept : Kept) (r : Reg) (n : ℕ) (ws : List ℕ) (h : History) → TakesWords r → has_idcode part.idcode h ≡ true → NoneRefused part r n ws h → NoneStop part kept (number_of r) n ws h

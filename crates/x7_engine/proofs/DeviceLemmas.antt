@@ -19,8 +19,8 @@ use Rattle.x7_part.specs.Part.{PartData}
 use Rattle.x7_engine.specs.declared.kept.Kept.{Kept}
 use Rattle.x7_engine.specs.declared.stop.StopCause.{StopCause}
 use Rattle.x7_engine.specs.Standing.{DeviceStandsFor, DeviceState, EndsWords, RunLiesWithin, IsCutterOf, RegistersStandFor, counted_in, due_count, reads_given, words_still_due}
-use Rattle.x7_engine.specs.State.{history_by, history_taken, reads_of, stop_in}
-use Rattle.x7_engine.specs.Stop.{Stopped, stop_of, stopped_at}
+use Rattle.x7_engine.specs.State.{history_by, history_taken, reads_of, first_stop_of_bytes}
+use Rattle.x7_engine.specs.Stop.{Stopped, first_stop_of_history, stop_at_place}
 use Rattle.x7_engine.specs.Value.{read_out}
 use Rattle.x7_engine.proofs.BodyLemmas.{length_of_words}
 use Rattle.x7_engine.proofs.FrameLemmas.{length_left}
@@ -102,7 +102,7 @@ ends_words c n bytes cut sessions (Synced gap packets tail) (Body register bs) l
     (first, omega (arith, all, first, body_words register bs.now, length-append bytes cut, r.2))
 
 -- the history of all bytes is taken where there is no stop
-pub going_taken : (part : PartData) (kept : Kept) (bytes : List ℕ) → stop_in part kept bytes ≡ None → history_taken part kept bytes ≡ history_of bytes
+pub going_taken : (part : PartData) (kept : Kept) (bytes : List ℕ) → first_stop_of_bytes part kept bytes ≡ None → history_taken part kept bytes ≡ history_of bytes
 going_taken part kept bytes e = ap (λ (o : Option Stopped). history_by o (history_of bytes)) e
 
 -- a run more
@@ -116,7 +116,7 @@ pub turned : (part : PartData) (kept : Kept) (wrapped : Bool) (d e : DeviceState
     → (e.registers.stop ≡ None → left ≡ 0) → ((why : StopCause) → e.registers.stop ≡ Some why → due_count e.registers.due ≡ 0) → e.part ≡ d.part → e.wrapped ≡ d.wrapped → e.taken ≡ d.taken + length more
     → DeviceStandsFor part kept wrapped e (bytes ++ more) × (reads_of part kept (bytes ++ more) ≡ reads_of part kept bytes ++ words_still_due part (history_taken part kept (bytes ++ more)) e.registers.due)
 turned part kept wrapped d e bytes cut more rest run count left room s going went stands reads k j l r i g q p y t =
-    let none : stop_in part kept bytes ≡ None = s.stop_is ∙ ap (stopped_at (length bytes)) going in
+    let none : first_stop_of_bytes part kept bytes ≡ None = s.stop_is ∙ ap (stop_at_place (length bytes)) going in
     let old : history_taken part kept bytes ≡ history_of bytes = going_taken part kept bytes none in
     let before : RegistersStandFor part kept d.registers (history_of bytes) (length bytes) = subst (λ (h : History). RegistersStandFor part kept d.registers h (length bytes)) old s.registers_are in
     let cutter : IsCutterOf d.cutter bytes = s.cutter_is going in
@@ -135,10 +135,10 @@ turned part kept wrapped d e bytes cut more rest run count left room s going wen
     let counted : History = until (counted_in e.registers.stop m) all in
     let after : RegistersStandFor part kept e.registers counted m =
     subst (λ (x : ℕ). RegistersStandFor part kept e.registers (until (counted_in e.registers.stop x) all) x) count_is (stands (history_of bytes) from (length bytes) ends before) in
-    let stops : stop_in part kept (bytes ++ more) ≡ stopped_at m e.registers.stop =
-    ap (λ (x : History). stop_of part kept x m) prefix ∙ stop_until part kept e.registers.stop (length (bytes ++ cut)) m all placed after.stop in
+    let stops : first_stop_of_bytes part kept (bytes ++ more) ≡ stop_at_place m e.registers.stop =
+    ap (λ (x : History). first_stop_of_history part kept x m) prefix ∙ stop_until part kept e.registers.stop (length (bytes ++ cut)) m all placed after.stop in
     let new : history_taken part kept (bytes ++ more) ≡ counted =
-    ap (λ (o : Option Stopped). history_by o (history_of (bytes ++ more))) stops ∙ ap (history_by (stopped_at m e.registers.stop)) prefix ∙ history_until e.registers.stop m all in
+    ap (λ (o : Option Stopped). history_by o (history_of (bytes ++ more))) stops ∙ ap (history_by (stop_at_place m e.registers.stop)) prefix ∙ history_until e.registers.stop m all in
     let first : read_out part kept (until (counted_in e.registers.stop (length bytes + (count - left))) all)
     ≡ reads_of part kept bytes ++ words_still_due part (until (counted_in e.registers.stop (length bytes + (count - left))) all) e.registers.due =
     reads (history_of bytes) from (length bytes) ends before

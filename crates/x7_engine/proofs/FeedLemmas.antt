@@ -19,7 +19,7 @@ use Rattle.x7_engine.specs.Readout.{RegistersGaveWords, GotAllBut, DeviceGaveWor
 use Rattle.x7_engine.specs.Past.{AnswersAt, past_of}
 use Rattle.x7_engine.specs.Standing.{DeviceStandsFor, DeviceState, NoWordDue, RegistersStandFor, RegistersState, due_count, answer_at_stop, frames_among, frames_due, taken_in, reads_given, words_still_due}
 use Rattle.x7_engine.specs.State.{history_taken, reads_of}
-use Rattle.x7_engine.specs.Stop.{stopped_at}
+use Rattle.x7_engine.specs.Stop.{stop_at_place}
 use Rattle.x7_engine.proofs.DeviceLemmas.{given_by}
 use Rattle.x7_engine.proofs.FrameLemmas.{frames_at, frames_of, goes_on}
 
@@ -40,7 +40,7 @@ given part kept wrapped d r bytes old new going on s g =
         part_is = s.part_is;
         wrapped_is = s.wrapped_is;
         taken_is = s.taken_is;
-        stop_is = s.stop_is ∙ ap (stopped_at (length bytes)) (going ∙ sym on);
+        stop_is = s.stop_is ∙ ap (stop_at_place (length bytes)) (going ∙ sym on);
         registers_are = g.stands;
         cutter_is = λ o. s.cutter_is going;
         due_are = record { given = known ++ g.more; all = all };
@@ -112,8 +112,8 @@ taken_by_stop stop.Iprog n at = refl
 
 pub answers_stop : (part : PartData) (kept : Kept) (wrapped : Bool) (d : DeviceState) (bytes : List ℕ) (read : ReadBufState) (why : StopCause) (at : ℕ)
     → DeviceStandsFor part kept wrapped d bytes → Some why ≡ d.registers.stop → AnswersAt (past_of part kept wrapped bytes) d read (answer_at_stop why at)
-answers_stop part kept wrapped d bytes read (stop.Fault f) at s e = (f, s.stop_is ∙ ap (stopped_at (length bytes)) (sym e), s.none_due_at_stop (stop.Fault f) (sym e))
-answers_stop part kept wrapped d bytes read stop.Iprog at s e = (s.stop_is ∙ ap (stopped_at (length bytes)) (sym e), s.none_due_at_stop stop.Iprog (sym e))
+answers_stop part kept wrapped d bytes read (stop.Fault f) at s e = (f, s.stop_is ∙ ap (stop_at_place (length bytes)) (sym e), s.none_due_at_stop (stop.Fault f) (sym e))
+answers_stop part kept wrapped d bytes read stop.Iprog at s e = (s.stop_is ∙ ap (stop_at_place (length bytes)) (sym e), s.none_due_at_stop stop.Iprog (sym e))
 
 -- ---- named facts for the crates above
 

@@ -14,8 +14,8 @@ use Rattle.x7_engine.specs.declared.kept.Kept.{Kept}
 use Rattle.x7_engine.specs.declared.stop.StopCause.{StopCause}
 use Rattle.x7_engine.specs.declared.stop.StopCause.TheVariants as stop
 use Rattle.x7_engine.specs.FirstStop.{IsFirstStop, why_at_byte, why_at_newest}
-use Rattle.x7_engine.specs.State.{stop_in}
-use Rattle.x7_engine.specs.Stop.{Stopped, why_at, stop_of, stopped_at, stopped_by_watchdog}
+use Rattle.x7_engine.specs.State.{first_stop_of_bytes}
+use Rattle.x7_engine.specs.Stop.{Stopped, why_at_access, first_stop_of_history, stop_at_place, stop_at_firing}
 use Rattle.x7_engine.specs.Watching.{fired_or, watchdog_fires, first_firing}
 use Rattle.x7_engine.proofs.ClockLemmas.{stop_more_bytes, or_none}
 use Rattle.x7_engine.proofs.TurnLemmas.{newest_within}
@@ -40,7 +40,7 @@ or_assoc None b c = refl
 abbrev why_by_fire : Bool → Option StopCause → Option StopCause
 why_by_fire b why = if b then Some (stop.Fault fault.Watchdog) else why
 
-fired_why : (b : Bool) (n : ℕ) (why : Option StopCause) → option_or (stopped_by_watchdog (fired_or None b n)) (stopped_at n why) ≡ stopped_at n (why_by_fire b why)
+fired_why : (b : Bool) (n : ℕ) (why : Option StopCause) → option_or (stop_at_firing (fired_or None b n)) (stop_at_place n why) ≡ stop_at_place n (why_by_fire b why)
 fired_why true n why = refl
 fired_why false n why = refl
 
@@ -48,46 +48,46 @@ none_newest : (part : PartData) (kept : Kept) (n : ℕ) (h : History) → Placed
 none_newest part kept n [] p = refl
 none_newest part kept n (e ∷ h) p = let not_here : (e.place == suc n) ≡ false = grind (arith, nat_tests, p.1) in rw not_here refl
 
-some_newest : (part : PartData) (kept : Kept) (n : ℕ) (h : History) (access : Access) → why_at_newest part kept (entry access n ∷ h) n ≡ why_at part kept h access
+some_newest : (part : PartData) (kept : Kept) (n : ℕ) (h : History) (access : Access) → why_at_newest part kept (entry access n ∷ h) n ≡ why_at_access part kept h access
 some_newest part kept n h access = let here : (n == n) ≡ true = grind (arith, nat_tests) in rw here refl
 
 -- the stop up to the byte itself, before its access
-fired_next : (part : PartData) (kept : Kept) (h : History) (n : ℕ) → Placed n h → stop_of part kept h (suc n) ≡ option_or (stop_of part kept h n) (stopped_by_watchdog (fired_or None (watchdog_fires part kept h (suc n)) (suc n)))
+fired_next : (part : PartData) (kept : Kept) (h : History) (n : ℕ) → Placed n h → first_stop_of_history part kept h (suc n) ≡ option_or (first_stop_of_history part kept h n) (stop_at_firing (fired_or None (watchdog_fires part kept h (suc n)) (suc n)))
 fired_next part kept h n p =
     let next : suc n ≡ n + 1 = omega arith in
     let here : n + 0 + 1 ≡ suc n = omega arith in
-    ap (stop_of part kept h) next ∙ stop_more_bytes part kept h n 1 (newest_within n h p)
-    ∙ ap (λ (m : ℕ). option_or (stop_of part kept h n) (stopped_by_watchdog (fired_or None (watchdog_fires part kept h m) m))) here
+    ap (first_stop_of_history part kept h) next ∙ stop_more_bytes part kept h n 1 (newest_within n h p)
+    ∙ ap (λ (m : ℕ). option_or (first_stop_of_history part kept h n) (stop_at_firing (fired_or None (watchdog_fires part kept h m) m))) here
 
 -- the stop with the access of the byte
-fired_entered : (part : PartData) (kept : Kept) (h : History) (n : ℕ) (access : Access) → stop_of part kept (entry access n ∷ h) n ≡ option_or (stop_of part kept h n) (stopped_at n (why_at part kept h access))
+fired_entered : (part : PartData) (kept : Kept) (h : History) (n : ℕ) (access : Access) → first_stop_of_history part kept (entry access n ∷ h) n ≡ option_or (first_stop_of_history part kept h n) (stop_at_place n (why_at_access part kept h access))
 fired_entered part kept h n access =
     let none : n - n ≡ 0 = omega arith in
-    ap (λ (m : ℕ). option_or (stop_of part kept h n) (option_or (stopped_at n (why_at part kept h access)) (stopped_by_watchdog (first_firing part kept (entry access n ∷ h) n m)))) none
-    ∙ ap (option_or (stop_of part kept h n)) (or_none (stopped_at n (why_at part kept h access)))
+    ap (λ (m : ℕ). option_or (first_stop_of_history part kept h n) (option_or (stop_at_place n (why_at_access part kept h access)) (stop_at_firing (first_firing part kept (entry access n ∷ h) n m)))) none
+    ∙ ap (option_or (first_stop_of_history part kept h n)) (or_none (stop_at_place n (why_at_access part kept h access)))
 
 stop_next : (part : PartData) (kept : Kept) (h g : History) (n : ℕ) → Placed n h → OneMore (suc n) h g
-    → stop_of part kept g (suc n) ≡ option_or (stop_of part kept h n) (stopped_at (suc n) (why_by_fire (watchdog_fires part kept h (suc n)) (why_at_newest part kept g (suc n))))
+    → first_stop_of_history part kept g (suc n) ≡ option_or (first_stop_of_history part kept h n) (stop_at_place (suc n) (why_by_fire (watchdog_fires part kept h (suc n)) (why_at_newest part kept g (suc n))))
 stop_next part kept h g n p (inl e) =
     let fired : Bool = watchdog_fires part kept h (suc n) in
-    ap (λ (x : History). stop_of part kept x (suc n)) e
+    ap (λ (x : History). first_stop_of_history part kept x (suc n)) e
     ∙ fired_next part kept h n p
-    ∙ ap (option_or (stop_of part kept h n)) (sym (or_none (stopped_by_watchdog (fired_or None fired (suc n)))) ∙ fired_why fired (suc n) None)
-    ∙ ap (λ (o : Option StopCause). option_or (stop_of part kept h n) (stopped_at (suc n) (why_by_fire fired o))) (sym (ap (λ (x : History). why_at_newest part kept x (suc n)) e ∙ none_newest part kept n h p))
+    ∙ ap (option_or (first_stop_of_history part kept h n)) (sym (or_none (stop_at_firing (fired_or None fired (suc n)))) ∙ fired_why fired (suc n) None)
+    ∙ ap (λ (o : Option StopCause). option_or (first_stop_of_history part kept h n) (stop_at_place (suc n) (why_by_fire fired o))) (sym (ap (λ (x : History). why_at_newest part kept x (suc n)) e ∙ none_newest part kept n h p))
 stop_next part kept h g n p (inr more) =
     let access : Access = more.0 in
     let fired : Bool = watchdog_fires part kept h (suc n) in
-    ap (λ (x : History). stop_of part kept x (suc n)) more.1
+    ap (λ (x : History). first_stop_of_history part kept x (suc n)) more.1
     ∙ fired_entered part kept h (suc n) access
-    ∙ ap (λ (o : Option Stopped). option_or o (stopped_at (suc n) (why_at part kept h access))) (fired_next part kept h n p)
-    ∙ or_assoc (stop_of part kept h n) (stopped_by_watchdog (fired_or None fired (suc n))) (stopped_at (suc n) (why_at part kept h access))
-    ∙ ap (option_or (stop_of part kept h n)) (fired_why fired (suc n) (why_at part kept h access))
-    ∙ ap (λ (o : Option StopCause). option_or (stop_of part kept h n) (stopped_at (suc n) (why_by_fire fired o))) (sym (ap (λ (x : History). why_at_newest part kept x (suc n)) more.1 ∙ some_newest part kept (suc n) h access))
+    ∙ ap (λ (o : Option Stopped). option_or o (stop_at_place (suc n) (why_at_access part kept h access))) (fired_next part kept h n p)
+    ∙ or_assoc (first_stop_of_history part kept h n) (stop_at_firing (fired_or None fired (suc n))) (stop_at_place (suc n) (why_at_access part kept h access))
+    ∙ ap (option_or (first_stop_of_history part kept h n)) (fired_why fired (suc n) (why_at_access part kept h access))
+    ∙ ap (λ (o : Option StopCause). option_or (first_stop_of_history part kept h n) (stop_at_place (suc n) (why_by_fire fired o))) (sym (ap (λ (x : History). why_at_newest part kept x (suc n)) more.1 ∙ some_newest part kept (suc n) h access))
 
 -- ---- the first of a row of stops
 
 abbrev IsRow : (ℕ → Option Stopped) → (ℕ → Option StopCause) → ℕ → Type 0
-IsRow stops whys most = (stops 0 ≡ None) × ((n : ℕ) → n < most → stops (suc n) ≡ option_or (stops n) (stopped_at (suc n) (whys (suc n))))
+IsRow stops whys most = (stops 0 ≡ None) × ((n : ℕ) → n < most → stops (suc n) ≡ option_or (stops n) (stop_at_place (suc n) (whys (suc n))))
 
 record IsLeast (whys : ℕ → Option StopCause) (most : ℕ) (s : Stopped) : Type 0 where
   some : 0 < s.place
@@ -109,7 +109,7 @@ abbrev Found : (ℕ → Option StopCause) → ℕ → Option Stopped → Type 0
 Found whys n None = AreNone whys n
 Found whys n (Some s) = IsLeast whys n s
 
-found_more : (whys : ℕ → Option StopCause) (n : ℕ) (o : Option Stopped) (why : Option StopCause) → whys (suc n) ≡ why → Found whys n o → Found whys (suc n) (option_or o (stopped_at (suc n) why))
+found_more : (whys : ℕ → Option StopCause) (n : ℕ) (o : Option Stopped) (why : Option StopCause) → whys (suc n) ≡ why → Found whys n o → Found whys (suc n) (option_or o (stop_at_place (suc n) why))
 found_more whys n (Some s) why e f = record { some = f.some; within = omega (arith, f.within); holds = f.holds; none_earlier = f.none_earlier }
 found_more whys n None None e f = none_more whys n f e
 found_more whys n None (Some why) e f = record { some = omega arith; within = omega arith; holds = e; none_earlier = λ m some less. f m some (omega (arith, less)) }
@@ -153,7 +153,7 @@ one_more bytes n fits l =
       subst (λ (m : ℕ). OneMore m (history_of b) (history_of (take (suc n) bytes))) one (subst (λ (t : List ℕ). OneMore (length b + 1) (history_of b) (history_of t)) (sym more.1) (byte_enters b more.0 fits_more)),
     )
 
-row_of : (part : PartData) (kept : Kept) (bytes : List ℕ) → AreBytes bytes → IsRow (λ n. stop_in part kept (take n bytes)) (why_at_byte part kept bytes) (length bytes)
+row_of : (part : PartData) (kept : Kept) (bytes : List ℕ) → AreBytes bytes → IsRow (λ n. first_stop_of_bytes part kept (take n bytes)) (why_at_byte part kept bytes) (length bytes)
 row_of part kept bytes fits = (
   refl,
   λ n l.
@@ -162,25 +162,25 @@ row_of part kept bytes fits = (
       let whole : length (take (suc n) bytes) ≡ suc n = length-take-le (suc n) bytes (omega (arith, l)) in
       let more = one_more bytes n fits l in
       let before : suc n - 1 ≡ n = omega arith in
-      ap (stop_of part kept (history_of (take (suc n) bytes))) whole
+      ap (first_stop_of_history part kept (history_of (take (suc n) bytes))) whole
       ∙ stop_next part kept (history_of b) (history_of (take (suc n) bytes)) n more.0 more.1
-      ∙ ap (λ (m : ℕ). option_or (stop_of part kept (history_of b) m) (stopped_at (suc n) (why_by_fire (watchdog_fires part kept (history_of b) (suc n)) (why_at_newest part kept (history_of (take (suc n) bytes)) (suc n))))) (sym count)
-      ∙ ap (λ (m : ℕ). option_or (stop_in part kept b) (stopped_at (suc n) (why_by_fire (watchdog_fires part kept (history_of (take m bytes)) (suc n)) (why_at_newest part kept (history_of (take (suc n) bytes)) (suc n))))) (sym before),
+      ∙ ap (λ (m : ℕ). option_or (first_stop_of_history part kept (history_of b) m) (stop_at_place (suc n) (why_by_fire (watchdog_fires part kept (history_of b) (suc n)) (why_at_newest part kept (history_of (take (suc n) bytes)) (suc n))))) (sym count)
+      ∙ ap (λ (m : ℕ). option_or (first_stop_of_bytes part kept b) (stop_at_place (suc n) (why_by_fire (watchdog_fires part kept (history_of (take m bytes)) (suc n)) (why_at_newest part kept (history_of (take (suc n) bytes)) (suc n))))) (sym before),
 )
 
-found_in : (part : PartData) (kept : Kept) (bytes : List ℕ) → AreBytes bytes → Found (why_at_byte part kept bytes) (length bytes) (stop_in part kept bytes)
+found_in : (part : PartData) (kept : Kept) (bytes : List ℕ) → AreBytes bytes → Found (why_at_byte part kept bytes) (length bytes) (first_stop_of_bytes part kept bytes)
 found_in part kept bytes fits =
-    subst (λ (t : List ℕ). Found (why_at_byte part kept bytes) (length bytes) (stop_in part kept t)) (take-length bytes)
-    (found (λ n. stop_in part kept (take n bytes)) (why_at_byte part kept bytes) (length bytes) (length bytes) (row_of part kept bytes fits) (omega arith))
+    subst (λ (t : List ℕ). Found (why_at_byte part kept bytes) (length bytes) (first_stop_of_bytes part kept t)) (take-length bytes)
+    (found (λ n. first_stop_of_bytes part kept (take n bytes)) (why_at_byte part kept bytes) (length bytes) (length bytes) (row_of part kept bytes fits) (omega arith))
 
-pub stop_is_first : (part : PartData) (kept : Kept) (bytes : List ℕ) (s : Stopped) → AreBytes bytes → stop_in part kept bytes ≡ Some s → IsFirstStop part kept bytes s
+pub stop_is_first : (part : PartData) (kept : Kept) (bytes : List ℕ) (s : Stopped) → AreBytes bytes → first_stop_of_bytes part kept bytes ≡ Some s → IsFirstStop part kept bytes s
 stop_is_first part kept bytes s fits e =
     let f : IsLeast (why_at_byte part kept bytes) (length bytes) s = subst (λ (o : Option Stopped). Found (why_at_byte part kept bytes) (length bytes) o) e (found_in part kept bytes fits) in
     record { at_least_one = f.some; within = f.within; holds = f.holds; none_earlier = f.none_earlier }
 
-pub first_is_stop : (part : PartData) (kept : Kept) (bytes : List ℕ) (s : Stopped) → AreBytes bytes → IsFirstStop part kept bytes s → stop_in part kept bytes ≡ Some s
+pub first_is_stop : (part : PartData) (kept : Kept) (bytes : List ℕ) (s : Stopped) → AreBytes bytes → IsFirstStop part kept bytes s → first_stop_of_bytes part kept bytes ≡ Some s
 first_is_stop part kept bytes s fits f =
-    one_least (why_at_byte part kept bytes) (length bytes) (stop_in part kept bytes) s (found_in part kept bytes fits) (record { some = f.at_least_one; within = f.within; holds = f.holds; none_earlier = f.none_earlier })
+    one_least (why_at_byte part kept bytes) (length bytes) (first_stop_of_bytes part kept bytes) s (found_in part kept bytes fits) (record { some = f.at_least_one; within = f.within; holds = f.holds; none_earlier = f.none_earlier })
 
-pub no_stop_none : (part : PartData) (kept : Kept) (bytes : List ℕ) (n : ℕ) → AreBytes bytes → stop_in part kept bytes ≡ None → 0 < n → n ≤ length bytes → why_at_byte part kept bytes n ≡ None
+pub no_stop_none : (part : PartData) (kept : Kept) (bytes : List ℕ) (n : ℕ) → AreBytes bytes → first_stop_of_bytes part kept bytes ≡ None → 0 < n → n ≤ length bytes → why_at_byte part kept bytes n ≡ None
 no_stop_none part kept bytes n fits e = subst (λ (o : Option Stopped). Found (why_at_byte part kept bytes) (length bytes) o) e (found_in part kept bytes fits) n

@@ -34,7 +34,7 @@ use Rattle.x7_engine.specs.declared.stop.StopCause.{StopCause}
 use Rattle.x7_engine.specs.declared.stop.StopCause.TheVariants as stop
 use Rattle.x7_engine.specs.Kept.{is_fallback}
 use Rattle.x7_engine.specs.Standing.{FramesAre, due_count, frames_among, frames_due, frames_history, is_refusal, without_newest, words_still_due}
-use Rattle.x7_engine.specs.Stop.{why_by_access, asks_decryption, why_by_frames, why_at, needs_match, stop_of_refused, why_by_write}
+use Rattle.x7_engine.specs.Stop.{why_besides_frames, asks_decryption, why_by_frames, why_at_access, needs_match, stop_of_refused, why_by_write}
 use Rattle.x7_engine.specs.Value.{register_value, value_owing}
 use Rattle.x7_engine.proofs.PlainLemmas.{IsPlain, plain_asks}
 
@@ -125,7 +125,7 @@ pub why_mfwr : (part : PartData) (kept : Kept) (h : History) (w : ℕ) → has_i
 why_mfwr part kept h w t = rw t refl
 
 -- an access that the frames refuse stops it by nothing else
-pub one_why : (part : PartData) (kept : Kept) (h : History) (access : Access) (fault : RunFault) → frame_fault part h access ≡ Some fault → why_by_access part kept h access ≡ None
+pub one_why : (part : PartData) (kept : Kept) (h : History) (access : Access) (fault : RunFault) → frame_fault part h access ≡ Some fault → why_besides_frames part kept h access ≡ None
 one_why part kept h (Read r count) fault e = refl
 one_why part kept h (Bad w) fault e = absurd (none-some _ e)
 one_why part kept h (Write r w) fault e = by (r == 1) (r == 4) (r == 2 && takes_frames (settings_of part.idcode h)) (r == 10 && takes_copies (settings_of part.idcode h)) e at_fdri at_mfwr
@@ -151,7 +151,7 @@ one_why part kept h (Write r w) fault e = by (r == 1) (r == 4) (r == 2 && takes_
     by false false false false e p q = absurd (none-some _ e)
 
 -- an access by its register alone is no refusal of the frames
-no_refusal : (part : PartData) (kept : Kept) (h : History) (access : Access) → is_refusal (why_by_access part kept h access) ≡ false
+no_refusal : (part : PartData) (kept : Kept) (h : History) (access : Access) → is_refusal (why_besides_frames part kept h access) ≡ false
 no_refusal part kept h (Read r count) = refl
 no_refusal part kept h (Bad w) = refl
 no_refusal part kept h (Write r w) =
@@ -186,7 +186,7 @@ refused part f h e refusal r s = by refusal r
 
 -- after an access, by why it stops the device
 pub access_frames : (part : PartData) (kept : Kept) (f g : FramesState) (h : History) (e : Entry) (why now : Option StopCause) (result : Option RunFault) → FramesStandFor part f h 0
-    → AfterAccess part g h e result → result ≡ frame_fault part h e.access → why ≡ why_by_access part kept h e.access → now ≡ option_or why (why_by_frames result) → FramesAre part g now (e ∷ h) 0
+    → AfterAccess part g h e result → result ≡ frame_fault part h e.access → why ≡ why_besides_frames part kept h e.access → now ≡ option_or why (why_by_frames result) → FramesAre part g now (e ∷ h) 0
 access_frames part kept f g h e why now None s after r l n =
     let same : now ≡ why = n ∙ alone why in
     frames_at part g now (e ∷ h) 0 (ap is_refusal (same ∙ l) ∙ no_refusal part kept h e.access) after
@@ -200,9 +200,9 @@ access_frames part kept f g h e why now (Some refusal) s after r l n =
     subst (λ (o : Option StopCause). FramesAre part g o (e ∷ h) 0) (sym same) (refused part g h e refusal (sym r) after)
 
 -- why an access stops a device
-pub why_is : (part : PartData) (kept : Kept) (h : History) (access : Access) (why now : Option StopCause) (result : Option RunFault) → result ≡ frame_fault part h access → why ≡ why_by_access part kept h access → now ≡ option_or why (why_by_frames result)
-    → now ≡ why_at part kept h access
-why_is part kept h access why now result r l n = n ∙ ap (λ (o : Option StopCause). option_or o (why_by_frames result)) l ∙ ap (λ (o : Option RunFault). option_or (why_by_access part kept h access) (why_by_frames o)) r
+pub why_is : (part : PartData) (kept : Kept) (h : History) (access : Access) (why now : Option StopCause) (result : Option RunFault) → result ≡ frame_fault part h access → why ≡ why_besides_frames part kept h access → now ≡ option_or why (why_by_frames result)
+    → now ≡ why_at_access part kept h access
+why_is part kept h access why now result r l n = n ∙ ap (λ (o : Option StopCause). option_or o (why_by_frames result)) l ∙ ap (λ (o : Option RunFault). option_or (why_besides_frames part kept h access) (why_by_frames o)) r
 
 -- words of a register without an effect ask nothing of the frames
 pub plain_frames : (part : PartData) (f : FramesState) (register n : ℕ) (ws : List ℕ) (h : History) → IsPlain register → FramesStandFor part f h 0 → FramesStandFor part f (entered_all n (payload_steps register ws) h) 0

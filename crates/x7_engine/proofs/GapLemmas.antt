@@ -10,20 +10,20 @@ use Rattle.x7_startup.proofs.CallLemmas.{progress_bytes}
 use Rattle.x7_engine.specs.declared.kept.Kept.{Kept}
 use Rattle.x7_engine.specs.Kept.{is_fallback}
 use Rattle.x7_engine.specs.Startup.{phase_by, startup_progress}
-use Rattle.x7_engine.specs.State.{history_by, history_taken, state_of, stop_in, taken_of}
-use Rattle.x7_engine.specs.Stop.{Stopped, stop_of}
+use Rattle.x7_engine.specs.State.{history_by, history_taken, state_of, first_stop_of_bytes, taken_of}
+use Rattle.x7_engine.specs.Stop.{Stopped, first_stop_of_history}
 use Rattle.x7_engine.proofs.FallbackLemmas.{fallback_off}
 use Rattle.x7_engine.proofs.RestLemmas.{stop_on}
 
 -- ---- a fallback over bytes that ask nothing
 
-pub none_stops : (part : PartData) (kept : Kept) (n : ℕ) → is_fallback kept.kind ≡ true → stop_of part kept [] n ≡ None
+pub none_stops : (part : PartData) (kept : Kept) (n : ℕ) → is_fallback kept.kind ≡ true → first_stop_of_history part kept [] n ≡ None
 none_stops part kept n e =
     let sum : 0 + n ≡ n = omega arith in
-    sym (ap (stop_of part kept []) sum) ∙ stop_on part kept [] 0 n (omega arith) (fallback_off kept [] e) refl
+    sym (ap (first_stop_of_history part kept []) sum) ∙ stop_on part kept [] 0 n (omega arith) (fallback_off kept [] e) refl
 
-pub gap_goes_on : (part : PartData) (kept : Kept) (bytes : List ℕ) → is_fallback kept.kind ≡ true → history_of bytes ≡ [] → stop_in part kept bytes ≡ None
-gap_goes_on part kept bytes e f = ap (λ (h : History). stop_of part kept h (length bytes)) f ∙ none_stops part kept (length bytes) e
+pub gap_goes_on : (part : PartData) (kept : Kept) (bytes : List ℕ) → is_fallback kept.kind ≡ true → history_of bytes ≡ [] → first_stop_of_bytes part kept bytes ≡ None
+gap_goes_on part kept bytes e f = ap (λ (h : History). first_stop_of_history part kept h (length bytes)) f ∙ none_stops part kept (length bytes) e
 
 pub gap_taken : (part : PartData) (kept : Kept) (bytes : List ℕ) → is_fallback kept.kind ≡ true → history_of bytes ≡ [] → history_taken part kept bytes ≡ []
 gap_taken part kept bytes e f = ap (λ (o : Option Stopped). history_by o (history_of bytes)) (gap_goes_on part kept bytes e f) ∙ f
@@ -37,7 +37,7 @@ gap_phase part kept wrapped bytes e f =
     ∙ ap (phase_by part) (not_begun (taken_of part kept bytes))
 
 -- bytes without the sync word
-pub no_sync_goes_on : (part : PartData) (kept : Kept) (bytes : List ℕ) → AreBytes bytes → is_fallback kept.kind ≡ true → HasNoSync bytes → stop_in part kept bytes ≡ None
+pub no_sync_goes_on : (part : PartData) (kept : Kept) (bytes : List ℕ) → AreBytes bytes → is_fallback kept.kind ≡ true → HasNoSync bytes → first_stop_of_bytes part kept bytes ≡ None
 no_sync_goes_on part kept bytes fits e n = gap_goes_on part kept bytes e (nothing_read bytes fits n).1
 
 pub no_sync_phase : (part : PartData) (kept : Kept) (wrapped : Bool) (bytes : List ℕ) → AreBytes bytes → is_fallback kept.kind ≡ true → HasNoSync bytes → (state_of part kept wrapped bytes).phase ≡ 0

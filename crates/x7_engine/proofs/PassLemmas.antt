@@ -16,8 +16,8 @@ use Rattle.x7_engine.specs.declared.kept.Kept.{Kept}
 use Rattle.x7_engine.specs.declared.stop.StopCause.{StopCause}
 use Rattle.x7_engine.specs.declared.stop.StopCause.TheVariants as stop
 use Rattle.x7_engine.specs.Standing.{DeviceStandsFor, DeviceState, IsCutterOf, RegistersStandFor, counted_in, due_count, reads_given}
-use Rattle.x7_engine.specs.State.{history_by, history_taken, reads_of, stop_in}
-use Rattle.x7_engine.specs.Stop.{stop_of, stopped_at}
+use Rattle.x7_engine.specs.State.{history_by, history_taken, reads_of, first_stop_of_bytes}
+use Rattle.x7_engine.specs.Stop.{first_stop_of_history, stop_at_place}
 use Rattle.x7_engine.specs.Value.{read_out}
 use Rattle.x7_engine.proofs.DeviceLemmas.{going_taken, given_by}
 use Rattle.x7_engine.proofs.FrameLemmas.{no_word_due}
@@ -41,7 +41,7 @@ pub passed : (part : PartData) (kept : Kept) (wrapped : Bool) (d e : DeviceState
     → e.cutter ≡ d.cutter → e.part ≡ d.part → e.wrapped ≡ d.wrapped → e.taken ≡ d.taken + length more → due_count e.registers.due ≡ 0
     → DeviceStandsFor part kept wrapped e (bytes ++ more) × (reads_of part kept (bytes ++ more) ≡ reads_of part kept bytes) × (history_of (bytes ++ more) ≡ history_of bytes)
 passed part kept wrapped d e bytes cut more rest count left s going quiet idles stands k j l g f c p y t due =
-    let none : stop_in part kept bytes ≡ None = s.stop_is ∙ ap (stopped_at (length bytes)) going in
+    let none : first_stop_of_bytes part kept bytes ≡ None = s.stop_is ∙ ap (stop_at_place (length bytes)) going in
     let h : History = history_of bytes in
     let old : history_taken part kept bytes ≡ h = going_taken part kept bytes none in
     let before : RegistersStandFor part kept d.registers h (length bytes) = subst (λ (x : History). RegistersStandFor part kept d.registers x (length bytes)) old s.registers_are in
@@ -58,12 +58,12 @@ passed part kept wrapped d e bytes cut more rest count left s going quiet idles 
     sym (prefix_of (bytes ++ more) rest fits) ∙ ap (until m) (ap history_of joined ∙ whole)
     ∙ until_placed m h (placed_within (length bytes) m h (omega (arith, length-append bytes more)) placed) in
     let after : RegistersStandFor part kept e.registers h m = subst (λ (x : ℕ). RegistersStandFor part kept e.registers h x) count_is (stands h (length bytes) before) in
-    let stops : stop_in part kept (bytes ++ more) ≡ stopped_at m e.registers.stop = ap (λ (x : History). stop_of part kept x m) prefix ∙ after.stop in
+    let stops : first_stop_of_bytes part kept (bytes ++ more) ≡ stop_at_place m e.registers.stop = ap (λ (x : History). first_stop_of_history part kept x m) prefix ∙ after.stop in
     let all : until (counted_in e.registers.stop m) h ≡ h =
     subst (λ (x : ℕ). until (counted_in e.registers.stop x) h ≡ h) count_is (quiet_until e.registers.stop (length bytes) count left h f placed) in
     let new : history_taken part kept (bytes ++ more) ≡ h =
     ap (λ o. history_by o (history_of (bytes ++ more))) stops
-    ∙ ap (history_by (stopped_at m e.registers.stop)) (prefix ∙ sym (until_placed m h (placed_within (length bytes) m h (omega (arith, length-append bytes more)) placed)))
+    ∙ ap (history_by (stop_at_place m e.registers.stop)) (prefix ∙ sym (until_placed m h (placed_within (length bytes) m h (omega (arith, length-append bytes more)) placed)))
     ∙ history_until e.registers.stop m h ∙ all in
     let known : reads_of part kept (bytes ++ more) ≡ reads_of part kept bytes = ap (read_out part kept) new ∙ ap (read_out part kept) (sym old) in (
       record {

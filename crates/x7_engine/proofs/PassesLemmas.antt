@@ -13,7 +13,7 @@ use Rattle.x7_flow.specs.Controls.{ctl0_held, has_idcode, mask_held, masked_word
 use Rattle.x7_flow.specs.HistoryFlow.{frame_fault}
 use Rattle.x7_engine.specs.Kept.{is_fallback}
 use Rattle.x7_regs.specs.Control.{has_dec}
-use Rattle.x7_engine.specs.Stop.{Stopped, stop_of, stopped_at, stopped_by_watchdog, why_at, why_by_access, why_by_frames, why_by_write}
+use Rattle.x7_engine.specs.Stop.{Stopped, first_stop_of_history, stop_at_place, stop_at_firing, why_at_access, why_besides_frames, why_by_frames, why_by_write}
 use Rattle.x7_engine.specs.Watching.{first_firing}
 use Rattle.x7_engine.specs.declared.fault.Fault.TheVariants as fault
 use Rattle.x7_engine.specs.declared.kept.Kept.{Kept}
@@ -52,26 +52,26 @@ lets_pass part fallback check mask ctl0 matched held r w e =
     (r == number_of reg.Cmd && (w % 2 ^ 5 == code_of command.Iprog && not fallback)) (r == number_of reg.Cmd && (w % 2 ^ 5 == code_of command.Iprog && not true))
     (stop.Fault (fault.Crc check w)) (stop.Fault fault.Encrypted) (stop.Fault (fault.Id part.idcode w)) (stop.Fault (fault.Id part.idcode 0)) stop.Iprog (and_right (r == number_of reg.Cmd) (w % 2 ^ 5 == code_of command.Iprog && not true) (and_right (w % 2 ^ 5 == code_of command.Iprog) false refl)) e
 
-stopped_none : (place : ℕ) (w : Option StopCause) → stopped_at place w ≡ None → w ≡ None
+stopped_none : (place : ℕ) (w : Option StopCause) → stop_at_place place w ≡ None → w ≡ None
 stopped_none place None e = refl
 stopped_none place (Some w) e = absurd (cc)
 
 -- an access at which nothing stops, in a fallback; and back, in any attempt
-pub goes_past : (part : PartData) (kept : Kept) (h : History) (a : Access) (place m : ℕ) → is_fallback kept.kind ≡ true → stop_of part kept h place ≡ None → why_at part kept h a ≡ None → stop_of part kept (entry a place ∷ h) m ≡ None
+pub goes_past : (part : PartData) (kept : Kept) (h : History) (a : Access) (place m : ℕ) → is_fallback kept.kind ≡ true → first_stop_of_history part kept h place ≡ None → why_at_access part kept h a ≡ None → first_stop_of_history part kept (entry a place ∷ h) m ≡ None
 goes_past part kept h a place m fell before why =
-    ap (λ (o : Option Stopped). option_or o (option_or (stopped_at place (why_at part kept h a)) (stopped_by_watchdog (first_firing part kept (entry a place ∷ h) place (m - place))))) before
-    ∙ ap (λ (w : Option StopCause). option_or (stopped_at place w) (stopped_by_watchdog (first_firing part kept (entry a place ∷ h) place (m - place)))) why
-    ∙ ap stopped_by_watchdog (none_fired part kept (entry a place ∷ h) place (m - place) fell)
+    ap (λ (o : Option Stopped). option_or o (option_or (stop_at_place place (why_at_access part kept h a)) (stop_at_firing (first_firing part kept (entry a place ∷ h) place (m - place))))) before
+    ∙ ap (λ (w : Option StopCause). option_or (stop_at_place place w) (stop_at_firing (first_firing part kept (entry a place ∷ h) place (m - place)))) why
+    ∙ ap stop_at_firing (none_fired part kept (entry a place ∷ h) place (m - place) fell)
 
-pub went_past : (part : PartData) (kept : Kept) (h : History) (e : Entry) (m : ℕ) → stop_of part kept (e ∷ h) m ≡ None → (stop_of part kept h e.place ≡ None) × (why_at part kept h e.access ≡ None)
+pub went_past : (part : PartData) (kept : Kept) (h : History) (e : Entry) (m : ℕ) → first_stop_of_history part kept (e ∷ h) m ≡ None → (first_stop_of_history part kept h e.place ≡ None) × (why_at_access part kept h e.access ≡ None)
 went_past part kept h e m none =
-    let fired : Option Stopped = stopped_by_watchdog (first_firing part kept (e ∷ h) e.place (m - e.place)) in
-    let here : Option Stopped = stopped_at e.place (why_at part kept h e.access) in
-    let parts : (stop_of part kept h e.place ≡ None) × (option_or here fired ≡ None) = parts_none (stop_of part kept h e.place) (option_or here fired) none in
-    (parts.0, stopped_none e.place (why_at part kept h e.access) (parts_none here fired parts.1).0)
+    let fired : Option Stopped = stop_at_firing (first_firing part kept (e ∷ h) e.place (m - e.place)) in
+    let here : Option Stopped = stop_at_place e.place (why_at_access part kept h e.access) in
+    let parts : (first_stop_of_history part kept h e.place ≡ None) × (option_or here fired ≡ None) = parts_none (first_stop_of_history part kept h e.place) (option_or here fired) none in
+    (parts.0, stopped_none e.place (why_at_access part kept h e.access) (parts_none here fired parts.1).0)
 
 module _ (part : PartData) (kept power : Kept) (low : ℕ) (g h : History) (fell : is_fallback kept.kind ≡ true) (s : IsSame part low g h) where
-  passes : (a : Access) → why_by_access part power h a ≡ None → why_by_access part kept g a ≡ None
+  passes : (a : Access) → why_besides_frames part power h a ≡ None → why_besides_frames part kept g a ≡ None
   passes (Write r w) e =
       from_is part kept g r w
       ∙ ap (λ (f : Bool). why_from part f (running_check g) (mask_held g) (ctl0_held g) (has_idcode part.idcode g) (command_held g) r w) fell
@@ -84,7 +84,7 @@ module _ (part : PartData) (kept power : Kept) (low : ℕ) (g h : History) (fell
   passes (Read r n) e = refl
   passes (Bad w) e = absurd (cc)
 
-  pub why_passes : (a : Access) → why_at part power h a ≡ None → why_at part kept g a ≡ None
+  pub why_passes : (a : Access) → why_at_access part power h a ≡ None → why_at_access part kept g a ≡ None
   why_passes a e =
-      let parts : (why_by_access part power h a ≡ None) × (why_by_frames (frame_fault part h a) ≡ None) = parts_none (why_by_access part power h a) (why_by_frames (frame_fault part h a)) e in
+      let parts : (why_besides_frames part power h a ≡ None) × (why_by_frames (frame_fault part h a) ≡ None) = parts_none (why_besides_frames part power h a) (why_by_frames (frame_fault part h a)) e in
       ap (λ (o : Option StopCause). option_or o (why_by_frames (frame_fault part g a))) (passes a parts.0) ∙ ap why_by_frames (faults part low g h s a) ∙ parts.1

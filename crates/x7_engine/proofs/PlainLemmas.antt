@@ -28,7 +28,7 @@ use Rattle.x7_engine.specs.Registers.{has_ghigh_after, has_effect, has_ghigh, cl
 use Rattle.x7_engine.specs.Standing.{AreControls, ControlsState, counted_in}
 use Rattle.x7_engine.specs.Startup.{has_ended, phase_by, startup_call, startup_calls}
 use Rattle.x7_engine.specs.State.{last_counted}
-use Rattle.x7_engine.specs.Stop.{why_by_access, why_by_frames, why_at, stop_of, stopped_at, stopped_by_watchdog}
+use Rattle.x7_engine.specs.Stop.{why_besides_frames, why_by_frames, why_at_access, first_stop_of_history, stop_at_place, stop_at_firing}
 use Rattle.x7_engine.specs.Watching.{fired_or, watchdog_fires, first_firing, timer_held, watch_call, watch_calls, watched_bytes}
 use Rattle.x7_engine.proofs.ClockLemmas.{startup_entered, startup_more, stop_more_bytes, watch_entered, watch_more}
 use Rattle.x7_engine.proofs.TurnLemmas.{prefix_until, newest_within}
@@ -105,10 +105,10 @@ clears_none h register w p = rw (executes_none (command_held h) register w p, p.
 pub plain_asks : (idcode : ℕ) (h : History) (register w : ℕ) → IsPlain register → asked_after idcode h (Write register w) ≡ NothingAsked
 plain_asks idcode h register w p = let q = p.quiet in rw (q.far, q.cmd, p.fdri, p.mfwr) refl
 
-own_none : (part : PartData) (kept : Kept) (h : History) (register w : ℕ) → IsPlain register → why_by_access part kept h (Write register w) ≡ None
+own_none : (part : PartData) (kept : Kept) (h : History) (register w : ℕ) → IsPlain register → why_besides_frames part kept h (Write register w) ≡ None
 own_none part kept h register w p = let q = p.quiet in rw (executes_none (command_held h) register w q, q.crc, p.fdri, q.cmd, q.ctl0, p.mfwr, p.cbc, q.idcode) refl
 
-pub why_none : (part : PartData) (kept : Kept) (h : History) (register w : ℕ) → IsPlain register → None ≡ why_at part kept h (Write register w)
+pub why_none : (part : PartData) (kept : Kept) (h : History) (register w : ℕ) → IsPlain register → None ≡ why_at_access part kept h (Write register w)
 why_none part kept h register w p =
     sym (ap (λ (o : Option StopCause). option_or o (why_by_frames (frame_fault part h (Write register w)))) (own_none part kept h register w p)
     ∙ ap (λ (a : Asked). why_by_frames (fault_by part a (flow_of part h))) (plain_asks part.idcode h register w p))
@@ -230,31 +230,31 @@ plain_firing part kept h register w place (suc count) p l =
     ap (λ (o : Option ℕ). fired_or o (watchdog_fires part kept (entry (Write register w) place ∷ h) (place + count + 1)) (place + count + 1)) (plain_firing part kept h register w place count p l)
     ∙ ap (λ (b : Bool). fired_or (first_firing part kept h place count) b (place + count + 1)) (plain_fires part kept h register w place (place + count + 1) p l (omega arith))
 
-plain_stop : (part : PartData) (kept : Kept) (h : History) (register w place m : ℕ) → IsQuiet register → why_at part kept h (Write register w) ≡ None → newest_place h ≤ place → place ≤ m → stop_of part kept (entry (Write register w) place ∷ h) m ≡ stop_of part kept h m
+plain_stop : (part : PartData) (kept : Kept) (h : History) (register w place m : ℕ) → IsQuiet register → why_at_access part kept h (Write register w) ≡ None → newest_place h ≤ place → place ≤ m → first_stop_of_history part kept (entry (Write register w) place ∷ h) m ≡ first_stop_of_history part kept h m
 plain_stop part kept h register w place m p none l k =
     let sum : place + (m - place) ≡ m = omega (arith, k) in
-    ap (λ (o : Option StopCause). option_or (stop_of part kept h place) (option_or (stopped_at place o) (stopped_by_watchdog (first_firing part kept (entry (Write register w) place ∷ h) place (m - place))))) none
-    ∙ ap (λ (o : Option ℕ). option_or (stop_of part kept h place) (stopped_by_watchdog o)) (plain_firing part kept h register w place (m - place) p l)
+    ap (λ (o : Option StopCause). option_or (first_stop_of_history part kept h place) (option_or (stop_at_place place o) (stop_at_firing (first_firing part kept (entry (Write register w) place ∷ h) place (m - place))))) none
+    ∙ ap (λ (o : Option ℕ). option_or (first_stop_of_history part kept h place) (stop_at_firing o)) (plain_firing part kept h register w place (m - place) p l)
     ∙ sym (stop_more_bytes part kept h place (m - place) l)
-    ∙ ap (stop_of part kept h) sum
+    ∙ ap (first_stop_of_history part kept h) sum
 
 -- the clock and the stop after m bytes are those of a history
 pub record Clocked (part : PartData) (kept : Kept) (c : ClockState) (d : Option StopCause) (h : History) (n m : ℕ) : Type 0 where
   pub places : Placed n h
   pub clock : IsClock part kept c h m
-  pub stop : stop_of part kept h m ≡ stopped_at m d
+  pub stop : first_stop_of_history part kept h m ≡ stop_at_place m d
 
 -- words that stop nothing, each after those before it
 abbrev pub NoneStop : PartData → Kept → ℕ → ℕ → List ℕ → History → Type 0
 NoneStop part kept register n [] h = Unit {0}
-NoneStop part kept register n (w ∷ ws) h = (why_at part kept h (Write register w) ≡ None) × NoneStop part kept register (n + 4) ws (entry (Write register w) (n + 4) ∷ h)
+NoneStop part kept register n (w ∷ ws) h = (why_at_access part kept h (Write register w) ≡ None) × NoneStop part kept register (n + 4) ws (entry (Write register w) (n + 4) ∷ h)
 
 pub plain_none : (part : PartData) (kept : Kept) (register n : ℕ) (ws : List ℕ) (h : History) → IsPlain register → NoneStop part kept register n ws h
 plain_none part kept register n [] h p = tt
 plain_none part kept register n (w ∷ ws) h p = (sym (why_none part kept h register w p), plain_none part kept register (n + 4) ws (entry (Write register w) (n + 4) ∷ h) p)
 
 clocked_more : (part : PartData) (kept : Kept) (c : ClockState) (d : Option StopCause) (h : History) (n m register w : ℕ)
-    → IsQuiet register → why_at part kept h (Write register w) ≡ None → n + 4 ≤ m → Clocked part kept c d h n m → Clocked part kept c d (entry (Write register w) (n + 4) ∷ h) (n + 4) m
+    → IsQuiet register → why_at_access part kept h (Write register w) ≡ None → n + 4 ≤ m → Clocked part kept c d h n m → Clocked part kept c d (entry (Write register w) (n + 4) ∷ h) (n + 4) m
 clocked_more part kept c d h n m register w p none l s =
     let before : newest_place h ≤ n + 4 = omega (arith, newest_within n h s.places) in
     record {

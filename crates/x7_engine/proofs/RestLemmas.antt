@@ -22,7 +22,7 @@ use Rattle.x7_engine.specs.Registers.{is_pending}
 use Rattle.x7_engine.specs.Rest.{AtRest, LastGapGoesOn}
 use Rattle.x7_engine.specs.Startup.{has_ended, phase_of, startup_calls, startup_progress}
 use Rattle.x7_regs.specs.Control.{forbids_reading}
-use Rattle.x7_engine.specs.Stop.{Stopped, stop_of, stopped_by_watchdog}
+use Rattle.x7_engine.specs.Stop.{Stopped, first_stop_of_history, stop_at_firing}
 use Rattle.x7_engine.specs.Watching.{first_firing, timer_held, turns_on}
 use Rattle.x7_engine.proofs.ClockLemmas.{last_of, none_fires, phase_rises, startup_more, stop_more_bytes}
 use Rattle.x7_engine.proofs.SequenceLemmas.{and_false}
@@ -66,11 +66,11 @@ never_fires part kept h n k off =
     and_false (is_on (is_fallback kept.kind) (timer_held kept h) (has_ended part h (n + i + 1))) _
     (never_on (cfg_mon_of (timer_held kept h) == 1) (not (timer_value_of (timer_held kept h) == 0)) (has_ended part h (n + i + 1)) (is_fallback kept.kind) off))
 
-pub stop_on : (part : PartData) (kept : Kept) (h : History) (n k : ℕ) → newest_place h ≤ n → (turns_on (timer_held kept h) && not (is_fallback kept.kind)) ≡ false → stop_of part kept h n ≡ None → stop_of part kept h (n + k) ≡ None
+pub stop_on : (part : PartData) (kept : Kept) (h : History) (n k : ℕ) → newest_place h ≤ n → (turns_on (timer_held kept h) && not (is_fallback kept.kind)) ≡ false → first_stop_of_history part kept h n ≡ None → first_stop_of_history part kept h (n + k) ≡ None
 stop_on part kept h n k l off none =
     stop_more_bytes part kept h n k l
-    ∙ ap (λ (o : Option Stopped). option_or o (stopped_by_watchdog (first_firing part kept h n k))) none
-    ∙ ap stopped_by_watchdog (never_fires part kept h n k off)
+    ∙ ap (λ (o : Option Stopped). option_or o (stop_at_firing (first_firing part kept h n k))) none
+    ∙ ap stop_at_firing (never_fires part kept h n k off)
 
 startup_on : (part : PartData) (h : History) (n k : ℕ) → newest_place h ≤ n → (startup_progress h n ≡ NotBegun) ⊎ (phase_of part h n ≡ 7) → (startup_progress h (n + k) ≡ NotBegun) ⊎ (phase_of part h (n + k) ≡ 7)
 startup_on part h n k l (inl e) = inl (ap progress_of (startup_more h n k l) ∙ progress_bytes (startup_calls h n) k ∙ ap (further k) e)
@@ -89,7 +89,7 @@ rest_on part kept bytes more fits g r =
     let count : length (bytes ++ more) ≡ n + length more = length-append bytes more in
     let newest : newest_place h ≤ n = newest_within n h (placed_of bytes (all_prefix (λ b. b < 256) bytes more fits)) in
     record {
-      no_stop = ap (λ (x : History). stop_of part kept x (length (bytes ++ more))) same ∙ ap (stop_of part kept h) count ∙ stop_on part kept h n (length more) newest r.no_watchdog r.no_stop;
+      no_stop = ap (λ (x : History). first_stop_of_history part kept x (length (bytes ++ more))) same ∙ ap (first_stop_of_history part kept h) count ∙ stop_on part kept h n (length more) newest r.no_watchdog r.no_stop;
       searching = searching_on bytes more fits g;
       startup = subst (λ (x : History). (startup_progress x (length (bytes ++ more)) ≡ NotBegun) ⊎ (phase_of part x (length (bytes ++ more)) ≡ 7)) (sym same)
           (subst (λ (m : ℕ). (startup_progress h m ≡ NotBegun) ⊎ (phase_of part h m ≡ 7)) (sym count) (startup_on part h n (length more) newest r.startup));

@@ -20,7 +20,7 @@ use Rattle.x7_engine.specs.declared.stop.StopCause.TheVariants as stop
 use Rattle.x7_engine.specs.Clock.{ClockState, ClockTakes, newest_place}
 use Rattle.x7_engine.specs.Standing.{FramesAre, IsNextAccess, RegistersStandFor, RegistersState, counted_in, frames_due}
 use Rattle.x7_engine.specs.State.{history_by, last_counted}
-use Rattle.x7_engine.specs.Stop.{Stopped, why_at, stop_of, stopped_at, stopped_by_watchdog}
+use Rattle.x7_engine.specs.Stop.{Stopped, why_at_access, first_stop_of_history, stop_at_place, stop_at_firing}
 use Rattle.x7_engine.specs.Value.{read_out}
 use Rattle.x7_engine.specs.Watching.{first_firing}
 use Rattle.x7_engine.proofs.ClockLemmas.{firing_more, stop_more_bytes}
@@ -70,17 +70,17 @@ counted_within None n = omega arith
 counted_within (Some why) n = counted_least why n
 
 -- the history taken, where the stop comes at the last byte
-pub history_until : (d : Option StopCause) (m : ℕ) (h : History) → history_by (stopped_at m d) (until m h) ≡ until (counted_in d m) h
+pub history_until : (d : Option StopCause) (m : ℕ) (h : History) → history_by (stop_at_place m d) (until m h) ≡ until (counted_in d m) h
 history_until None m h = refl
 history_until (Some why) m h = until_until (last_counted why m) m h (counted_least why m)
 
 -- the access at the last byte doesn't matter for a stop that comes before it
-stop_at_last : (part : PartData) (kept : Kept) (k m : ℕ) (h : History) (s : Stopped) → Placed k h → stop_of part kept (until (m - 1) h) m ≡ Some s → stop_of part kept (until m h) m ≡ Some s
+stop_at_last : (part : PartData) (kept : Kept) (k m : ℕ) (h : History) (s : Stopped) → Placed k h → first_stop_of_history part kept (until (m - 1) h) m ≡ Some s → first_stop_of_history part kept (until m h) m ≡ Some s
 stop_at_last part kept k m [] s p e = e
 stop_at_last part kept k m (x ∷ h) s p e = by (λ q. stop_at_last part kept (x.place - 1) m h s p.2 q) (nat_lt m x.place) (nat_lt (m - 1) x.place) refl refl e
   where
-    by : (stop_of part kept (until (m - 1) h) m ≡ Some s → stop_of part kept (until m h) m ≡ Some s)
-        → (b c : Bool) → nat_lt m x.place ≡ b → nat_lt (m - 1) x.place ≡ c → stop_of part kept (if c then until (m - 1) h else x ∷ h) m ≡ Some s → stop_of part kept (if b then until m h else x ∷ h) m ≡ Some s
+    by : (first_stop_of_history part kept (until (m - 1) h) m ≡ Some s → first_stop_of_history part kept (until m h) m ≡ Some s)
+        → (b c : Bool) → nat_lt m x.place ≡ b → nat_lt (m - 1) x.place ≡ c → first_stop_of_history part kept (if c then until (m - 1) h else x ∷ h) m ≡ Some s → first_stop_of_history part kept (if b then until m h else x ∷ h) m ≡ Some s
     by i true true f g e = i e
     by i true false f g e = absurd (let a : m < x.place = grind (arith, nat_tests, f) in let b : x.place ≤ m - 1 = grind (arith, nat_tests, g) in omega (arith, a, b))
     by i false false f g e = e
@@ -89,10 +89,10 @@ stop_at_last part kept k m (x ∷ h) s p e = by (λ q. stop_at_last part kept (x
         let b : m - 1 < x.place = grind (arith, nat_tests, g) in
         let here : m ≡ x.place = omega (arith, a, b, p.0) in
         let all : until (m - 1) h ≡ h = until_placed (m - 1) h (placed_within (x.place - 1) (m - 1) h (omega (arith, here)) p.2) in
-        let before : stop_of part kept h x.place ≡ Some s = ap (stop_of part kept h) (sym here) ∙ sym (ap (λ (t : History). stop_of part kept t m) all) ∙ e in
-        ap (λ (o : Option Stopped). option_or o (option_or (stopped_at x.place (why_at part kept h x.access)) (stopped_by_watchdog (first_firing part kept (x ∷ h) x.place (m - x.place))))) before
+        let before : first_stop_of_history part kept h x.place ≡ Some s = ap (first_stop_of_history part kept h) (sym here) ∙ sym (ap (λ (t : History). first_stop_of_history part kept t m) all) ∙ e in
+        ap (λ (o : Option Stopped). option_or o (option_or (stop_at_place x.place (why_at_access part kept h x.access)) (stop_at_firing (first_firing part kept (x ∷ h) x.place (m - x.place))))) before
 
-pub stop_until : (part : PartData) (kept : Kept) (d : Option StopCause) (k m : ℕ) (h : History) → Placed k h → stop_of part kept (until (counted_in d m) h) m ≡ stopped_at m d → stop_of part kept (until m h) m ≡ stopped_at m d
+pub stop_until : (part : PartData) (kept : Kept) (d : Option StopCause) (k m : ℕ) (h : History) → Placed k h → first_stop_of_history part kept (until (counted_in d m) h) m ≡ stop_at_place m d → first_stop_of_history part kept (until m h) m ≡ stop_at_place m d
 stop_until part kept None k m h p e = e
 stop_until part kept (Some (stop.Fault (fault.Packet w))) k m h p e = e
 stop_until part kept (Some (stop.Fault (fault.Id want got))) k m h p e = e
@@ -123,9 +123,9 @@ ticked part kept d clock h n count m i e s t = subst (λ (x : ℕ). RegistersSta
   clock = t.0;
   stop =
       stop_more_bytes part kept h n count (newest_within n h s.places)
-      ∙ ap (λ (o : Option Stopped). option_or o (stopped_by_watchdog (first_firing part kept h n count))) (s.stop ∙ ap (stopped_at n) e)
-      ∙ ap stopped_by_watchdog t.1
-      ∙ sym (ap (stopped_at (n + count)) e);
+      ∙ ap (λ (o : Option Stopped). option_or o (stop_at_firing (first_firing part kept h n count))) (s.stop ∙ ap (stop_at_place n) e)
+      ∙ ap stop_at_firing t.1
+      ∙ sym (ap (stop_at_place (n + count)) e);
   frames = s.frames;
   due_kind = s.due_kind;
 }
@@ -165,8 +165,8 @@ fired part kept d clock h n count k m i e s t =
       clock = t.2;
       stop =
           stop_more_bytes part kept h n k (newest_within n h s.places)
-          ∙ ap (λ (o : Option Stopped). option_or o (stopped_by_watchdog (first_firing part kept h n k))) (s.stop ∙ ap (stopped_at n) e)
-          ∙ ap stopped_by_watchdog first;
+          ∙ ap (λ (o : Option Stopped). option_or o (stop_at_firing (first_firing part kept h n k))) (s.stop ∙ ap (stop_at_place n) e)
+          ∙ ap stop_at_firing first;
       frames = frames_fired part d h (frames_due d.due) e s.frames;
       due_kind = s.due_kind;
     }

@@ -20,8 +20,8 @@ use Rattle.x7_engine.specs.declared.stop.StopCause.{StopCause}
 use Rattle.x7_engine.specs.ReadBuffer.{IsFullBy, ReadBufState, dropping, with_words}
 use Rattle.x7_engine.specs.Past.{AnswersAt, Past}
 use Rattle.x7_engine.specs.Standing.{DeviceState, DeviceStandsFor, NoWordDue, frames_due}
-use Rattle.x7_engine.specs.State.{history_by, history_taken, last_counted, memory_in, stop_in}
-use Rattle.x7_engine.specs.Stop.{Stopped, stopped_at}
+use Rattle.x7_engine.specs.State.{history_by, history_taken, last_counted, memory_in, first_stop_of_bytes}
+use Rattle.x7_engine.specs.Stop.{Stopped, stop_at_place}
 use Rattle.x7_engine.specs.Undo.{UndoLeadsBack, SavesDevice, UndoState}
 use Rattle.x7_engine.proofs.DeviceLemmas.{going_taken}
 use Rattle.x7_engine.proofs.FrameLemmas.{frames_of, goes_on, none_frames}
@@ -40,7 +40,7 @@ until_one n k h g l p (inr one) = subst (λ (x : History). OneEntry h (until k x
     by true = inl (until_placed k h (placed_within n k h l p))
     by false = inr (one.0, refl)
 
-taken_one : (part : PartData) (kept : Kept) (bytes more : List ℕ) (why : Option StopCause) → AreBytes (bytes ++ more) → length more ≤ 4 → 0 < length more → stop_in part kept (bytes ++ more) ≡ stopped_at (length (bytes ++ more)) why
+taken_one : (part : PartData) (kept : Kept) (bytes more : List ℕ) (why : Option StopCause) → AreBytes (bytes ++ more) → length more ≤ 4 → 0 < length more → first_stop_of_bytes part kept (bytes ++ more) ≡ stop_at_place (length (bytes ++ more)) why
     → OneEntry (history_of bytes) (history_taken part kept (bytes ++ more))
 taken_one part kept bytes more None f few some e = subst (OneEntry (history_of bytes)) (sym (going_taken part kept (bytes ++ more) e)) (enter_once bytes more f few)
 taken_one part kept bytes more (Some why) f few some e =
@@ -51,7 +51,7 @@ taken_one part kept bytes more (Some why) f few some e =
     (enter_once bytes more f few))
 
 -- a device that went on had no stop
-no_stop : (part : PartData) (kept : Kept) (bytes more : List ℕ) (now why : Option StopCause) → AreBytes (bytes ++ more) → 0 < length more → stop_in part kept bytes ≡ stopped_at (length bytes) now → stop_in part kept (bytes ++ more) ≡ stopped_at (length (bytes ++ more)) why
+no_stop : (part : PartData) (kept : Kept) (bytes more : List ℕ) (now why : Option StopCause) → AreBytes (bytes ++ more) → 0 < length more → first_stop_of_bytes part kept bytes ≡ stop_at_place (length bytes) now → first_stop_of_bytes part kept (bytes ++ more) ≡ stop_at_place (length (bytes ++ more)) why
     → now ≡ None
 no_stop part kept bytes more None why f some e g = refl
 no_stop part kept bytes more (Some now) why f some e g = by why g
@@ -59,14 +59,14 @@ no_stop part kept bytes more (Some now) why f some e g = by why g
     at : Stopped
     at = record { place = length bytes; why = now }
 
-    final : stop_in part kept (bytes ++ more) ≡ Some at
+    final : first_stop_of_bytes part kept (bytes ++ more) ≡ Some at
     final = stop_is_final_stop part kept bytes more at f e
 
     place_of : Option Stopped → ℕ
     place_of None = 0
     place_of (Some s) = s.place
 
-    by : (why : Option StopCause) → stop_in part kept (bytes ++ more) ≡ stopped_at (length (bytes ++ more)) why → Some now ≡ None
+    by : (why : Option StopCause) → first_stop_of_bytes part kept (bytes ++ more) ≡ stop_at_place (length (bytes ++ more)) why → Some now ≡ None
     by None g = absurd (let no : Some at ≡ None = sym final ∙ g in cc)
     by (Some later) g = absurd (let same : length bytes ≡ length (bytes ++ more) = ap (λ (o : Option Stopped). place_of o) (sym final ∙ g) in omega (arith, same, length-append bytes more, some))
 
@@ -80,7 +80,7 @@ module _ (part : PartData) (kept : Kept) (wrapped : Bool) (u : UndoState) (old n
       → DeviceStandsFor part kept wrapped old bytes → DeviceStandsFor part kept wrapped new (bytes ++ more) → FramesBack part u.frames new.registers.frames old.registers.frames
   frames_more k o n none few some s t =
       let going : old.registers.stop ≡ None = no_stop part kept bytes more old.registers.stop new.registers.stop t.fits some s.stop_is t.stop_is in
-      let before : stop_in part kept bytes ≡ None = s.stop_is ∙ ap (stopped_at (length bytes)) going in
+      let before : first_stop_of_bytes part kept bytes ≡ None = s.stop_is ∙ ap (stop_at_place (length bytes)) going in
       let h : History = history_of bytes in
       let taken : history_taken part kept bytes ≡ h = going_taken part kept bytes before in
       let stands : FramesStandFor part old.registers.frames h 0 =

@@ -31,8 +31,8 @@ use Rattle.x7_engine.specs.ReadBuffer.{ReadBufState}
 use Rattle.x7_engine.specs.Past.{AnswersAt, AnswersUntilAt, Past}
 use Rattle.x7_engine.specs.Standing.{DeviceStandsFor, DeviceState, EndsWords, NoWordDue, taken_in}
 use Rattle.x7_engine.specs.Startup.{phase_by, phase_of, startup_call, startup_calls, startup_progress}
-use Rattle.x7_engine.specs.State.{history_by, history_taken, state_of, stop_in, taken_by, taken_of}
-use Rattle.x7_engine.specs.Stop.{Stopped, stopped_at}
+use Rattle.x7_engine.specs.State.{history_by, history_taken, state_of, first_stop_of_bytes, taken_by, taken_of}
+use Rattle.x7_engine.specs.Stop.{Stopped, stop_at_place}
 use Rattle.x7_engine.specs.UntilStarted.{AreOtherWrites, CommandsLast, HasNotBegun, IsOtherWrite, NoneBegun, NoneStarted, has_started, says_started, taken_until}
 use Rattle.x7_engine.proofs.ClockLemmas.{last_of}
 use Rattle.x7_engine.proofs.DeviceLemmas.{ends_words, length_between}
@@ -205,21 +205,21 @@ then_commands bytes quiet more fits e f = λ k l. elim (cases_lt k (length quiet
 -- ---- startup hasn't ended before the last byte of a turn
 
 -- the phase where nothing stopped the device
-pub phase_going : (part : PartData) (kept : Kept) (wrapped : Bool) (bytes : List ℕ) → stop_in part kept bytes ≡ None → (state_of part kept wrapped bytes).phase ≡ phase_of part (history_of bytes) (length bytes)
+pub phase_going : (part : PartData) (kept : Kept) (wrapped : Bool) (bytes : List ℕ) → first_stop_of_bytes part kept bytes ≡ None → (state_of part kept wrapped bytes).phase ≡ phase_of part (history_of bytes) (length bytes)
 phase_going part kept wrapped bytes none = ap (λ (o : Option Stopped). phase_by part (startup_progress (history_by o (history_of bytes)) (taken_by o (length bytes)))) none
 
 -- no stop comes before the last byte taken
-pub going_before : (part : PartData) (kept : Kept) (wrapped : Bool) (d : DeviceState) (bytes more : List ℕ) → DeviceStandsFor part kept wrapped d (bytes ++ more) → 0 < length more → stop_in part kept bytes ≡ None
-going_before part kept wrapped d bytes more s some = by (stop_in part kept bytes) refl
+pub going_before : (part : PartData) (kept : Kept) (wrapped : Bool) (d : DeviceState) (bytes more : List ℕ) → DeviceStandsFor part kept wrapped d (bytes ++ more) → 0 < length more → first_stop_of_bytes part kept bytes ≡ None
+going_before part kept wrapped d bytes more s some = by (first_stop_of_bytes part kept bytes) refl
   where
-    at_last : (o : Option StopCause) (t : Stopped) → stopped_at (length (bytes ++ more)) o ≡ Some t → t.place ≡ length (bytes ++ more)
+    at_last : (o : Option StopCause) (t : Stopped) → stop_at_place (length (bytes ++ more)) o ≡ Some t → t.place ≡ length (bytes ++ more)
     at_last None t e = absurd (cc)
     at_last (Some why) t e = cc
 
-    by : (o : Option Stopped) → stop_in part kept bytes ≡ o → stop_in part kept bytes ≡ None
+    by : (o : Option Stopped) → first_stop_of_bytes part kept bytes ≡ o → first_stop_of_bytes part kept bytes ≡ None
     by None e = e
     by (Some t) e =
-        let stays : stop_in part kept (bytes ++ more) ≡ Some t = stop_is_final_stop part kept bytes more t s.fits e in
+        let stays : first_stop_of_bytes part kept (bytes ++ more) ≡ Some t = stop_is_final_stop part kept bytes more t s.fits e in
         let last : t.place ≡ length (bytes ++ more) = at_last d.registers.stop t (sym s.stop_is ∙ stays) in
         let count : length (bytes ++ more) ≡ length bytes + length more = length-append bytes more in
         no_stop_before part kept bytes more t s.fits stays (omega (arith, last, count, some))
@@ -231,14 +231,14 @@ not_seven : (p : ℕ) → p ≤ 7 → (p == 7) ≡ false → p < 7
 not_seven p l e = grind arith
 
 -- where startup hasn't begun it doesn't begin before the last byte of a turn
-unbegun_in_turn : (part : PartData) (kept : Kept) (wrapped : Bool) (d : DeviceState) (bytes more : List ℕ) → stop_in part kept bytes ≡ None → DeviceStandsFor part kept wrapped d (bytes ++ more)
+unbegun_in_turn : (part : PartData) (kept : Kept) (wrapped : Bool) (d : DeviceState) (bytes more : List ℕ) → first_stop_of_bytes part kept bytes ≡ None → DeviceStandsFor part kept wrapped d (bytes ++ more)
     → CommandsLast bytes more → HasNotBegun part kept bytes → NoneBegun part kept bytes more (length more)
 unbegun_in_turn part kept wrapped d bytes more going s f unbegun k l =
     let prefix : List ℕ = take k more in
     let left : length (drop k more) ≡ length more - k = length-drop k more in
     let joined : (bytes ++ prefix) ++ drop k more ≡ bytes ++ more = append_assoc bytes prefix (drop k more) ∙ ap (λ (t : List ℕ). bytes ++ t) (take-append-drop k more) in
     let all : DeviceStandsFor part kept wrapped d ((bytes ++ prefix) ++ drop k more) = subst (DeviceStandsFor part kept wrapped d) (sym joined) s in
-    let none : stop_in part kept (bytes ++ prefix) ≡ None = going_before part kept wrapped d (bytes ++ prefix) (drop k more) all (omega (arith, left, l)) in
+    let none : first_stop_of_bytes part kept (bytes ++ prefix) ≡ None = going_before part kept wrapped d (bytes ++ prefix) (drop k more) all (omega (arith, left, l)) in
     let first : startup_progress (history_of bytes) (length bytes) ≡ NotBegun = subst (λ (o : Option Stopped). startup_progress (history_by o (history_of bytes)) (taken_by o (length bytes)) ≡ NotBegun) going unbegun in
     let q = f k l in
     let still : startup_progress (history_of (bytes ++ prefix)) (length (bytes ++ prefix)) ≡ NotBegun =
@@ -246,7 +246,7 @@ unbegun_in_turn part kept wrapped d bytes more going s f unbegun k l =
     ∙ unbegun_later q.0 (history_of bytes) q.2 (λ n. unbegun_at_any (history_of bytes) (length bytes) n first) (length (bytes ++ prefix)) in
     ap (λ (o : Option Stopped). startup_progress (history_by o (history_of (bytes ++ prefix))) (taken_by o (length (bytes ++ prefix)))) none ∙ still
 
-pub none_started : (part : PartData) (kept : Kept) (wrapped : Bool) (d : DeviceState) (bytes more : List ℕ) → stop_in part kept bytes ≡ None → DeviceStandsFor part kept wrapped d (bytes ++ more) → has_started part kept bytes ≡ false
+pub none_started : (part : PartData) (kept : Kept) (wrapped : Bool) (d : DeviceState) (bytes more : List ℕ) → first_stop_of_bytes part kept bytes ≡ None → DeviceStandsFor part kept wrapped d (bytes ++ more) → has_started part kept bytes ≡ false
     → CommandsLast bytes more → HasNotBegun part kept bytes ⊎ (length more ≤ soonest_end (state_of part kept wrapped bytes).phase) → NoneStarted part kept bytes more (length more)
 none_started part kept wrapped d bytes more going s not f b = λ k l.
     let prefix : List ℕ = take k more in
@@ -254,7 +254,7 @@ none_started part kept wrapped d bytes more going s not f b = λ k l.
     let left : length (drop k more) ≡ length more - k = length-drop k more in
     let joined : (bytes ++ prefix) ++ drop k more ≡ bytes ++ more = append_assoc bytes prefix (drop k more) ∙ ap (λ (t : List ℕ). bytes ++ t) (take-append-drop k more) in
     let all : DeviceStandsFor part kept wrapped d ((bytes ++ prefix) ++ drop k more) = subst (DeviceStandsFor part kept wrapped d) (sym joined) s in
-    let none : stop_in part kept (bytes ++ prefix) ≡ None = going_before part kept wrapped d (bytes ++ prefix) (drop k more) all (omega (arith, left, l)) in
+    let none : first_stop_of_bytes part kept (bytes ++ prefix) ≡ None = going_before part kept wrapped d (bytes ++ prefix) (drop k more) all (omega (arith, left, l)) in
     let fits : AreBytes (bytes ++ prefix) = all_prefix (λ b. b < 256) (bytes ++ prefix) (drop k more) all.fits in
     let now : (state_of part kept false (bytes ++ prefix)).phase ≡ phase_of part (history_of (bytes ++ prefix)) (length (bytes ++ prefix)) = phase_going part kept false (bytes ++ prefix) none in
     let low : phase_of part (history_of (bytes ++ prefix)) (length (bytes ++ prefix)) < 7 = elim b [
@@ -302,7 +302,7 @@ turn_first part kept wrapped d e bytes piece end from to m l k going s after f b
     let same : between (take end piece) from to ≡ more = in_slice piece end from to m l k in
     let soon : HasNotBegun part kept bytes ⊎ (length more ≤ soonest_end (state_of part kept wrapped bytes).phase) = elim b [ inl unbegun ↦ inl unbegun | inr few ↦ inr (omega (arith, few, count, most)) ] in
     subst (NoneStarted part kept bytes more) count
-    (none_started part kept wrapped e bytes more (s.stop_is ∙ ap (stopped_at (length bytes)) going) (turn_stands part kept wrapped e bytes piece end from to m l k after) not (subst (CommandsLast bytes) same f) soon)
+    (none_started part kept wrapped e bytes more (s.stop_is ∙ ap (stop_at_place (length bytes)) going) (turn_stands part kept wrapped e bytes piece end from to m l k after) not (subst (CommandsLast bytes) same f) soon)
 
 -- what holds before, and in a turn more
 pub holds_on : (P : List ℕ → Type 0) (bytes piece : List ℕ) (from to : ℕ) → from ≤ to → ((k : ℕ) → k < from → P (bytes ++ take k piece))
@@ -327,7 +327,7 @@ unbegun_on part kept wrapped d e bytes piece from to l m going s after f unbegun
     let taken : List ℕ = bytes ++ take from piece in
     let count : length (between piece from to) ≡ to - from = length_between piece from to l m in
     holds_on (λ t. HasNotBegun part kept t) bytes piece from to l before
-    (λ k n. unbegun_in_turn part kept wrapped e taken (between piece from to) (s.stop_is ∙ ap (stopped_at (length taken)) going) after f unbegun k (omega (arith, n, count)))
+    (λ k n. unbegun_in_turn part kept wrapped e taken (between piece from to) (s.stop_is ∙ ap (stop_at_place (length taken)) going) after f unbegun k (omega (arith, n, count)))
 
 -- ---- what a device keeps of it
 

@@ -8,8 +8,8 @@ use Rattle.x7_part.specs.Part.{PartData}
 use Rattle.x7_engine.specs.ReadBuffer.{HasRoomBy, HasRoomForWords, HoldsWithinMost, ReadBufState, gathered, with_words}
 use Rattle.x7_engine.specs.declared.kept.Kept.{Kept}
 use Rattle.x7_engine.specs.Standing.{DeviceStandsFor, DeviceState, NoWordDue, reads_given}
-use Rattle.x7_engine.specs.State.{history_by, reads_of, stop_in}
-use Rattle.x7_engine.specs.Stop.{Stopped, stopped_at}
+use Rattle.x7_engine.specs.State.{history_by, reads_of, first_stop_of_bytes}
+use Rattle.x7_engine.specs.Stop.{Stopped, stop_at_place}
 use Rattle.x7_engine.specs.UntilRead.{RoomBefore}
 use Rattle.x7_engine.specs.UntilStarted.{AreOtherWrites, CommandsLast, IsOtherWrite}
 use Rattle.x7_engine.specs.Value.{words_read_by, read_out}
@@ -29,7 +29,7 @@ writes_read_none part kept (e ∷ newer) h w =
     none (Bad x) f = absurd f
 
 -- the words read out of bytes in which nothing stopped the device
-reads_going : (part : PartData) (kept : Kept) (bytes : List ℕ) → stop_in part kept bytes ≡ None → reads_of part kept bytes ≡ read_out part kept (history_of bytes)
+reads_going : (part : PartData) (kept : Kept) (bytes : List ℕ) → first_stop_of_bytes part kept bytes ≡ None → reads_of part kept bytes ≡ read_out part kept (history_of bytes)
 reads_going part kept bytes none = ap (λ (o : Option Stopped). read_out part kept (history_by o (history_of bytes))) none
 
 turn_reads_none : (part : PartData) (kept : Kept) (wrapped : Bool) (d e : DeviceState) (bytes more : List ℕ) → d.registers.stop ≡ None → DeviceStandsFor part kept wrapped d bytes → DeviceStandsFor part kept wrapped e (bytes ++ more) → CommandsLast bytes more
@@ -38,8 +38,8 @@ turn_reads_none part kept wrapped d e bytes more going s after f k l =
     let prefix : List ℕ = take k more in
     let joined : (bytes ++ prefix) ++ drop k more ≡ bytes ++ more = append_assoc bytes prefix (drop k more) ∙ ap (λ (t : List ℕ). bytes ++ t) (take-append-drop k more) in
     let all : DeviceStandsFor part kept wrapped e ((bytes ++ prefix) ++ drop k more) = subst (DeviceStandsFor part kept wrapped e) (sym joined) after in
-    let none : stop_in part kept (bytes ++ prefix) ≡ None = going_before part kept wrapped e (bytes ++ prefix) (drop k more) all (omega (arith, length-drop k more, l)) in
-    let before : stop_in part kept bytes ≡ None = s.stop_is ∙ ap (stopped_at (length bytes)) going in
+    let none : first_stop_of_bytes part kept (bytes ++ prefix) ≡ None = going_before part kept wrapped e (bytes ++ prefix) (drop k more) all (omega (arith, length-drop k more, l)) in
+    let before : first_stop_of_bytes part kept bytes ≡ None = s.stop_is ∙ ap (stop_at_place (length bytes)) going in
     let q = f k l in
     reads_going part kept (bytes ++ prefix) none ∙ ap (read_out part kept) q.1 ∙ writes_read_none part kept q.0 (history_of bytes) q.2 ∙ sym (reads_going part kept bytes before)
 

@@ -12,8 +12,8 @@ use Rattle.x7_engine.specs.declared.fault.Fault.TheVariants as fault
 use Rattle.x7_engine.specs.declared.kept.Kept.{Kept}
 use Rattle.x7_engine.specs.Kept.{is_fallback}
 use Rattle.x7_engine.specs.Registers.{wrote_iprog}
-use Rattle.x7_engine.specs.State.{history_taken, why_of, state_of, stop_in}
-use Rattle.x7_engine.specs.Stop.{stop_fault}
+use Rattle.x7_engine.specs.State.{history_taken, why_stopped, state_of, first_stop_of_bytes}
+use Rattle.x7_engine.specs.Stop.{fault_of_stop}
 use Rattle.x7_engine.specs.Value.{failure_of}
 
 cause_is : (f : Option Fault) → failure_of f false ≡ None → failure_of f true ≡ Some cause.Wrap
@@ -47,6 +47,6 @@ shows kind f ignored before boots e =
 pub wrap_alone : (part : PartData) (kept : Kept) (bytes : List ℕ) → state_of part kept true bytes ≡ record (state_of part kept false bytes) { bootsts = (state_of part kept true bytes).bootsts }
 wrap_alone part kept bytes = refl
 
-pub wrap_bit : (part : PartData) (kept : Kept) (bytes : List ℕ) → (kept.kind ≡ Bench → ⊥) → failure_of (stop_fault (why_of (stop_in part kept bytes))) false ≡ None
+pub wrap_bit : (part : PartData) (kept : Kept) (bytes : List ℕ) → (kept.kind ≡ Bench → ⊥) → failure_of (fault_of_stop (why_stopped (first_stop_of_bytes part kept bytes))) false ≡ None
     → (state_of part kept true bytes).bootsts ≡ (state_of part kept false bytes).bootsts + 2 ^ 6
-wrap_bit part kept bytes boots e = shows kept.kind (stop_fault (why_of (stop_in part kept bytes))) (is_fallback kept.kind && wrote_iprog (history_taken part kept bytes)) kept.before boots e
+wrap_bit part kept bytes boots e = shows kept.kind (fault_of_stop (why_stopped (first_stop_of_bytes part kept bytes))) (is_fallback kept.kind && wrote_iprog (history_taken part kept bytes)) kept.before boots e

@@ -14,8 +14,8 @@ use Rattle.x7_packets.proofs.HistoryLemmas.{cut_enters, next_word_is}
 use Rattle.x7_part.specs.Part.{PartData}
 use Rattle.x7_engine.specs.declared.kept.Kept.{Kept}
 use Rattle.x7_engine.specs.Standing.{DeviceStandsFor, DeviceState, IsCutterOf, IsNextAccess, RegistersStandFor, counted_in, due_count}
-use Rattle.x7_engine.specs.State.{history_by, history_taken, reads_of, stop_in}
-use Rattle.x7_engine.specs.Stop.{stop_of, stopped_at}
+use Rattle.x7_engine.specs.State.{history_by, history_taken, reads_of, first_stop_of_bytes}
+use Rattle.x7_engine.specs.Stop.{first_stop_of_history, stop_at_place}
 use Rattle.x7_engine.specs.UntilStarted.{CommandsLast}
 use Rattle.x7_engine.specs.Value.{read_out}
 use Rattle.x7_engine.proofs.ClockLemmas.{idle_ticks}
@@ -74,7 +74,7 @@ pub write_taken : (part : PartData) (kept : Kept) (wrapped : Bool) (d e : Device
     → ((n : ℕ) → counted_in e.registers.stop n ≡ n) → due_count e.registers.due ≡ 0 → e.part ≡ d.part → e.wrapped ≡ d.wrapped → e.taken ≡ d.taken + 8
     → DeviceStandsFor part kept wrapped e (bytes ++ take 8 rest) × (reads_of part kept (bytes ++ take 8 rest) ≡ reads_of part kept bytes) × CommandsLast bytes (take 8 rest)
 write_taken part kept wrapped d e bytes rest register w s going begun limit one write counts due p y t =
-    let none : stop_in part kept bytes ≡ None = s.stop_is ∙ ap (stopped_at (length bytes)) going in
+    let none : first_stop_of_bytes part kept bytes ≡ None = s.stop_is ∙ ap (stop_at_place (length bytes)) going in
     let h : History = history_of bytes in
     let old : history_taken part kept bytes ≡ h = going_taken part kept bytes none in
     let before : RegistersStandFor part kept d.registers h (length bytes) = subst (λ (x : History). RegistersStandFor part kept d.registers x (length bytes)) old s.registers_are in
@@ -88,10 +88,10 @@ write_taken part kept wrapped d e bytes rest register w s going begun limit one 
     ticked part kept d.registers d.registers.clock h (length bytes) 8 m refl going before (idle_ticks part kept d.registers.clock h (length bytes) 8 (newest_within (length bytes) h before.places) begun limit before.clock) in
     let after : RegistersStandFor part kept e.registers longer m = write h m (next_at (length bytes) 8 h (omega arith) before.places) idle in
     let here : RegistersStandFor part kept e.registers longer (length all) = subst (λ (k : ℕ). RegistersStandFor part kept e.registers longer k) (sym count) after in
-    let stops : stop_in part kept all ≡ stopped_at (length all) e.registers.stop = ap (λ (x : History). stop_of part kept x (length all)) is.history ∙ here.stop in
+    let stops : first_stop_of_bytes part kept all ≡ stop_at_place (length all) e.registers.stop = ap (λ (x : History). first_stop_of_history part kept x (length all)) is.history ∙ here.stop in
     let taken : history_taken part kept all ≡ longer =
     ap (λ o. history_by o (history_of all)) stops
-    ∙ ap (history_by (stopped_at (length all) e.registers.stop)) (is.history ∙ sym (until_placed (length all) longer here.places))
+    ∙ ap (history_by (stop_at_place (length all) e.registers.stop)) (is.history ∙ sym (until_placed (length all) longer here.places))
     ∙ history_until e.registers.stop (length all) longer
     ∙ ap (λ (k : ℕ). until k longer) (counts (length all)) ∙ until_placed (length all) longer here.places in
     let known : reads_of part kept all ≡ reads_of part kept bytes = ap (read_out part kept) taken ∙ append-nil (read_out part kept h) ∙ ap (read_out part kept) (sym old) in (

@@ -7,13 +7,13 @@ use Rattle.x7_engine.specs.declared.fault.Fault.TheVariants as fault
 use Rattle.x7_engine.specs.declared.kept.Kept.{Kept}
 use Rattle.x7_engine.specs.declared.stop.StopCause.{StopCause}
 use Rattle.x7_engine.specs.declared.stop.StopCause.TheVariants as stop
-use Rattle.x7_engine.specs.Stop.{Stopped, why_at}
+use Rattle.x7_engine.specs.Stop.{Stopped, why_at_access}
 use Rattle.x7_engine.specs.Watching.{watchdog_fires}
 
 -- why the newest access stops a device, where it ends at byte n
 abbrev pub why_at_newest : PartData → Kept → History → ℕ → Option StopCause
 why_at_newest part kept [] n = None
-why_at_newest part kept (e ∷ h) n = if e.place == n then why_at part kept h e.access else None
+why_at_newest part kept (e ∷ h) n = if e.place == n then why_at_access part kept h e.access else None
 
 -- Why byte n stops a device, where it does, the first being byte 1: the watchdog fires there by the accesses before it,
 -- or else the access that ends there stops it.

@@ -21,8 +21,8 @@ use Rattle.x7_engine.specs.declared.until_started.UntilStarted.{UntilStarted}
 use Rattle.x7_engine.specs.declared.until_started.UntilStarted.TheVariants as until
 use Rattle.x7_engine.specs.ReadBuffer.{IsFull, ReadBufState, with_words}
 use Rattle.x7_engine.specs.Standing.{DeviceStandsFor, DeviceState, NoWordDue, due_count, due_of, taken_in, reads_given}
-use Rattle.x7_engine.specs.State.{history_taken, why_of, memory_in, reads_of, state_of, stop_in, taken_of}
-use Rattle.x7_engine.specs.Stop.{Stopped, stop_fault}
+use Rattle.x7_engine.specs.State.{history_taken, why_stopped, memory_in, reads_of, state_of, first_stop_of_bytes, taken_of}
+use Rattle.x7_engine.specs.Stop.{Stopped, fault_of_stop}
 use Rattle.x7_engine.specs.UntilStarted.{has_started, taken_until}
 
 -- a past: the part, what the last reset kept, whether the flash has ended since then, and the bytes taken since then
@@ -60,7 +60,7 @@ state_at p = state_of p.part p.kept p.wrapped p.bytes
 
 -- the first stop in the bytes of a past
 abbrev pub stop_at : Past → Option Stopped
-stop_at p = stop_in p.part p.kept p.bytes
+stop_at p = first_stop_of_bytes p.part p.kept p.bytes
 
 -- the words that a device of a past reads out
 abbrev pub reads_at : Past → List ℕ
@@ -94,7 +94,7 @@ started_at p = has_started p.part p.kept p.bytes
 
 -- the cause of a fallback that bytes come to
 abbrev pub cause_in : PartData → Kept → List ℕ → Option Cause
-cause_in part kept bytes = failure_of (stop_fault (why_of (stop_in part kept bytes))) false
+cause_in part kept bytes = failure_of (fault_of_stop (why_stopped (first_stop_of_bytes part kept bytes))) false
 
 -- an attempt of a boot
 abbrev pub IsBootAttempt : Kept → Type 0
@@ -117,7 +117,7 @@ pub record BootGoesOn (p : Past) : Type 0 where
   pub boots : IsBootAttempt p.kept
   pub not_started : ((state_at p).phase == last_phase) ≡ false
   pub not_failed : cause_in p.part p.kept p.bytes ≡ None
-  pub not_left : why_of (stop_at p) ≡ Some stop.Iprog → ⊥
+  pub not_left : why_stopped (stop_at p) ≡ Some stop.Iprog → ⊥
 
 -- ---- what a call does that takes bytes
 

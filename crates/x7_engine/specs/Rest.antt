@@ -12,14 +12,14 @@ use Rattle.x7_engine.specs.Kept.{is_fallback}
 use Rattle.x7_flow.specs.Controls.{ctl0_held}
 use Rattle.x7_engine.specs.Registers.{is_pending}
 use Rattle.x7_engine.specs.Startup.{phase_of, startup_progress}
-use Rattle.x7_engine.specs.State.{stop_in}
+use Rattle.x7_engine.specs.State.{first_stop_of_bytes}
 use Rattle.x7_regs.specs.Control.{forbids_reading}
 use Rattle.x7_engine.specs.Watching.{timer_held, turns_on}
 
 -- After these bytes there is no stop, and the sync word is searched. Startup hasn't begun or has ended, SBITS are 00,
 -- no shutdown is pending and no watchdog runs.
 pub record AtRest (part : PartData) (kept : Kept) (bytes : List ℕ) : Type 0 where
-  pub no_stop : stop_in part kept bytes ≡ None
+  pub no_stop : first_stop_of_bytes part kept bytes ≡ None
   pub searching : is_synced (reading_of bytes).place ≡ false
   pub startup : (startup_progress (history_of bytes) (length bytes) ≡ NotBegun) ⊎ (phase_of part (history_of bytes) (length bytes) ≡ last_phase)
   pub sbits : forbids_reading (ctl0_held (history_of bytes)) ≡ false

@@ -36,8 +36,8 @@ use Rattle.x7_engine.specs.Clock.{ClockState, IsClock, clock_in}
 use Rattle.x7_flow.specs.Controls.{has_idcode, masked_register}
 use Rattle.x7_flow.specs.FrameAccess.{reads_frame_data}
 use Rattle.x7_engine.specs.Registers.{has_ghigh, is_pending, word_held, wrote_iprog}
-use Rattle.x7_engine.specs.State.{reads_of, history_taken, last_counted, stop_in}
-use Rattle.x7_engine.specs.Stop.{stop_fault, stop_of, stopped_at}
+use Rattle.x7_engine.specs.State.{reads_of, history_taken, last_counted, first_stop_of_bytes}
+use Rattle.x7_engine.specs.Stop.{fault_of_stop, first_stop_of_history, stop_at_place}
 use Rattle.x7_engine.specs.Value.{failure_of}
 
 -- the stored registers under MASK: CTL0 and CTL1
@@ -172,7 +172,7 @@ pub record RegistersStandFor (part : PartData) (kept : Kept) (d : RegistersState
   pub kind : d.kind ≡ kept.kind
   pub before : d.before ≡ kept.before
   pub clock : IsClock part kept d.clock h n
-  pub stop : stop_of part kept h n ≡ stopped_at n d.stop
+  pub stop : first_stop_of_history part kept h n ≡ stop_at_place n d.stop
   pub frames : FramesAre part d.frames d.stop h (frames_due d.due)
   pub due_kind : frames_due d.due ≡ frames_among h (due_count d.due)
 
@@ -248,7 +248,7 @@ with_wrap d = record d { wrapped = true }
 pub record MayWrapWith (d : RegistersState) : Type 0 where
   pub boots : d.kind ≡ Bench → ⊥
   pub not_started : (d.clock.startup.phase == last_phase) ≡ false
-  pub not_failed : failure_of (stop_fault d.stop) false ≡ None
+  pub not_failed : failure_of (fault_of_stop d.stop) false ≡ None
   pub not_left : d.stop ≡ Some stop.Iprog → ⊥
   pub no_word_due : due_count d.due ≡ 0
 
@@ -274,7 +274,7 @@ pub record DeviceStandsFor (part : PartData) (kept : Kept) (wrapped : Bool) (d :
   pub part_is : d.part ≡ part
   pub wrapped_is : d.wrapped ≡ wrapped
   pub taken_is : d.taken ≡ length bytes
-  pub stop_is : stop_in part kept bytes ≡ stopped_at (length bytes) d.registers.stop
+  pub stop_is : first_stop_of_bytes part kept bytes ≡ stop_at_place (length bytes) d.registers.stop
   pub registers_are : RegistersStandFor part kept d.registers (history_taken part kept bytes) (length bytes)
   pub cutter_is : d.registers.stop ≡ None → IsCutterOf d.cutter bytes
   pub due_are : AreGivenOrDue part d.registers (history_taken part kept bytes) (reads_of part kept bytes)

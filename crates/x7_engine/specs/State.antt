@@ -21,12 +21,12 @@ use Rattle.x7_engine.specs.declared.stop.StopCause.{StopCause}
 use Rattle.x7_engine.specs.declared.stop.StopCause.TheVariants as stop
 use Rattle.x7_engine.specs.Registers.{word_held}
 use Rattle.x7_engine.specs.Startup.{phase_by, startup_progress}
-use Rattle.x7_engine.specs.Stop.{Stopped, stop_fault, stop_of}
+use Rattle.x7_engine.specs.Stop.{Stopped, fault_of_stop, first_stop_of_history}
 use Rattle.x7_engine.specs.Value.{attempt_of, lines_by, read_out, register_value}
 
 -- the first stop in the bytes, where there is one
-abbrev pub stop_in : PartData → Kept → List ℕ → Option Stopped
-stop_in part kept bytes = stop_of part kept (history_of bytes) (length bytes)
+abbrev pub first_stop_of_bytes : PartData → Kept → List ℕ → Option Stopped
+first_stop_of_bytes part kept bytes = first_stop_of_history part kept (history_of bytes) (length bytes)
 
 -- how many bytes are taken: all, or those up to the stop
 abbrev pub taken_by : Option Stopped → ℕ → ℕ
@@ -44,9 +44,9 @@ history_by None h = h
 history_by (Some s) h = until (last_counted s.why s.place) h
 
 -- why a stop came
-abbrev pub why_of : Option Stopped → Option StopCause
-why_of None = None
-why_of (Some s) = Some s.why
+abbrev pub why_stopped : Option Stopped → Option StopCause
+why_stopped None = None
+why_stopped (Some s) = Some s.why
 
 -- where the bytes taken end; an obeyed IPROG shows WBSTAR
 abbrev pub end_by : Option StopCause → Bool → ℕ → End
@@ -61,30 +61,30 @@ state_by c wrapped why synced = record {
   end = end_by why synced (word_held c.kept (number_of Wbstar) c.history);
   phase = phase_by c.part (startup_progress c.history c.taken);
   lines = lines_by c.part (startup_progress c.history c.taken);
-  crc = register_value c wrapped (stop_fault why) Crc;
-  far = register_value c wrapped (stop_fault why) Far;
-  cmd = register_value c wrapped (stop_fault why) Cmd;
-  ctl0 = register_value c wrapped (stop_fault why) Ctl0;
-  mask = register_value c wrapped (stop_fault why) Mask;
-  stat = register_value c wrapped (stop_fault why) Stat;
-  cor0 = register_value c wrapped (stop_fault why) Cor0;
-  idcode = register_value c wrapped (stop_fault why) Idcode;
-  axss = register_value c wrapped (stop_fault why) Axss;
-  cor1 = register_value c wrapped (stop_fault why) Cor1;
-  wbstar = register_value c wrapped (stop_fault why) Wbstar;
-  timer = register_value c wrapped (stop_fault why) Timer;
-  bootsts = register_value c wrapped (stop_fault why) Bootsts;
-  ctl1 = register_value c wrapped (stop_fault why) Ctl1;
-  bspi = register_value c wrapped (stop_fault why) Bspi;
+  crc = register_value c wrapped (fault_of_stop why) Crc;
+  far = register_value c wrapped (fault_of_stop why) Far;
+  cmd = register_value c wrapped (fault_of_stop why) Cmd;
+  ctl0 = register_value c wrapped (fault_of_stop why) Ctl0;
+  mask = register_value c wrapped (fault_of_stop why) Mask;
+  stat = register_value c wrapped (fault_of_stop why) Stat;
+  cor0 = register_value c wrapped (fault_of_stop why) Cor0;
+  idcode = register_value c wrapped (fault_of_stop why) Idcode;
+  axss = register_value c wrapped (fault_of_stop why) Axss;
+  cor1 = register_value c wrapped (fault_of_stop why) Cor1;
+  wbstar = register_value c wrapped (fault_of_stop why) Wbstar;
+  timer = register_value c wrapped (fault_of_stop why) Timer;
+  bootsts = register_value c wrapped (fault_of_stop why) Bootsts;
+  ctl1 = register_value c wrapped (fault_of_stop why) Ctl1;
+  bspi = register_value c wrapped (fault_of_stop why) Bspi;
 }
 
 -- how many of the bytes are taken
 abbrev pub taken_of : PartData → Kept → List ℕ → ℕ
-taken_of part kept bytes = taken_by (stop_in part kept bytes) (length bytes)
+taken_of part kept bytes = taken_by (first_stop_of_bytes part kept bytes) (length bytes)
 
 -- the history of the bytes that are taken
 abbrev pub history_taken : PartData → Kept → List ℕ → History
-history_taken part kept bytes = history_by (stop_in part kept bytes) (history_of bytes)
+history_taken part kept bytes = history_by (first_stop_of_bytes part kept bytes) (history_of bytes)
 
 -- the course of a device after these bytes
 abbrev pub course_in : PartData → Kept → List ℕ → Course
@@ -93,7 +93,7 @@ course_in part kept bytes = course_at part kept (history_taken part kept bytes) 
 -- the state of a device after these bytes, whose attempt the end of the flash has wrapped or not
 abbrev pub state_of : PartData → Kept → Bool → List ℕ → Regs
 state_of part kept wrapped bytes =
-    state_by (course_in part kept bytes) wrapped (why_of (stop_in part kept bytes)) (is_synced (reading_of bytes).place)
+    state_by (course_in part kept bytes) wrapped (why_stopped (first_stop_of_bytes part kept bytes)) (is_synced (reading_of bytes).place)
 
 -- the word of BOOTSTS after these bytes
 abbrev pub bootsts_in : PartData → Kept → Bool → List ℕ → ℕ
@@ -101,7 +101,7 @@ bootsts_in part kept wrapped bytes = (state_of part kept wrapped bytes).bootsts
 
 -- the present boot attempt, with what it failed by
 abbrev pub attempt_in : PartData → Kept → Bool → List ℕ → Attempt
-attempt_in part kept wrapped bytes = attempt_of kept wrapped (stop_fault (why_of (stop_in part kept bytes))) (history_taken part kept bytes)
+attempt_in part kept wrapped bytes = attempt_of kept wrapped (fault_of_stop (why_stopped (first_stop_of_bytes part kept bytes))) (history_taken part kept bytes)
 
 -- what a next attempt of this kind keeps: WBSTAR, TIMER and BSPI as they are, and this attempt as the one before
 abbrev pub kept_after : PartData → Kept → Bool → List ℕ → Kind → Kept

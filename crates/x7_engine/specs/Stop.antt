@@ -40,10 +40,10 @@ why_by_write part kept h register w =
     if register == number_of reg.Cmd && (command_code_of w == code_of command.Iprog && not (is_fallback kept.kind)) then Some stop.Iprog else None
 
 -- why an access after this history stops a device, where it does, the faults of frames left out
-abbrev pub why_by_access : PartData → Kept → History → Access → Option StopCause
-why_by_access part kept h (Write register w) = why_by_write part kept h register w
-why_by_access part kept h (Read register count) = None
-why_by_access part kept h (Bad w) = Some (stop.Fault (fault.Packet w))
+abbrev pub why_besides_frames : PartData → Kept → History → Access → Option StopCause
+why_besides_frames part kept h (Write register w) = why_by_write part kept h register w
+why_besides_frames part kept h (Read register count) = None
+why_besides_frames part kept h (Bad w) = Some (stop.Fault (fault.Packet w))
 
 -- the stop by a refused word, copy or read of frame data
 abbrev pub stop_of_refused : RunFault → StopCause
@@ -57,18 +57,14 @@ why_by_frames None = None
 why_by_frames (Some fault) = Some (stop_of_refused fault)
 
 -- why an access after this history stops a device, where it does
-abbrev pub why_at : PartData → Kept → History → Access → Option StopCause
-why_at part kept h access = option_or (why_by_access part kept h access) (why_by_frames (frame_fault part h access))
+abbrev pub why_at_access : PartData → Kept → History → Access → Option StopCause
+why_at_access part kept h access = option_or (why_besides_frames part kept h access) (why_by_frames (frame_fault part h access))
 
--- the fault of a stop
-abbrev pub fault_in : StopCause → Option Fault
-fault_in (stop.Fault f) = Some f
-fault_in stop.Iprog = None
-
--- the fault of a stop, where there is one
-abbrev pub stop_fault : Option StopCause → Option Fault
-stop_fault None = None
-stop_fault (Some why) = fault_in why
+-- the fault that stopped a device, where one did
+abbrev pub fault_of_stop : Option StopCause → Option Fault
+fault_of_stop None = None
+fault_of_stop (Some (stop.Fault f)) = Some f
+fault_of_stop (Some stop.Iprog) = None
 
 -- the number of bytes taken at a stop, and why it came
 pub record Stopped : Type 0 where
@@ -76,18 +72,18 @@ pub record Stopped : Type 0 where
   pub why : StopCause
 
 -- a stop at this place, where one came
-abbrev pub stopped_at : ℕ → Option StopCause → Option Stopped
-stopped_at place None = None
-stopped_at place (Some why) = Some (record { place = place; why = why })
+abbrev pub stop_at_place : ℕ → Option StopCause → Option Stopped
+stop_at_place place None = None
+stop_at_place place (Some why) = Some (record { place = place; why = why })
 
 -- the stop at the place where the watchdog fires, where it does
-abbrev pub stopped_by_watchdog : Option ℕ → Option Stopped
-stopped_by_watchdog None = None
-stopped_by_watchdog (Some place) = Some (record { place = place; why = stop.Fault fault.Watchdog })
+abbrev pub stop_at_firing : Option ℕ → Option Stopped
+stop_at_firing None = None
+stop_at_firing (Some place) = Some (record { place = place; why = stop.Fault fault.Watchdog })
 
 -- The first stop of a history with n bytes taken. At each byte the watchdog comes before the access that ends there.
-abbrev pub stop_of : PartData → Kept → History → ℕ → Option Stopped
-stop_of part kept [] n = stopped_by_watchdog (first_firing part kept [] 0 n)
-stop_of part kept (e ∷ h) n =
-    option_or (stop_of part kept h e.place)
-    (option_or (stopped_at e.place (why_at part kept h e.access)) (stopped_by_watchdog (first_firing part kept (e ∷ h) e.place (n - e.place))))
+abbrev pub first_stop_of_history : PartData → Kept → History → ℕ → Option Stopped
+first_stop_of_history part kept [] n = stop_at_firing (first_firing part kept [] 0 n)
+first_stop_of_history part kept (e ∷ h) n =
+    option_or (first_stop_of_history part kept h e.place)
+    (option_or (stop_at_place e.place (why_at_access part kept h e.access)) (stop_at_firing (first_firing part kept (e ∷ h) e.place (n - e.place))))

@@ -27,7 +27,7 @@ use Rattle.x7_engine.specs.Kept.{is_fallback}
 use Rattle.x7_flow.specs.Controls.{ctl0_held, mask_held, masked_register}
 use Rattle.x7_engine.specs.Registers.{has_ghigh, word_held, wrote_iprog}
 use Rattle.x7_engine.specs.Startup.{phase_by, startup_progress}
-use Rattle.x7_engine.specs.Stop.{why_at}
+use Rattle.x7_engine.specs.Stop.{why_at_access}
 
 -- the fault is Crc
 abbrev pub is_crc_fault : Option Fault → Bool
@@ -131,7 +131,7 @@ words_of_read c register count =
 -- the words that an access after this history reads out
 abbrev pub words_read_by : PartData → Kept → History → Access → ℕ → List ℕ
 words_read_by part kept h (Write register w) n = []
-words_read_by part kept h (Read register count) n = if is_some (why_at part kept h (Read register count)) then [] else words_of_read (course_at part kept h n) register count
+words_read_by part kept h (Read register count) n = if is_some (why_at_access part kept h (Read register count)) then [] else words_of_read (course_at part kept h n) register count
 words_read_by part kept h (Bad w) n = []
 
 -- all words that a history reads out, in order

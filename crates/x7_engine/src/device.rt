@@ -10,8 +10,8 @@ ghost use Rattle.x7_engine.specs.Kept.{on_the_bench};
 ghost use Rattle.x7_engine.specs.Readout.{DeviceGaveWords};
 ghost use Rattle.x7_engine.specs.ReadBuffer.{HoldsWithinMost, IsFull};
 ghost use Rattle.x7_engine.specs.Standing.{CanBeGiven, DeviceStandsFor, HasStopped, MayWrap, NoWordDue, due_count, answer_at_stop, fed_more, fed_of, frames_due, taken_in, with_wrap};
-ghost use Rattle.x7_engine.specs.State.{attempt_in, end_by, kept_after, why_of, memory_in, state_owing};
-ghost use Rattle.x7_engine.specs.Stop.{stop_fault};
+ghost use Rattle.x7_engine.specs.State.{attempt_in, end_by, kept_after, why_stopped, memory_in, state_owing};
+ghost use Rattle.x7_engine.specs.Stop.{fault_of_stop};
 ghost use Rattle.x7_engine.specs.Turns.{MayTakePiece, TurnAnswers, TurnMoves};
 ghost use Rattle.x7_engine.specs.Value.{failure_of};
 ghost use Rattle.x7_engine.specs.declared.fault.Fault.{Fault as FaultData};
@@ -400,7 +400,7 @@ impl Device {
 
     /// The fault that stopped the device.
     pub fn fault(&self) -> Option<Fault>
-        ensures { OfPast self.now (λ p. result ≡ stop_fault (why_of (stop_at p))) }
+        ensures { OfPast self.now (λ p. result ≡ fault_of_stop (why_stopped (stop_at p))) }
     {
         match self.registers.stop() {
             Some(StopCause::Fault(fault)) => Some(fault),

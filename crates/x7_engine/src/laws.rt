@@ -21,8 +21,8 @@ ghost use Rattle.x7_engine.specs.Rest.{AtRest, LastGapGoesOn};
 ghost use Rattle.x7_engine.specs.Sequence.{StartupBegins, HasGhigh, IsPending};
 ghost use Rattle.x7_engine.specs.Standing.{DeviceState, NoWordDue};
 ghost use Rattle.x7_engine.specs.Startup.{phase_of, startup_progress};
-ghost use Rattle.x7_engine.specs.State.{memory_in, reads_of, state_of, stop_in, bootsts_in};
-ghost use Rattle.x7_engine.specs.Stop.{Stopped, why_at};
+ghost use Rattle.x7_engine.specs.State.{memory_in, reads_of, state_of, first_stop_of_bytes, bootsts_in};
+ghost use Rattle.x7_engine.specs.Stop.{Stopped, why_at_access};
 ghost use Rattle.x7_engine.specs.Timeout.{before_byte, times_out_at};
 ghost use Rattle.x7_engine.specs.Watching.{watchdog_fires};
 ghost use Rattle.x7_engine.specs.declared.kept.Kept.{Kept};
@@ -30,7 +30,7 @@ ghost use Rattle.x7_engine.specs.declared.kept.Kept.{Kept};
 /// The stop of bytes is the first one: it comes at one of them, fewer bytes have none, and with further bytes the stop,
 /// the state, the memory and the words read out stay.
 pub fn stops_are_final()
-    ensures place { (part : PartData) (kept : Kept) (bytes : List ℕ) (s : Stopped) → AreBytes bytes → stop_in part kept bytes ≡ Some s
+    ensures place { (part : PartData) (kept : Kept) (bytes : List ℕ) (s : Stopped) → AreBytes bytes → first_stop_of_bytes part kept bytes ≡ Some s
         → (0 < s.place) × (s.place ≤ length bytes) }
     ensures before { (p : Past) (more : List ℕ) (s : Stopped) → AreBytes (p.bytes ++ more) → stop_at (later p more) ≡ Some s
         → length p.bytes < s.place → stop_at p ≡ None }
@@ -68,9 +68,9 @@ pub fn startup_begins()
 /// The stop of bytes is just the first one: its byte stops the device, and no byte before it. Where there is none, no
 /// byte does.
 pub fn stops_are_first()
-    ensures first { (part : PartData) (kept : Kept) (bytes : List ℕ) (s : Stopped) → AreBytes bytes → stop_in part kept bytes ≡ Some s → IsFirstStop part kept bytes s }
-    ensures found { (part : PartData) (kept : Kept) (bytes : List ℕ) (s : Stopped) → AreBytes bytes → IsFirstStop part kept bytes s → stop_in part kept bytes ≡ Some s }
-    ensures no_stop { (part : PartData) (kept : Kept) (bytes : List ℕ) (n : ℕ) → AreBytes bytes → stop_in part kept bytes ≡ None → 0 < n → n ≤ length bytes
+    ensures first { (part : PartData) (kept : Kept) (bytes : List ℕ) (s : Stopped) → AreBytes bytes → first_stop_of_bytes part kept bytes ≡ Some s → IsFirstStop part kept bytes s }
+    ensures found { (part : PartData) (kept : Kept) (bytes : List ℕ) (s : Stopped) → AreBytes bytes → IsFirstStop part kept bytes s → first_stop_of_bytes part kept bytes ≡ Some s }
+    ensures no_stop { (part : PartData) (kept : Kept) (bytes : List ℕ) (n : ℕ) → AreBytes bytes → first_stop_of_bytes part kept bytes ≡ None → 0 < n → n ≤ length bytes
         → why_at_byte part kept bytes n ≡ None }
 {}
 
@@ -88,7 +88,7 @@ pub fn checks_before_startup()
     ensures started { (p : Past) → AreBytes p.bytes → 0 < (state_at p).phase → HasStartAndDesync p.part.idcode (history_at p) (taken_at p) }
     ensures checks { (p : Past) (w place : ℕ) (older : History) → StandsBefore p (word_to Crc w) place older → w ≡ running_check older }
     ensures idcodes { (p : Past) (w place : ℕ) (older : History) → StandsBefore p (word_to Idcode w) place older → IsTrue (same_idcode p.part.idcode w) }
-    ensures no_stop { (p : Past) (access : Access) (place : ℕ) (older : History) → StandsBefore p access place older → why_at p.part p.kept older access ≡ None }
+    ensures no_stop { (p : Past) (access : Access) (place : ℕ) (older : History) → StandsBefore p access place older → why_at_access p.part p.kept older access ≡ None }
 {}
 
 /// A device at rest stays so over bytes without a sync word, which enter no access; and a new one is at rest.
@@ -123,7 +123,7 @@ pub fn wraps_show_in_bootsts()
 /// Bytes that ask the same at the same places, as those after two gaps do, bring a
 /// device to the same stop, state and memory.
 pub fn alike_bytes_do_alike()
-    ensures stop { (part : PartData) (kept : Kept) (one other : List ℕ) → AreAlike one other → stop_in part kept one ≡ stop_in part kept other }
+    ensures stop { (part : PartData) (kept : Kept) (one other : List ℕ) → AreAlike one other → first_stop_of_bytes part kept one ≡ first_stop_of_bytes part kept other }
     ensures memory { (part : PartData) (kept : Kept) (one other : List ℕ) → AreAlike one other → memory_in part kept one ≡ memory_in part kept other }
     ensures state { (part : PartData) (kept : Kept) (one other : List ℕ) → AreAlike one other → (wrapped : Bool)
         → state_of part kept wrapped one ≡ state_of part kept wrapped other }
@@ -132,7 +132,7 @@ pub fn alike_bytes_do_alike()
 /// A fallback does the same whatever its device kept over the reset: it has no watchdog, and kept
 /// words show in their own registers alone.
 pub fn fallbacks_do_alike()
-    ensures stop { (part : PartData) (one other : Kept) (bytes : List ℕ) → AreFallbacks one other → stop_in part one bytes ≡ stop_in part other bytes }
+    ensures stop { (part : PartData) (one other : Kept) (bytes : List ℕ) → AreFallbacks one other → first_stop_of_bytes part one bytes ≡ first_stop_of_bytes part other bytes }
     ensures memory { (part : PartData) (one other : Kept) (bytes : List ℕ) → AreFallbacks one other → memory_in part one bytes ≡ memory_in part other bytes }
     ensures registers { (part : PartData) (one other : Kept) (bytes : List ℕ) → AreFallbacks one other → (wrapped : Bool)
         → without_kept (state_of part one wrapped bytes) ≡ without_kept (state_of part other wrapped bytes) }
@@ -142,7 +142,7 @@ pub fn fallbacks_do_alike()
 /// stop nothing, and startup doesn't begin.
 pub fn fallbacks_wait_for_the_sync_word()
     ensures stop { (part : PartData) (kept : Kept) (bytes : List ℕ) → AreBytes bytes → is_fallback kept.kind ≡ true → HasNoSync bytes
-        → stop_in part kept bytes ≡ None }
+        → first_stop_of_bytes part kept bytes ≡ None }
     ensures phase { (part : PartData) (kept : Kept) (wrapped : Bool) (bytes : List ℕ) → AreBytes bytes → is_fallback kept.kind ≡ true → HasNoSync bytes
         → (state_of part kept wrapped bytes).phase ≡ 0 }
 {}

@@ -13,7 +13,7 @@ ghost use Rattle.x7_crc.specs.RunningCheck.{executed_after};
 ghost use Rattle.x7_engine.specs.WordCalls.{MayTakeWords, LeavesBytes, LeavesDue, HasNoneDueAtStop};
 ghost use Rattle.x7_engine.specs.Standing.{counted_in, due_count};
 ghost use Rattle.x7_engine.specs.State.{last_counted};
-ghost use Rattle.x7_engine.specs.Stop.{why_by_access, why_by_frames, stop_of_refused};
+ghost use Rattle.x7_engine.specs.Stop.{why_besides_frames, why_by_frames, stop_of_refused};
 ghost use Rattle.x7_engine.specs.Taken.{TookFirstWords, TookWords, TookWrite};
 ghost use Rattle.x7_engine.specs.Targets.{target_number};
 ghost use Rattle.x7_engine.specs.Entering.{AreRead, change_of, EntersHistory, EntersHistoryAt, EntersHistoryIf, OfHistory, ReadsIf, RunEnters, RunReads, step_entered, up_to_stop, word_entered};
@@ -176,7 +176,7 @@ impl Registers {
         executed: Option<u8>,
     ) -> Option<StopCause>
         ensures value { OfHistory part.now (registers_in self.now) (λ kept h n. executed ≡ executed_after h reg word
-            → result ≡ why_by_access part.now kept h (word_to reg word)) }
+            → result ≡ why_besides_frames part.now kept h (word_to reg word)) }
         ensures counts { (n : ℕ) → counted_in result n ≡ n }
     {
         let idcode = part.idcode();

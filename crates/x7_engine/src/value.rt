@@ -8,7 +8,7 @@ ghost use Rattle.x7_engine.specs.Kept.{is_fallback};
 ghost use Rattle.x7_engine.specs.Registers.{has_ghigh};
 ghost use Rattle.x7_engine.specs.Standing.{due_count, frames_due};
 ghost use Rattle.x7_engine.specs.Startup.{startup_progress};
-ghost use Rattle.x7_engine.specs.Stop.{stop_fault};
+ghost use Rattle.x7_engine.specs.Stop.{fault_of_stop};
 ghost use Rattle.x7_engine.specs.Value.{attempt_of, failure_of, check_shown, is_crc_fault, is_id_fault, read_value, stat_parts, value_owing};
 
 use crate::fault::Fault;
@@ -21,7 +21,7 @@ use x7_regs::{
 
 /// Whether the stop is the fault `Crc`.
 fn is_crc_fault(stop: Option<StopCause>) -> bool
-    ensures { result ≡ is_crc_fault (stop_fault stop) }
+    ensures { result ≡ is_crc_fault (fault_of_stop stop) }
 {
     match stop {
         Some(StopCause::Fault(Fault::Crc { .. })) => true,
@@ -31,7 +31,7 @@ fn is_crc_fault(stop: Option<StopCause>) -> bool
 
 /// Whether the stop is the fault `Id`.
 fn is_id_fault(stop: Option<StopCause>) -> bool
-    ensures { result ≡ is_id_fault (stop_fault stop) }
+    ensures { result ≡ is_id_fault (fault_of_stop stop) }
 {
     match stop {
         Some(StopCause::Fault(Fault::Id { .. })) => true,
@@ -41,7 +41,7 @@ fn is_id_fault(stop: Option<StopCause>) -> bool
 
 /// What an attempt with this stop failed by, if it did.
 fn failure_in(stop: Option<StopCause>) -> Option<Cause>
-    ensures { result ≡ failure_of (stop_fault stop) false }
+    ensures { result ≡ failure_of (fault_of_stop stop) false }
 {
     match stop {
         Some(StopCause::Fault(Fault::Id { .. })) => Some(Cause::Id),
@@ -67,7 +67,7 @@ impl Registers {
 
     /// The running check; at a fault `Crc` the one that was wanted.
     fn check_shown(&self) -> u32
-        ensures { (part : PartData) → OfHistory part (registers_in self.now) (λ kept h n. result ≡ check_shown (stop_fault self.now.stop) h) }
+        ensures { (part : PartData) → OfHistory part (registers_in self.now) (λ kept h n. result ≡ check_shown (fault_of_stop self.now.stop) h) }
     {
         match self.stop {
             Some(StopCause::Fault(Fault::Crc { want, .. })) => want,
@@ -78,7 +78,7 @@ impl Registers {
     /// The word of STAT.
     fn stat(&self, part: &Part) -> u32
         ensures { OfHistory part.now (registers_in self.now)
-            (λ kept h n. result ≡ status_of (stat_parts part.now (stop_fault self.now.stop) (startup_progress h n) (has_ghigh h))) }
+            (λ kept h n. result ≡ status_of (stat_parts part.now (fault_of_stop self.now.stop) (startup_progress h n) (has_ghigh h))) }
     {
         let crc_error = is_crc_fault(self.stop);
         let lines = self.clock.lines();
@@ -101,7 +101,7 @@ impl Registers {
 
     /// The present boot attempt, as long as the flash goes on.
     pub(crate) fn attempt(&self) -> Attempt
-        ensures { (part : PartData) → OfHistory part (registers_in self.now) (λ kept h n. result ≡ attempt_of kept false (stop_fault self.now.stop) h) }
+        ensures { (part : PartData) → OfHistory part (registers_in self.now) (λ kept h n. result ≡ attempt_of kept false (fault_of_stop self.now.stop) h) }
     {
         Attempt {
             kind: self.kind,
@@ -121,7 +121,7 @@ impl Registers {
     #[rattlefmt::skip]
     pub(crate) fn value(&self, part: &Part, reg: Reg) -> u32
         ensures { OfHistory part.now (registers_in self.now)
-            (λ kept h n. result ≡ value_owing (course_at part.now kept h n) (stop_fault self.now.stop) (frames_due self.now.due) reg) }
+            (λ kept h n. result ≡ value_owing (course_at part.now kept h n) (fault_of_stop self.now.stop) (frames_due self.now.due) reg) }
     {
         match reg {
             Reg::Crc     => self.check_shown(),

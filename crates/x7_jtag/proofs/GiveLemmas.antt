@@ -13,7 +13,7 @@ use Rattle.x7_engine.specs.Kept.{on_the_bench}
 use Rattle.x7_engine.specs.Past.{AnswersAt, past_of}
 use Rattle.x7_engine.specs.ReadBuffer.{HoldsWithinMost, ReadBufState, no_room, with_words}
 use Rattle.x7_engine.specs.Standing.{DeviceStandsFor, DeviceState, NoWordDue, taken_in}
-use Rattle.x7_engine.specs.State.{reads_of, stop_in}
+use Rattle.x7_engine.specs.State.{reads_of, first_stop_of_bytes}
 use Rattle.x7_engine.specs.UntilRead.{RoomBefore}
 use Rattle.x7_engine.proofs.ReadsLemmas.{reads_grow}
 use Rattle.x7_jtag.specs.Port.{words_read_out}
@@ -53,14 +53,14 @@ prefix_bytes n xs f = all_prefix (λ b. b < 256) (take n xs) (drop n xs) (subst 
 
 -- where all is given
 module _ (part : PartData) (given bytes piece : List ℕ) (t : ℕ) where
-  took_piece : (count : ℕ) → AreBytes piece → t ≤ count → count ≤ length piece → TookOfGiven part given bytes → (IsSome (stop_in part on_the_bench bytes) → t ≡ 0) → IsSome (stop_in part on_the_bench (bytes ++ take t piece)) ⊎ (t ≡ count)
+  took_piece : (count : ℕ) → AreBytes piece → t ≤ count → count ≤ length piece → TookOfGiven part given bytes → (IsSome (first_stop_of_bytes part on_the_bench bytes) → t ≡ 0) → IsSome (first_stop_of_bytes part on_the_bench (bytes ++ take t piece)) ⊎ (t ≡ count)
       → TookOfGiven part (given ++ take count piece) (bytes ++ take t piece)
   took_piece count f l m took z over =
       let prefix : List ℕ = take count piece in
       let same : take t prefix ≡ take t piece = take-take t count piece l in
       let long : length prefix ≡ count = length-take-le count piece m in
-      let ends : IsSome (stop_in part on_the_bench (bytes ++ take t prefix)) ⊎ (t ≡ length prefix) = elim over [
-        | inl s ↦ inl (subst (λ (x : List ℕ). IsSome (stop_in part on_the_bench (bytes ++ x))) (sym same) s)
+      let ends : IsSome (first_stop_of_bytes part on_the_bench (bytes ++ take t prefix)) ⊎ (t ≡ length prefix) = elim over [
+        | inl s ↦ inl (subst (λ (x : List ℕ). IsSome (first_stop_of_bytes part on_the_bench (bytes ++ x))) (sym same) s)
         | inr e ↦ inr (e ∙ sym long)
       ] in
       subst (λ (x : List ℕ). TookOfGiven part (given ++ prefix) (bytes ++ x)) same (took_more part given bytes prefix t (prefix_bytes count piece f) took z ends)
@@ -100,10 +100,10 @@ quiet_before part given bytes piece words n m is before k l =
     omega (arith, ap (λ (b : List ℕ). length (reads_of part on_the_bench b)) same, ap length r.1, length-append words r.0, none)
 
 -- a device that took a byte had no stop, so all that was given was taken
-given_is : (part : PartData) (given bytes : List ℕ) (n : ℕ) → (t : TookOfGiven part given bytes) → (IsSome (stop_in part on_the_bench bytes) → n ≡ 0) → 0 < n → given ≡ bytes
+given_is : (part : PartData) (given bytes : List ℕ) (n : ℕ) → (t : TookOfGiven part given bytes) → (IsSome (first_stop_of_bytes part on_the_bench bytes) → n ≡ 0) → 0 < n → given ≡ bytes
 given_is part given bytes n t z l = by t.over
   where
-    by : (t.rest ≡ []) ⊎ IsSome (stop_in part on_the_bench bytes) → given ≡ bytes
+    by : (t.rest ≡ []) ⊎ IsSome (first_stop_of_bytes part on_the_bench bytes) → given ≡ bytes
     by (inl e) = t.parts ∙ ap (λ r. bytes ++ r) e ∙ append-nil bytes
     by (inr s) = absurd (omega (arith, z s, l))
 
@@ -116,8 +116,8 @@ record Given (part : PartData) (k : QueueState) (d e : DeviceState) (q : Queue) 
 
 module _ (part : PartData) (k : QueueState) (d e : DeviceState) (q : Queue) (piece : List ℕ) where
   given_whole : (t : ℕ) → (s : QueueStandsFor part k d q) → k.bits_left ≡ 0 → AreBytes piece → t ≤ length piece → DeviceStandsFor part on_the_bench false e (s.holds.bytes ++ take t piece)
-      → NoWordDue e → IsSome (stop_in part on_the_bench (s.holds.bytes ++ take t piece)) ⊎ (t ≡ length piece)
-      → words_taken part e (s.holds.bytes ++ take t piece) ≡ words_taken part d s.holds.bytes → (IsSome (stop_in part on_the_bench s.holds.bytes) → t ≡ 0) → Given part k d e q piece (length piece)
+      → NoWordDue e → IsSome (first_stop_of_bytes part on_the_bench (s.holds.bytes ++ take t piece)) ⊎ (t ≡ length piece)
+      → words_taken part e (s.holds.bytes ++ take t piece) ≡ words_taken part d s.holds.bytes → (IsSome (first_stop_of_bytes part on_the_bench s.holds.bytes) → t ≡ 0) → Given part k d e q piece (length piece)
   given_whole t s z f l stands due over same stopped =
       let h : QueueHolds part k d q = s.holds in
       let took : TookOfGiven part (q.given ++ take (length piece) piece) (h.bytes ++ take t piece) = took_piece part q.given h.bytes piece t (length piece) f l (omega arith) h.took stopped over in
@@ -128,7 +128,7 @@ module _ (part : PartData) (k : QueueState) (d e : DeviceState) (q : Queue) (pie
       }
 
   given_prefix : (n : ℕ) → (s : QueueStandsFor part k d q) → k.bits_left ≡ 0 → AreBytes piece → n ≤ length piece → DeviceStandsFor part on_the_bench false e (s.holds.bytes ++ take n piece)
-      → words_taken part e (s.holds.bytes ++ take n piece) ≡ words_taken part d s.holds.bytes → (IsSome (stop_in part on_the_bench s.holds.bytes) → n ≡ 0)
+      → words_taken part e (s.holds.bytes ++ take n piece) ≡ words_taken part d s.holds.bytes → (IsSome (first_stop_of_bytes part on_the_bench s.holds.bytes) → n ≡ 0)
       → RoomBefore (record { part = part; kept = on_the_bench; wrapped = false; bytes = s.holds.bytes }) piece n (words_taken part d s.holds.bytes) no_room → Given part k d e q piece n
   given_prefix n s z f l stands same stopped before =
       let h : QueueHolds part k d q = s.holds in
@@ -147,7 +147,7 @@ module _ (part : PartData) (k : QueueState) (d e : DeviceState) (q : Queue) (pie
       → AnswersAt (past_of part on_the_bench false (s.holds.bytes ++ take (taken_in (length piece) f) piece)) e read f
       → words_taken part e (s.holds.bytes ++ take (taken_in (length piece) f) piece) ≡ words_taken part d s.holds.bytes
       → RoomBefore (record { part = part; kept = on_the_bench; wrapped = false; bytes = s.holds.bytes }) piece (taken_in (length piece) f) (words_taken part d s.holds.bytes) no_room
-      → (IsSome (stop_in part on_the_bench s.holds.bytes) → taken_in (length piece) f ≡ 0) → Given part k d e q piece (given_by f (length piece))
+      → (IsSome (first_stop_of_bytes part on_the_bench s.holds.bytes) → taken_in (length piece) f ≡ 0) → Given part k d e q piece (given_by f (length piece))
   given_by_is fed.All read s z b l stands a same before stopped = given_whole (length piece) s z b l stands a.1 (inr refl) same stopped
   given_by_is (fed.Stopped n) read s z b l stands a same before stopped = given_whole n s z b l stands a.2 (inl (ap is_some a.1)) same stopped
   given_by_is (fed.Iprog n) read s z b l stands a same before stopped = given_whole n s z b l stands a.1 (inl (ap is_some a.0)) same stopped
@@ -166,7 +166,7 @@ pub gives : (part : PartData) (k n : QueueState) (d e g : DeviceState) (q : Queu
     → AnswersAt (past_of part on_the_bench false (s.holds.bytes ++ take (taken_in (length piece) f) piece)) e read f
     → words_taken part e (s.holds.bytes ++ take (taken_in (length piece) f) piece) ≡ words_taken part d s.holds.bytes
     → RoomBefore (record { part = part; kept = on_the_bench; wrapped = false; bytes = s.holds.bytes }) piece (taken_in (length piece) f) (words_taken part d s.holds.bytes) no_room
-    → (IsSome (stop_in part on_the_bench s.holds.bytes) → (e ≡ d) × (taken_in (length piece) f ≡ 0)) → count ≡ given_by f (length piece)
+    → (IsSome (first_stop_of_bytes part on_the_bench s.holds.bytes) → (e ≡ d) × (taken_in (length piece) f ≡ 0)) → count ≡ given_by f (length piece)
     → ((given held : List ℕ) (out : ℕ) → QueueHolds part k e (queue_of given held out) → QueueStandsFor part n g (queue_of (given ++ []) held out))
     → QueueStandsFor part n g (fold (offered (words_read_out part)) q (take count piece))
 gives part k n d e g q piece read f count s z b l stands a same before stopped is next =

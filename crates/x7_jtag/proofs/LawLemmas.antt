@@ -9,8 +9,8 @@ use Rattle.x7_engine.specs.declared.stop.StopCause.{StopCause}
 use Rattle.x7_engine.specs.Kept.{on_the_bench}
 use Rattle.x7_packets.specs.History.{History}
 use Rattle.x7_engine.specs.Standing.{DeviceStandsFor, DeviceState, due_count, frames_among, frames_due, words_still_due}
-use Rattle.x7_engine.specs.State.{history_taken, reads_of, state_owing, stop_in, taken_by, taken_of}
-use Rattle.x7_engine.specs.Stop.{Stopped, stopped_at}
+use Rattle.x7_engine.specs.State.{history_taken, reads_of, state_owing, first_stop_of_bytes, taken_by, taken_of}
+use Rattle.x7_engine.specs.Stop.{Stopped, stop_at_place}
 use Rattle.x7_engine.proofs.FrameLemmas.{length_left}
 use Rattle.x7_engine.proofs.StateLemmas.{stop_is_final_stop}
 use Rattle.x7_jtag.specs.Port.{port_after, words_read_out}
@@ -20,27 +20,27 @@ use Rattle.x7_jtag.specs.Queue.{queue_of}
 use Rattle.x7_jtag.specs.Tap.{QueueHolds, TapStandsFor, TapState, TookOfGiven, words_taken, QueueState, QueueStandsFor}
 use Rattle.x7_jtag.proofs.TookLemmas.{reads_took}
 
-place_of : (n : ℕ) (line : Option StopCause) (s : Stopped) → stopped_at n line ≡ Some s → s.place ≡ n
+place_of : (n : ℕ) (line : Option StopCause) (s : Stopped) → stop_at_place n line ≡ Some s → s.place ≡ n
 place_of n None s e = absurd (let b : false ≡ true = ap is_some e in cc)
 place_of n (Some line) s e = let P : Option Stopped → ℕ = λ o. elim o as (λ x. ℕ) [ None ↦ n | Some t ↦ t.place ] in sym (ap P e)
 
 -- the bytes taken are the first of those given, up to the stop
-took_by : (part : PartData) (given bytes : List ℕ) (d : DeviceState) (t : TookOfGiven part given bytes) → DeviceStandsFor part on_the_bench false d bytes → (o : Option Stopped) → stop_in part on_the_bench bytes ≡ o → (t.rest ≡ []) ⊎ IsSome (stop_in part on_the_bench bytes)
+took_by : (part : PartData) (given bytes : List ℕ) (d : DeviceState) (t : TookOfGiven part given bytes) → DeviceStandsFor part on_the_bench false d bytes → (o : Option Stopped) → first_stop_of_bytes part on_the_bench bytes ≡ o → (t.rest ≡ []) ⊎ IsSome (first_stop_of_bytes part on_the_bench bytes)
     → bytes ≡ take (taken_of part on_the_bench given) given
 took_by part given bytes d t s None e (inl r) =
     let whole : given ≡ bytes = t.parts ∙ ap (λ x. bytes ++ x) r ∙ append-nil bytes in
-    let none : stop_in part on_the_bench given ≡ None = ap (stop_in part on_the_bench) whole ∙ e in
+    let none : first_stop_of_bytes part on_the_bench given ≡ None = ap (first_stop_of_bytes part on_the_bench) whole ∙ e in
     let all : taken_of part on_the_bench given ≡ length given = ap (λ (o : Option Stopped). taken_by o (length given)) none in
     sym whole ∙ sym (ap (λ (n : ℕ). take n given) all ∙ take-length given)
 took_by part given bytes d t s None e (inr x) = absurd (let b : false ≡ true = sym (ap is_some e) ∙ x in cc)
 took_by part given bytes d t s (Some stop) e over =
     let place : stop.place ≡ length bytes = place_of (length bytes) d.registers.stop stop (sym s.stop_is ∙ e) in
-    let stops : stop_in part on_the_bench given ≡ Some stop = ap (stop_in part on_the_bench) t.parts ∙ stop_is_final_stop part on_the_bench bytes t.rest stop (subst AreBytes t.parts t.fits) e in
+    let stops : first_stop_of_bytes part on_the_bench given ≡ Some stop = ap (first_stop_of_bytes part on_the_bench) t.parts ∙ stop_is_final_stop part on_the_bench bytes t.rest stop (subst AreBytes t.parts t.fits) e in
     let count : taken_of part on_the_bench given ≡ length bytes = ap (λ (o : Option Stopped). taken_by o (length given)) stops ∙ place in
     sym (ap (λ (n : ℕ). take n given) count ∙ ap (take (length bytes)) t.parts ∙ take-append_seam bytes t.rest)
 
 pub took_first : (part : PartData) (given bytes : List ℕ) (d : DeviceState) → TookOfGiven part given bytes → DeviceStandsFor part on_the_bench false d bytes → bytes ≡ take (taken_of part on_the_bench given) given
-took_first part given bytes d t s = took_by part given bytes d t s (stop_in part on_the_bench bytes) refl t.over
+took_first part given bytes d t s = took_by part given bytes d t s (first_stop_of_bytes part on_the_bench bytes) refl t.over
 
 pub device_is : (part : PartData) (t : TapState) (d : DeviceState) (cs : List PortClock) → TapStandsFor part t d cs
     → DeviceStandsFor part on_the_bench false d (take (taken_of part on_the_bench (port_after part cs).queue.given) (port_after part cs).queue.given)

@@ -13,7 +13,7 @@ use Rattle.x7_engine.specs.ReadBuffer.{HoldsWithinMost, IsFull, IsFullBy, ReadBu
 use Rattle.x7_engine.specs.ReadBuffer.{with_words as read_with}
 use Rattle.x7_engine.specs.Past.{AnswersAt, past_of}
 use Rattle.x7_engine.specs.Standing.{DeviceStandsFor, DeviceState, NoWordDue, due_count, taken_in, words_still_due}
-use Rattle.x7_engine.specs.State.{history_taken, reads_of, stop_in}
+use Rattle.x7_engine.specs.State.{history_taken, reads_of, first_stop_of_bytes}
 use Rattle.x7_engine.proofs.FrameLemmas.{length_left}
 use Rattle.x7_jtag.specs.Port.{words_read_out}
 use Rattle.x7_jtag.specs.Queue.{Queue, bits_read, bit_shown, dropped, empty_queue, in_turn, most_bytes_held, give_held, shifted_out, waits, queue_with_room, word_bit, queue_of}
@@ -127,7 +127,7 @@ fed_by : (part : PartData) (k n : QueueState) (d e : DeviceState) (given held pi
     → DeviceStandsFor part on_the_bench false e (h.bytes ++ take (taken_in (length piece) f) piece)
     → AnswersAt (past_of part on_the_bench false (h.bytes ++ take (taken_in (length piece) f) piece)) e read f
     → words_taken part e (h.bytes ++ take (taken_in (length piece) f) piece) ≡ words_taken part d h.bytes ++ more
-    → (IsSome (stop_in part on_the_bench h.bytes) → taken_in (length piece) f ≡ 0)
+    → (IsSome (first_stop_of_bytes part on_the_bench h.bytes) → taken_in (length piece) f ≡ 0)
     → read ≡ record { most = Some 1; words = more } → length more ≤ 1 → n ≡ with_word_taken k more → QueueStandsFor part n e (queue_of (given ++ piece) held out)
 fed_by part k n d e given held piece [] out read f h z fits few none w stands a grown stopped is l with =
     let P : QueueState → Type 0 = λ q. QueueStandsFor part q e (queue_of (given ++ piece) held out) in
@@ -172,7 +172,7 @@ pub fed : (part : PartData) (k n : QueueState) (d e : DeviceState) (given held p
     → DeviceStandsFor part on_the_bench false e (h.bytes ++ take (taken_in (length piece) f) piece)
     → AnswersAt (past_of part on_the_bench false (h.bytes ++ take (taken_in (length piece) f) piece)) e read f
     → ((more : List ℕ) × (read ≡ read_with old more) × (words_taken part e (h.bytes ++ take (taken_in (length piece) f) piece) ≡ words_taken part d h.bytes ++ more))
-    → (IsSome (stop_in part on_the_bench h.bytes) → (e ≡ d) × (read ≡ old) × (taken_in (length piece) f ≡ 0))
+    → (IsSome (first_stop_of_bytes part on_the_bench h.bytes) → (e ≡ d) × (read ≡ old) × (taken_in (length piece) f ≡ 0))
     → old ≡ record { most = Some 1; words = [] } → words ≡ read.words → HoldsWithinMost read.most words → n ≡ with_word_taken k words → QueueStandsFor part n e (queue_of (given ++ piece) held out)
 fed part k n d e given held piece words out old read f h z fits few none w stands a reads stopped is there holds with =
     let more : List ℕ = reads.0 in
@@ -187,7 +187,7 @@ pub all_dropped : (part : PartData) (k n : QueueState) (d e : DeviceState) (give
     → DeviceStandsFor part on_the_bench false e (s.holds.bytes ++ take (taken_in (length piece) f) piece)
     → AnswersAt (past_of part on_the_bench false (s.holds.bytes ++ take (taken_in (length piece) f) piece)) e read f
     → ((more : List ℕ) × (read ≡ read_with old more) × (words_taken part e (s.holds.bytes ++ take (taken_in (length piece) f) piece) ≡ words_taken part d s.holds.bytes ++ more))
-    → (IsSome (stop_in part on_the_bench s.holds.bytes) → (e ≡ d) × (read ≡ old) × (taken_in (length piece) f ≡ 0))
+    → (IsSome (first_stop_of_bytes part on_the_bench s.holds.bytes) → (e ≡ d) × (read ≡ old) × (taken_in (length piece) f ≡ 0))
     → old ≡ record { most = None; words = [] } → n ≡ record { held = []; word = k.word; bits_left = 0 } → QueueStandsFor part n e (queue_of (given ++ held) [] (bits_read (words_read_out part) (given ++ held)))
 all_dropped part k n d e given held piece out old read f s there stands a reads stopped is with =
     let h : QueueHolds part k d (queue_of given held out) = s.holds in

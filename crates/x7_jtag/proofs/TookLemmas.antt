@@ -12,7 +12,7 @@ use Rattle.x7_engine.specs.Kept.{on_the_bench}
 use Rattle.x7_engine.specs.ReadBuffer.{IsFull, ReadBufState}
 use Rattle.x7_engine.specs.Past.{AnswersAt, past_of}
 use Rattle.x7_engine.specs.Standing.{DeviceState, NoWordDue, due_count, taken_in}
-use Rattle.x7_engine.specs.State.{reads_of, state_of, stop_in}
+use Rattle.x7_engine.specs.State.{reads_of, state_of, first_stop_of_bytes}
 use Rattle.x7_engine.specs.Stop.{Stopped}
 use Rattle.x7_engine.proofs.StateLemmas.{stop_is_final_reads, stop_is_final_state}
 use Rattle.x7_jtag.specs.Tap.{TookOfGiven, words_taken}
@@ -35,12 +35,12 @@ the_stop (Some s) e = (s, refl)
 
 -- a piece more is given
 module _ (part : PartData) (given bytes piece : List ℕ) (n : ℕ) where
-  more_over : IsSome (stop_in part on_the_bench (bytes ++ take n piece)) ⊎ (n ≡ length piece) → (drop n piece ≡ []) ⊎ IsSome (stop_in part on_the_bench (bytes ++ take n piece))
+  more_over : IsSome (first_stop_of_bytes part on_the_bench (bytes ++ take n piece)) ⊎ (n ≡ length piece) → (drop n piece ≡ []) ⊎ IsSome (first_stop_of_bytes part on_the_bench (bytes ++ take n piece))
   more_over (inl s) = inr s
   more_over (inr e) = inl (ap (λ (k : ℕ). drop k piece) e ∙ drop_all piece)
 
-  more_by : AreBytes piece → (t : TookOfGiven part given bytes) → (IsSome (stop_in part on_the_bench bytes) → n ≡ 0) → IsSome (stop_in part on_the_bench (bytes ++ take n piece)) ⊎ (n ≡ length piece)
-      → (t.rest ≡ []) ⊎ IsSome (stop_in part on_the_bench bytes) → TookOfGiven part (given ++ piece) (bytes ++ take n piece)
+  more_by : AreBytes piece → (t : TookOfGiven part given bytes) → (IsSome (first_stop_of_bytes part on_the_bench bytes) → n ≡ 0) → IsSome (first_stop_of_bytes part on_the_bench (bytes ++ take n piece)) ⊎ (n ≡ length piece)
+      → (t.rest ≡ []) ⊎ IsSome (first_stop_of_bytes part on_the_bench bytes) → TookOfGiven part (given ++ piece) (bytes ++ take n piece)
   more_by f t z s (inl e) = record {
     fits = all_append (λ b. b < 256) given piece t.fits f;
     rest = drop n piece;
@@ -53,27 +53,27 @@ module _ (part : PartData) (given bytes piece : List ℕ) (n : ℕ) where
         fits = all_append (λ b. b < 256) given piece t.fits f;
         rest = t.rest ++ piece;
         parts = ap (λ g. g ++ piece) t.parts ∙ append_assoc bytes t.rest piece ∙ ap (λ b. b ++ (t.rest ++ piece)) (sym same);
-        over = inr (subst (λ b. IsSome (stop_in part on_the_bench b)) (sym same) stop);
+        over = inr (subst (λ b. IsSome (first_stop_of_bytes part on_the_bench b)) (sym same) stop);
       }
 
-  pub took_more : AreBytes piece → (t : TookOfGiven part given bytes) → (IsSome (stop_in part on_the_bench bytes) → n ≡ 0) → IsSome (stop_in part on_the_bench (bytes ++ take n piece)) ⊎ (n ≡ length piece)
+  pub took_more : AreBytes piece → (t : TookOfGiven part given bytes) → (IsSome (first_stop_of_bytes part on_the_bench bytes) → n ≡ 0) → IsSome (first_stop_of_bytes part on_the_bench (bytes ++ take n piece)) ⊎ (n ≡ length piece)
       → TookOfGiven part (given ++ piece) (bytes ++ take n piece)
   took_more f t z s = more_by f t z s t.over
 
 -- what the bytes given read out, those taken read out
-reads_by : (part : PartData) (given bytes : List ℕ) (t : TookOfGiven part given bytes) → (t.rest ≡ []) ⊎ IsSome (stop_in part on_the_bench bytes) → reads_of part on_the_bench given ≡ reads_of part on_the_bench bytes
+reads_by : (part : PartData) (given bytes : List ℕ) (t : TookOfGiven part given bytes) → (t.rest ≡ []) ⊎ IsSome (first_stop_of_bytes part on_the_bench bytes) → reads_of part on_the_bench given ≡ reads_of part on_the_bench bytes
 reads_by part given bytes t (inl e) = ap (reads_of part on_the_bench) (took_whole part given bytes t e)
 reads_by part given bytes t (inr s) =
-    let stop : (s : Stopped) × (stop_in part on_the_bench bytes ≡ Some s) = the_stop (stop_in part on_the_bench bytes) s in
+    let stop : (s : Stopped) × (first_stop_of_bytes part on_the_bench bytes ≡ Some s) = the_stop (first_stop_of_bytes part on_the_bench bytes) s in
     ap (reads_of part on_the_bench) t.parts ∙ stop_is_final_reads part on_the_bench bytes t.rest stop.0 (subst AreBytes t.parts t.fits) stop.1
 
 pub reads_took : (part : PartData) (given bytes : List ℕ) → TookOfGiven part given bytes → reads_of part on_the_bench given ≡ reads_of part on_the_bench bytes
 reads_took part given bytes t = reads_by part given bytes t t.over
 
-state_by : (part : PartData) (given bytes : List ℕ) (t : TookOfGiven part given bytes) → (t.rest ≡ []) ⊎ IsSome (stop_in part on_the_bench bytes) → state_of part on_the_bench false given ≡ state_of part on_the_bench false bytes
+state_by : (part : PartData) (given bytes : List ℕ) (t : TookOfGiven part given bytes) → (t.rest ≡ []) ⊎ IsSome (first_stop_of_bytes part on_the_bench bytes) → state_of part on_the_bench false given ≡ state_of part on_the_bench false bytes
 state_by part given bytes t (inl e) = ap (state_of part on_the_bench false) (took_whole part given bytes t e)
 state_by part given bytes t (inr s) =
-    let stop : (s : Stopped) × (stop_in part on_the_bench bytes ≡ Some s) = the_stop (stop_in part on_the_bench bytes) s in
+    let stop : (s : Stopped) × (first_stop_of_bytes part on_the_bench bytes ≡ Some s) = the_stop (first_stop_of_bytes part on_the_bench bytes) s in
     ap (state_of part on_the_bench false) t.parts ∙ stop_is_final_state part on_the_bench false bytes t.rest stop.0 (subst AreBytes t.parts t.fits) stop.1
 
 pub state_took : (part : PartData) (given bytes : List ℕ) → TookOfGiven part given bytes → state_of part on_the_bench false given ≡ state_of part on_the_bench false bytes
@@ -101,7 +101,7 @@ taken_few part d bytes =
 -- the device has stopped, or took the whole piece; a word that is due has come with its byte
 pub goes_on : (part : PartData) (d e : DeviceState) (bytes piece more : List ℕ) (read : ReadBufState) (f : Fed) → AnswersAt (past_of part on_the_bench false (bytes ++ take (taken_in (length piece) f) piece)) e read f → taken_in (length piece) f ≤ length piece → length piece ≤ 1
     → (0 < length piece → NoWordDue d) → (IsFull read → length more ≡ 1) → words_taken part e (bytes ++ take (taken_in (length piece) f) piece) ≡ words_taken part d bytes ++ more
-    → IsSome (stop_in part on_the_bench (bytes ++ take (taken_in (length piece) f) piece)) ⊎ (taken_in (length piece) f ≡ length piece)
+    → IsSome (first_stop_of_bytes part on_the_bench (bytes ++ take (taken_in (length piece) f) piece)) ⊎ (taken_in (length piece) f ≡ length piece)
 goes_on part d e bytes piece more read fed.All a w l z full grown = inr refl
 goes_on part d e bytes piece more read (fed.Stopped n) a w l z full grown = inl (ap is_some a.1)
 goes_on part d e bytes piece more read (fed.Iprog n) a w l z full grown = inl (ap is_some a.0)
@@ -129,7 +129,7 @@ none_given part e bytes piece read (fed.ReadFull n) a full = absurd (full a.2)
 
 -- a piece for a buffer that drops words
 pub goes_on_dropping : (part : PartData) (e : DeviceState) (bytes piece : List ℕ) (read : ReadBufState) (f : Fed) → AnswersAt (past_of part on_the_bench false (bytes ++ take (taken_in (length piece) f) piece)) e read f → (IsFull read → ⊥)
-    → IsSome (stop_in part on_the_bench (bytes ++ take (taken_in (length piece) f) piece)) ⊎ (taken_in (length piece) f ≡ length piece)
+    → IsSome (first_stop_of_bytes part on_the_bench (bytes ++ take (taken_in (length piece) f) piece)) ⊎ (taken_in (length piece) f ≡ length piece)
 goes_on_dropping part e bytes piece read fed.All a full = inr refl
 goes_on_dropping part e bytes piece read (fed.Stopped n) a full = inl (ap is_some a.1)
 goes_on_dropping part e bytes piece read (fed.Iprog n) a full = inl (ap is_some a.0)

@@ -4,8 +4,8 @@ use Rattle.x7_part.specs.Part.{PartData}
 use Rattle.x7_engine.specs.declared.regs.Regs.{Regs}
 use Rattle.x7_engine.specs.Kept.{on_the_bench}
 use Rattle.x7_engine.specs.Standing.{frames_among}
-use Rattle.x7_engine.specs.State.{history_taken, why_of, memory_in, state_owing, stop_in, taken_of}
-use Rattle.x7_engine.specs.Stop.{stop_fault}
+use Rattle.x7_engine.specs.State.{history_taken, why_stopped, memory_in, state_owing, first_stop_of_bytes, taken_of}
+use Rattle.x7_engine.specs.Stop.{fault_of_stop}
 use Rattle.x7_engine.specs.declared.fault.Fault.{Fault}
 use Rattle.x7_memory.specs.FrameMap.{FrameMap}
 use Rattle.x7_jtag.specs.Port.{Port, words_read_out}
@@ -28,7 +28,7 @@ state_shown part p = state_with part p (frames_among (history_taken part on_the_
 
 -- the fault that stopped the device
 abbrev pub fault_shown : PartData → Port → Option Fault
-fault_shown part p = stop_fault (why_of (stop_in part on_the_bench (bytes_taken part p)))
+fault_shown part p = fault_of_stop (why_stopped (first_stop_of_bytes part on_the_bench (bytes_taken part p)))
 
 -- the device's frames
 abbrev pub memory_shown : PartData → Port → FrameMap

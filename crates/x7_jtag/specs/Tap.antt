@@ -7,7 +7,7 @@ use Rattle.x7_engine.specs.declared.fed.Fed.{Fed}
 use Rattle.x7_engine.specs.declared.fed.Fed.TheVariants as fed
 use Rattle.x7_engine.specs.Kept.{on_the_bench}
 use Rattle.x7_engine.specs.Standing.{CanBeGiven, DeviceState, DeviceStandsFor, NoWordDue, reads_given}
-use Rattle.x7_engine.specs.State.{stop_in}
+use Rattle.x7_engine.specs.State.{first_stop_of_bytes}
 use Rattle.x7_jtag.specs.declared.instruction.Instruction.{Instruction}
 use Rattle.x7_jtag.specs.declared.instruction.Instruction.TheVariants as instruction
 use Rattle.x7_jtag.specs.declared.state.State.{State}
@@ -41,7 +41,7 @@ pub record TookOfGiven (part : PartData) (given bytes : List ℕ) : Type 0 where
   pub fits : AreBytes given
   pub rest : List ℕ
   pub parts : given ≡ bytes ++ rest
-  pub over : (rest ≡ []) ⊎ IsSome (stop_in part on_the_bench bytes)
+  pub over : (rest ≡ []) ⊎ IsSome (first_stop_of_bytes part on_the_bench bytes)
 
 -- how many of a piece's bytes count as given, by what a feed of the piece answers and how many it has: after a stop all
 -- of them

@@ -7,7 +7,7 @@ use Rattle.x7_engine.specs.Kept.{on_the_bench}
 use Rattle.x7_engine.specs.ReadBuffer.{IsFull, IsFullBy, ReadBufState, gathered, with_words}
 use Rattle.x7_engine.proofs.FeedLemmas.{given_all, given_within}
 use Rattle.x7_engine.specs.Standing.{NoWordDue, DeviceState, DeviceStandsFor, reads_given}
-use Rattle.x7_engine.specs.State.{memory_in, reads_of, state_of, stop_in}
+use Rattle.x7_engine.specs.State.{memory_in, reads_of, state_of, first_stop_of_bytes}
 use Rattle.x7_engine.specs.Stop.{Stopped}
 use Rattle.x7_forms.specs.Known.{reads_limit}
 use Rattle.x7_playing.specs.Playing.{empty_buffer, reads_room}
@@ -56,7 +56,7 @@ is_end (fed.Iprog n) h = tt
 pub record IsPlayed (part : PartData) (bytes : List ℕ) (d : DeviceState) (reads : List ℕ) : Type 0 where
   pub prefix : List ℕ
   pub stands : DeviceStandsFor part on_the_bench false d prefix
-  pub stop : stop_in part on_the_bench bytes ≡ stop_in part on_the_bench prefix
+  pub stop : first_stop_of_bytes part on_the_bench bytes ≡ first_stop_of_bytes part on_the_bench prefix
   pub state : state_of part on_the_bench false bytes ≡ state_of part on_the_bench false prefix
   pub memory : memory_in part on_the_bench bytes ≡ memory_in part on_the_bench prefix
   pub no_word_due : NoWordDue d
@@ -64,13 +64,13 @@ pub record IsPlayed (part : PartData) (bytes : List ℕ) (d : DeviceState) (read
   pub within_limit : length reads ≤ reads_limit
 
 pub stopped_end : (part : PartData) (bytes prefix rest : List ℕ) (d : DeviceState) (reads : List ℕ) (s : Stopped) → AreBytes bytes → bytes ≡ prefix ++ rest → DeviceStandsFor part on_the_bench false d prefix → reads ≡ reads_given part on_the_bench d prefix → length reads ≤ reads_limit
-    → stop_in part on_the_bench prefix ≡ Some s → NoWordDue d → IsPlayed part bytes d reads
+    → first_stop_of_bytes part on_the_bench prefix ≡ Some s → NoWordDue d → IsPlayed part bytes d reads
 stopped_end part bytes prefix rest d reads s fits split stands known few stop due =
     let all : AreBytes (prefix ++ rest) = subst (λ x. AreBytes x) split fits in
     record {
       prefix = prefix;
       stands = stands;
-      stop = ap (stop_in part on_the_bench) split ∙ stop_is_final_stop part on_the_bench prefix rest s all stop ∙ sym stop;
+      stop = ap (first_stop_of_bytes part on_the_bench) split ∙ stop_is_final_stop part on_the_bench prefix rest s all stop ∙ sym stop;
       state = ap (state_of part on_the_bench false) split ∙ stop_is_final_state part on_the_bench false prefix rest s all stop;
       memory = ap (memory_in part on_the_bench) split ∙ stop_is_final_memory part on_the_bench prefix rest s all stop;
       no_word_due = due;

@@ -13,7 +13,7 @@ use Rattle.x7_engine.specs.Kept.{on_the_bench}
 use Rattle.x7_engine.specs.ReadBuffer.{ReadBufState}
 use Rattle.x7_engine.specs.Past.{AnswersAt, past_of}
 use Rattle.x7_engine.specs.Standing.{CanBeGiven, DeviceState, DeviceStandsFor, NoWordDue, taken_in, reads_given, words_still_due}
-use Rattle.x7_engine.specs.State.{history_taken, reads_of, stop_in}
+use Rattle.x7_engine.specs.State.{history_taken, reads_of, first_stop_of_bytes}
 use Rattle.x7_engine.specs.Stop.{Stopped}
 use Rattle.x7_engine.proofs.FeedLemmas.{given_all}
 use Rattle.x7_engine.proofs.FrameLemmas.{length_left}
@@ -42,10 +42,10 @@ over_grows part bytes more fits o =
 -- ---- a feed
 
 -- what was taken before and of a piece, and what is left of all
-pub rest_of_turn : (part : PartData) (bytes piece : List ℕ) (n : ℕ) (d : DeviceState) (reads : List ℕ) → (s : DevicePlayed part bytes d reads) → (IsSome (stop_in part on_the_bench s.taken) → n ≡ 0) → (rest : List ℕ) × (bytes ++ piece ≡ (s.taken ++ take n piece) ++ rest)
+pub rest_of_turn : (part : PartData) (bytes piece : List ℕ) (n : ℕ) (d : DeviceState) (reads : List ℕ) → (s : DevicePlayed part bytes d reads) → (IsSome (first_stop_of_bytes part on_the_bench s.taken) → n ≡ 0) → (rest : List ℕ) × (bytes ++ piece ≡ (s.taken ++ take n piece) ++ rest)
 rest_of_turn part bytes piece n d reads s still = by s.ends
   where
-    by : (s.left ≡ []) ⊎ IsSome (stop_in part on_the_bench s.taken) → (rest : List ℕ) × (bytes ++ piece ≡ (s.taken ++ take n piece) ++ rest)
+    by : (s.left ≡ []) ⊎ IsSome (first_stop_of_bytes part on_the_bench s.taken) → (rest : List ℕ) × (bytes ++ piece ≡ (s.taken ++ take n piece) ++ rest)
     by (inl e) = (
       drop n piece,
       ap (λ b. b ++ piece) (s.split ∙ ap (λ l. s.taken ++ l) e ∙ append-nil s.taken) ∙ sym (append_assoc s.taken (take n piece) (drop n piece) ∙ ap (λ x. s.taken ++ x) (take-append-drop n piece)),
@@ -56,13 +56,13 @@ rest_of_turn part bytes piece n d reads s still = by s.ends
     )
 
 -- a device that goes on had taken all
-pub went_on : (part : PartData) (bytes piece : List ℕ) (d : DeviceState) (reads : List ℕ) → (s : DevicePlayed part bytes d reads) → AreBytes (s.taken ++ piece) → stop_in part on_the_bench (s.taken ++ piece) ≡ None → bytes ≡ s.taken
+pub went_on : (part : PartData) (bytes piece : List ℕ) (d : DeviceState) (reads : List ℕ) → (s : DevicePlayed part bytes d reads) → AreBytes (s.taken ++ piece) → first_stop_of_bytes part on_the_bench (s.taken ++ piece) ≡ None → bytes ≡ s.taken
 went_on part bytes piece d reads s fits none = by s.ends
   where
-    by : (s.left ≡ []) ⊎ IsSome (stop_in part on_the_bench s.taken) → bytes ≡ s.taken
+    by : (s.left ≡ []) ⊎ IsSome (first_stop_of_bytes part on_the_bench s.taken) → bytes ≡ s.taken
     by (inl e) = s.split ∙ ap (λ l. s.taken ++ l) e ∙ append-nil s.taken
     by (inr i) =
-        let st = the_some (stop_in part on_the_bench s.taken) i in
+        let st = the_some (first_stop_of_bytes part on_the_bench s.taken) i in
         let later = stop_is_final_stop part on_the_bench s.taken piece st.0 fits st.1 in
         absurd (cc)
 
@@ -70,7 +70,7 @@ taken_fit : (part : PartData) (bytes piece : List ℕ) (d : DeviceState) (reads 
 taken_fit part bytes piece d reads s fits = all_append (λ b. b < 256) s.taken piece (all_prefix (λ b. b < 256) s.taken s.left (subst (λ x. AreBytes x) s.split s.fits)) fits
 
 -- a feed that waits for room
-pub fed_full : (part : PartData) (bytes piece : List ℕ) (d e : DeviceState) (reads now : List ℕ) → (s : DevicePlayed part bytes d reads) → AreBytes piece → DeviceStandsFor part on_the_bench false e (s.taken ++ piece) → stop_in part on_the_bench (s.taken ++ piece) ≡ None
+pub fed_full : (part : PartData) (bytes piece : List ℕ) (d e : DeviceState) (reads now : List ℕ) → (s : DevicePlayed part bytes d reads) → AreBytes piece → DeviceStandsFor part on_the_bench false e (s.taken ++ piece) → first_stop_of_bytes part on_the_bench (s.taken ++ piece) ≡ None
     → now ≡ reads_given part on_the_bench e (s.taken ++ piece) → length now ≤ reads_limit → DevicePlayed part (bytes ++ piece) e now
 fed_full part bytes piece d e reads now s fits stands none known few =
     let fit = taken_fit part bytes piece d reads s fits in
@@ -87,7 +87,7 @@ fed_full part bytes piece d e reads now s fits stands none known few =
     }
 
 fed_stopped : (part : PartData) (bytes piece : List ℕ) (n : ℕ) (d e : DeviceState) (reads now : List ℕ)
-    → (s : DevicePlayed part bytes d reads) → (IsSome (stop_in part on_the_bench s.taken) → n ≡ 0) → AreBytes (bytes ++ piece) → DeviceStandsFor part on_the_bench false e (s.taken ++ take n piece) → (st : Stopped) → stop_in part on_the_bench (s.taken ++ take n piece) ≡ Some st
+    → (s : DevicePlayed part bytes d reads) → (IsSome (first_stop_of_bytes part on_the_bench s.taken) → n ≡ 0) → AreBytes (bytes ++ piece) → DeviceStandsFor part on_the_bench false e (s.taken ++ take n piece) → (st : Stopped) → first_stop_of_bytes part on_the_bench (s.taken ++ take n piece) ≡ Some st
     → now ≡ reads_given part on_the_bench e (s.taken ++ take n piece) → length now ≤ reads_limit → DevicePlayed part (bytes ++ piece) e now
 fed_stopped part bytes piece n d e reads now s still fits stands st stop known few =
     let rest = rest_of_turn part bytes piece n d reads s still in
@@ -95,7 +95,7 @@ fed_stopped part bytes piece n d e reads now s still fits stands st stop known f
       taken = s.taken ++ take n piece;
       left = rest.0;
       split = rest.1;
-      ends = inr (some_is (stop_in part on_the_bench (s.taken ++ take n piece)) st stop);
+      ends = inr (some_is (first_stop_of_bytes part on_the_bench (s.taken ++ take n piece)) st stop);
       fits = fits;
       stands = stands;
       reads_are = known;
@@ -103,7 +103,7 @@ fed_stopped part bytes piece n d e reads now s still fits stands st stop known f
     }
 
 -- a feed that ends
-pub fed_end : (part : PartData) (bytes piece : List ℕ) (d e : DeviceState) (read : ReadBufState) (reads now : List ℕ) (f : Fed) → (s : DevicePlayed part bytes d reads) → IsEnd f → AreBytes piece → (IsSome (stop_in part on_the_bench s.taken) → taken_in (length piece) f ≡ 0)
+pub fed_end : (part : PartData) (bytes piece : List ℕ) (d e : DeviceState) (read : ReadBufState) (reads now : List ℕ) (f : Fed) → (s : DevicePlayed part bytes d reads) → IsEnd f → AreBytes piece → (IsSome (first_stop_of_bytes part on_the_bench s.taken) → taken_in (length piece) f ≡ 0)
     → DeviceStandsFor part on_the_bench false e (s.taken ++ take (taken_in (length piece) f) piece) → AnswersAt (past_of part on_the_bench false (s.taken ++ take (taken_in (length piece) f) piece)) e read f
     → now ≡ reads_given part on_the_bench e (s.taken ++ take (taken_in (length piece) f) piece) → length now ≤ reads_limit → DevicePlayed part (bytes ++ piece) e now × NoWordDue e
 fed_end part bytes piece d e read reads now (fed.ReadFull n) s end fits still stands answer known few = absurd end
@@ -124,7 +124,7 @@ fed_end part bytes piece d e read reads now fed.All s end fits still stands answ
 pub played_all : (part : PartData) (bytes : List ℕ) (d : DeviceState) (reads : List ℕ) → DevicePlayed part bytes d reads → NoWordDue d → IsPlayed part bytes d reads
 played_all part bytes d reads s due = by s.ends
   where
-    by : (s.left ≡ []) ⊎ IsSome (stop_in part on_the_bench s.taken) → IsPlayed part bytes d reads
+    by : (s.left ≡ []) ⊎ IsSome (first_stop_of_bytes part on_the_bench s.taken) → IsPlayed part bytes d reads
     by (inl e) =
         let all : bytes ≡ s.taken = s.split ∙ ap (λ l. s.taken ++ l) e ∙ append-nil s.taken in
         record {
@@ -138,7 +138,7 @@ played_all part bytes d reads s due = by s.ends
           within_limit = s.within_limit;
         }
     by (inr i) =
-        let st = the_some (stop_in part on_the_bench s.taken) i in
+        let st = the_some (first_stop_of_bytes part on_the_bench s.taken) i in
         stopped_end part bytes s.taken s.left d reads st.0 s.fits s.split s.stands s.reads_are s.within_limit st.1 due
 
 -- ---- a player
@@ -202,7 +202,7 @@ rest_fits piece at fits = all_back (λ b. b < 256) (take at piece) (drop at piec
 some_fits : (piece : List ℕ) (n : ℕ) → AreBytes piece → AreBytes (take n piece)
 some_fits piece n fits = all_prefix (λ b. b < 256) (take n piece) (drop n piece) (subst (λ x. AreBytes x) (sym (take-append-drop n piece)) fits)
 
-pub turn_over : (part : PartData) (bytes piece : List ℕ) (at n : ℕ) (d e : DeviceState) (reads more : List ℕ) → AreBytes bytes → AreBytes piece → (s : DevicePlayed part (bytes ++ take at piece) d reads) → (IsSome (stop_in part on_the_bench s.taken) → n ≡ 0)
+pub turn_over : (part : PartData) (bytes piece : List ℕ) (at n : ℕ) (d e : DeviceState) (reads more : List ℕ) → AreBytes bytes → AreBytes piece → (s : DevicePlayed part (bytes ++ take at piece) d reads) → (IsSome (first_stop_of_bytes part on_the_bench s.taken) → n ≡ 0)
     → reads_given part on_the_bench e (s.taken ++ take n (drop at piece)) ≡ reads_given part on_the_bench d s.taken ++ more → reads_limit < length reads + length more → ReadsOver part (bytes ++ piece)
 turn_over part bytes piece at n d e reads more fb fp s still known many =
     let fits : AreBytes (bytes ++ piece) = all_append (λ b. b < 256) bytes piece fb fp in
@@ -213,7 +213,7 @@ turn_over part bytes piece at n d e reads more fb fp s still known many =
     }
 
 pub turn_full : (part : PartData) (bytes piece : List ℕ) (at n : ℕ) (d e : DeviceState) (reads now more : List ℕ) → AreBytes piece → (s : DevicePlayed part (bytes ++ take at piece) d reads) → DeviceStandsFor part on_the_bench false e (s.taken ++ take n (drop at piece))
-    → stop_in part on_the_bench (s.taken ++ take n (drop at piece)) ≡ None → reads_given part on_the_bench e (s.taken ++ take n (drop at piece)) ≡ reads_given part on_the_bench d s.taken ++ more → now ≡ reads ++ more → length now ≤ reads_limit
+    → first_stop_of_bytes part on_the_bench (s.taken ++ take n (drop at piece)) ≡ None → reads_given part on_the_bench e (s.taken ++ take n (drop at piece)) ≡ reads_given part on_the_bench d s.taken ++ more → now ≡ reads ++ more → length now ≤ reads_limit
     → DevicePlayed part (bytes ++ take (at + n) piece) e now
 turn_full part bytes piece at n d e reads now more fp s stands none known is few =
     let words : now ≡ reads_given part on_the_bench e (s.taken ++ take n (drop at piece)) = is ∙ ap (λ x. x ++ more) s.reads_are ∙ sym known in
@@ -221,7 +221,7 @@ turn_full part bytes piece at n d e reads now more fp s stands none known is few
     (fed_full part (bytes ++ take at piece) (take n (drop at piece)) d e reads now s (some_fits (drop at piece) n (rest_fits piece at fp)) stands none words few)
 
 pub turn_end : (part : PartData) (bytes piece : List ℕ) (at : ℕ) (d e : DeviceState) (read : ReadBufState) (reads now more : List ℕ) (f : Fed) → AreBytes piece → (s : DevicePlayed part (bytes ++ take at piece) d reads) → IsEnd f
-    → (IsSome (stop_in part on_the_bench s.taken) → taken_in (length (drop at piece)) f ≡ 0) → DeviceStandsFor part on_the_bench false e (s.taken ++ take (taken_in (length (drop at piece)) f) (drop at piece))
+    → (IsSome (first_stop_of_bytes part on_the_bench s.taken) → taken_in (length (drop at piece)) f ≡ 0) → DeviceStandsFor part on_the_bench false e (s.taken ++ take (taken_in (length (drop at piece)) f) (drop at piece))
     → AnswersAt (past_of part on_the_bench false (s.taken ++ take (taken_in (length (drop at piece)) f) (drop at piece))) e read f
     → reads_given part on_the_bench e (s.taken ++ take (taken_in (length (drop at piece)) f) (drop at piece)) ≡ reads_given part on_the_bench d s.taken ++ more → now ≡ reads ++ more → length now ≤ reads_limit
     → DevicePlayed part (bytes ++ piece) e now × NoWordDue e

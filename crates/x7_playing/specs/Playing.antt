@@ -7,7 +7,7 @@ use Rattle.x7_part.specs.Part.{PartData}
 use Rattle.x7_engine.specs.Kept.{on_the_bench}
 use Rattle.x7_engine.specs.ReadBuffer.{ReadBufState}
 use Rattle.x7_engine.specs.Standing.{DeviceState, DeviceStandsFor, NoWordDue, reads_given}
-use Rattle.x7_engine.specs.State.{reads_of, stop_in}
+use Rattle.x7_engine.specs.State.{reads_of, first_stop_of_bytes}
 use Rattle.x7_forms.specs.Event.{Event}
 use Rattle.x7_forms.specs.Known.{reads_limit, StreamRead}
 use Rattle.x7_forms.specs.Step.{ReadsStreams}
@@ -19,7 +19,7 @@ pub record DevicePlayed (part : PartData) (bytes : List ℕ) (d : DeviceState) (
   pub taken : List ℕ
   pub left : List ℕ
   pub split : bytes ≡ taken ++ left
-  pub ends : (left ≡ []) ⊎ IsSome (stop_in part on_the_bench taken)
+  pub ends : (left ≡ []) ⊎ IsSome (first_stop_of_bytes part on_the_bench taken)
   pub fits : AreBytes bytes
   pub stands : DeviceStandsFor part on_the_bench false d taken
   pub reads_are : reads ≡ reads_given part on_the_bench d taken

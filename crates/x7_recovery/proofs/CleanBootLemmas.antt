@@ -23,8 +23,8 @@ use Rattle.x7_flow.specs.FrameMemory.{memory_of}
 use Rattle.x7_engine.specs.Kept.{is_fallback}
 use Rattle.x7_engine.specs.Registers.{wrote_iprog}
 use Rattle.x7_engine.specs.Startup.{phase_by, startup_progress}
-use Rattle.x7_engine.specs.State.{memory_in, stop_in}
-use Rattle.x7_engine.specs.Stop.{stop_of}
+use Rattle.x7_engine.specs.State.{memory_in, first_stop_of_bytes}
+use Rattle.x7_engine.specs.Stop.{first_stop_of_history}
 use Rattle.x7_engine.specs.declared.kept.Kept.{Kept}
 use Rattle.x7_regs.specs.BootStatus.{boot_status_of}
 use Rattle.x7_regs.specs.declared.boot_status.Attempt.{Attempt}
@@ -164,8 +164,8 @@ module _ (o : OpenFlash) (is : IsOpenFlash o) (t : AttemptCourse) (c : StartsCle
   erased_all : AreBytes (erased_sector ++ s)
   erased_all = subst AreBytes bytes_are c.fits
 
-  going : stop_in o.part at_power (erased_sector ++ s) ≡ None
-  going = sym (ap (stop_in o.part at_power) bytes_are) ∙ ap (λ (k : Kept). stop_in o.part k t.bytes) (sym c.starts.kept) ∙ c.going
+  going : first_stop_of_bytes o.part at_power (erased_sector ++ s) ≡ None
+  going = sym (ap (first_stop_of_bytes o.part at_power) bytes_are) ∙ ap (λ (k : Kept). first_stop_of_bytes o.part k t.bytes) (sym c.starts.kept) ∙ c.going
 
   prefix_long : length prefix' ≡ sector_size
   prefix_long = sector_long o.flash o.slot o.start is.has is.small
@@ -196,8 +196,8 @@ module _ (o : OpenFlash) (is : IsOpenFlash o) (t : AttemptCourse) (c : StartsCle
     clean : AreClean (history_of sk)
     clean = subst AreClean (sym (prefix_history k s s_fits)) (clean_until (length sk) (history_of s) c.clean)
 
-    power_going : stop_in o.part at_power (erased_sector ++ sk) ≡ None
-    power_going = ap (stop_in o.part at_power) (sym (take-append-add erased_sector s k)) ∙ prefix_goes o.part at_power (length erased_sector + k) (erased_sector ++ s) erased_all going
+    power_going : first_stop_of_bytes o.part at_power (erased_sector ++ sk) ≡ None
+    power_going = ap (first_stop_of_bytes o.part at_power) (sym (take-append-add erased_sector s k)) ∙ prefix_goes o.part at_power (length erased_sector + k) (erased_sector ++ s) erased_all going
 
     module _ (kept : Kept) (fell : is_fallback kept.kind ≡ true) where
       slot_going : IsGoing o.part kept NotBegun (desync_at (flash_slot_size * o.slot) o.start) sector_size
@@ -210,10 +210,10 @@ module _ (o : OpenFlash) (is : IsOpenFlash o) (t : AttemptCourse) (c : StartsCle
       alike : AreAlikeHere
       alike = comes o.part kept at_power sector_size fell (desync_at (flash_slot_size * o.slot) o.start) (slot_near o.part kept (flash_slot_size * o.slot) o.start slot_going)
           (λ m l. (going_bytes o.part kept NotBegun (desync_at (flash_slot_size * o.slot) o.start) sector_size m l slot_going).calm.no_stop) (history_of sk) (sector_size + length sk) (omega arith) clean
-          (sym (ap (λ (h : History). stop_of o.part at_power h (length (erased_sector ++ sk))) power_history ∙ ap (stop_of o.part at_power (moved sector_size (history_of sk))) power_long) ∙ power_going)
+          (sym (ap (λ (h : History). first_stop_of_history o.part at_power h (length (erased_sector ++ sk))) power_history ∙ ap (first_stop_of_history o.part at_power (moved sector_size (history_of sk))) power_long) ∙ power_going)
 
-      fall_going : stop_in o.part kept (prefix' ++ sk) ≡ None
-      fall_going = ap (λ (h : History). stop_of o.part kept h (length (prefix' ++ sk))) fall_history ∙ ap (stop_of o.part kept (moved sector_size (history_of sk) ++ desync_at (flash_slot_size * o.slot) o.start)) fall_long ∙ alike.none
+      fall_going : first_stop_of_bytes o.part kept (prefix' ++ sk) ≡ None
+      fall_going = ap (λ (h : History). first_stop_of_history o.part kept h (length (prefix' ++ sk))) fall_history ∙ ap (first_stop_of_history o.part kept (moved sector_size (history_of sk) ++ desync_at (flash_slot_size * o.slot) o.start)) fall_long ∙ alike.none
 
       progress_alike : startup_progress (history_of (prefix' ++ sk)) (length (prefix' ++ sk)) ≡ startup_progress (history_of (erased_sector ++ sk)) (length (erased_sector ++ sk))
       progress_alike =
@@ -276,8 +276,8 @@ module _ (o : OpenFlash) (is : IsOpenFlash o) (t : AttemptCourse) (c : StartsCle
         ap (λ (y : List ℕ). memory_in o.part kept (prefix' ++ y)) (sym all_of) ∙ memory_alike (length s) kept fell ∙ ap (λ (y : List ℕ). memory_in o.part at_power (erased_sector ++ y)) all_of
         ∙ ap (memory_in o.part at_power) (sym bytes_are) ∙ ap (λ (k : Kept). memory_in o.part k t.bytes) (sym c.starts.kept)
 
-    fallen_going : stop_in o.part kept (prefix' ++ s) ≡ None
-    fallen_going = ap (λ (y : List ℕ). stop_in o.part kept (prefix' ++ y)) (sym all_of) ∙ fall_going (length s) kept fell
+    fallen_going : first_stop_of_bytes o.part kept (prefix' ++ s) ≡ None
+    fallen_going = ap (λ (y : List ℕ). first_stop_of_bytes o.part kept (prefix' ++ y)) (sym all_of) ∙ fall_going (length s) kept fell
 
     fallen_wrote : wrote_iprog (history_of (prefix' ++ s)) ≡ true
     fallen_wrote = iprog_later prefix' s (all_append (λ b. b < 256) prefix' s is.has.fits s_fits) (sector_wrote o.flash o.slot o.start is.has is.small)

@@ -20,7 +20,7 @@ use Rattle.x7_flow.specs.Asking.{Commands}
 use Rattle.x7_startup.specs.Startup.{NotBegun}
 use Rattle.x7_engine.specs.Kept.{is_fallback}
 use Rattle.x7_engine.specs.Startup.{startup_calls}
-use Rattle.x7_engine.specs.Stop.{stop_of, why_at}
+use Rattle.x7_engine.specs.Stop.{first_stop_of_history, why_at_access}
 use Rattle.x7_engine.specs.declared.kept.Kept.{Kept}
 use Rattle.x7_engine.proofs.PassesLemmas.{goes_past, went_past, why_passes}
 use Rattle.x7_engine.proofs.SameLemmas.{IsIdle, IsNear, IsSame, SameStartup, near_clear, near_null, near_shutdown, near_spi, near_write, ordered, same_more}
@@ -30,7 +30,7 @@ use Rattle.x7_recovery.specs.Clean.{BeginsClean, MayPrecedeRcrc, bspi, bspi_read
 use Rattle.x7_recovery.proofs.OpenLemmas.{desync_at}
 
 module _ (part : PartData) (kept power : Kept) (low : ℕ) (fell : is_fallback kept.kind ≡ true) where
-  module _ (c : History) (near : IsNear part low c []) (calm : (m : ℕ) → low ≤ m → stop_of part kept c m ≡ None) where
+  module _ (c : History) (near : IsNear part low c []) (calm : (m : ℕ) → low ≤ m → first_stop_of_history part kept c m ≡ None) where
     lead_near : (h : History) → MayPrecedeRcrc h → IsNear part low (moved low h ++ c) (moved low h)
     lead_near _ nothing = near
     lead_near _ (wbstar w place h l) = near_write part low (moved low h ++ c) (moved low h) (lead_near h l) 16 w (low + place) (inl refl) (omega arith)
@@ -44,7 +44,7 @@ module _ (part : PartData) (kept power : Kept) (low : ℕ) (fell : is_fallback k
     clean_same _ (clear place h l) = near_clear part low (moved low h ++ c) (moved low h) (lead_near h l) (low + place) (omega arith)
     clean_same _ (later e h b) = same_more part low (moved low h ++ c) (moved low h) (clean_same h b) (entry e.access (low + e.place)) (omega arith)
 
-    lead_stops : (h : History) (m : ℕ) → low ≤ m → MayPrecedeRcrc h → stop_of part kept (moved low h ++ c) m ≡ None
+    lead_stops : (h : History) (m : ℕ) → low ≤ m → MayPrecedeRcrc h → first_stop_of_history part kept (moved low h ++ c) m ≡ None
     lead_stops _ m k nothing = calm m k
     lead_stops _ m k (wbstar w place h l) = goes_past part kept (moved low h ++ c) (Write 16 w) (low + place) m fell (lead_stops h (low + place) (omega arith) l) (why_none part kept (moved low h ++ c) (Write 16 w) refl refl)
     lead_stops _ m k (timer w place h l) = goes_past part kept (moved low h ++ c) (Write 17 w) (low + place) m fell (lead_stops h (low + place) (omega arith) l) (why_none part kept (moved low h ++ c) (Write 17 w) refl refl)
@@ -53,10 +53,10 @@ module _ (part : PartData) (kept power : Kept) (low : ℕ) (fell : is_fallback k
     lead_stops _ m k (bspi_read place h l) = goes_past part kept (moved low h ++ c) (Write 4 18) (low + place) m fell (lead_stops h (low + place) (omega arith) l) (why_none part kept (moved low h ++ c) (Write 4 18) refl refl)
     lead_stops _ m k (shutdown place h l) = goes_past part kept (moved low h ++ c) (Write 4 11) (low + place) m fell (lead_stops h (low + place) (omega arith) l) (why_none part kept (moved low h ++ c) (Write 4 11) refl refl)
 
-    clean_stops : (h : History) (m : ℕ) → low ≤ m → BeginsClean h → stop_of part power (moved low h) m ≡ None → stop_of part kept (moved low h ++ c) m ≡ None
+    clean_stops : (h : History) (m : ℕ) → low ≤ m → BeginsClean h → first_stop_of_history part power (moved low h) m ≡ None → first_stop_of_history part kept (moved low h ++ c) m ≡ None
     clean_stops _ m k (clear place h l) e = goes_past part kept (moved low h ++ c) (Write 4 7) (low + place) m fell (lead_stops h (low + place) (omega arith) l) (why_none part kept (moved low h ++ c) (Write 4 7) refl refl)
     clean_stops _ m k (later x h b) e =
-        let old : (stop_of part power (moved low h) (low + x.place) ≡ None) × (why_at part power (moved low h) x.access ≡ None) = went_past part power (moved low h) (entry x.access (low + x.place)) m e in
+        let old : (first_stop_of_history part power (moved low h) (low + x.place) ≡ None) × (why_at_access part power (moved low h) x.access ≡ None) = went_past part power (moved low h) (entry x.access (low + x.place)) m e in
         goes_past part kept (moved low h ++ c) x.access (low + x.place) m fell (clean_stops h (low + x.place) (omega arith) b old.0) (why_passes part kept power low (moved low h ++ c) (moved low h) fell (clean_same h b) x.access old.1)
 
     -- a history that begins clean, or what may stand before
@@ -65,11 +65,11 @@ module _ (part : PartData) (kept power : Kept) (low : ℕ) (fell : is_fallback k
 
     -- what a prefix comes to: no stop, startup as at power, and the same memory
     pub record ComesAlike (h : History) (m : ℕ) : Type 0 where
-      pub none : stop_of part kept (moved low h ++ c) m ≡ None
+      pub none : first_stop_of_history part kept (moved low h ++ c) m ≡ None
       pub startup : SameStartup (startup_calls (moved low h ++ c) m) (startup_calls (moved low h) m)
       pub memory : memory_of part (moved low h ++ c) ≡ memory_of part (moved low h)
 
-    pub comes : (h : History) (m : ℕ) → low ≤ m → IsClean h → stop_of part power (moved low h) m ≡ None → ComesAlike h m
+    pub comes : (h : History) (m : ℕ) → low ≤ m → IsClean h → first_stop_of_history part power (moved low h) m ≡ None → ComesAlike h m
     comes h m k (inl l) e = (let n : IsNear part low (moved low h ++ c) (moved low h) = lead_near h l in record { none = lead_stops h m k l; startup = n.startup m k; memory = n.memory })
     comes h m k (inr b) e = (let s : IsSame part low (moved low h ++ c) (moved low h) = clean_same h b in record { none = clean_stops h m k b e; startup = s.startup m k; memory = s.memory })
 

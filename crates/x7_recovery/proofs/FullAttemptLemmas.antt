@@ -22,8 +22,8 @@ use Rattle.x7_flow.specs.FrameMemory.{memory_of}
 use Rattle.x7_engine.specs.Kept.{is_fallback}
 use Rattle.x7_engine.specs.Registers.{wrote_iprog}
 use Rattle.x7_engine.specs.Rest.{AtRest}
-use Rattle.x7_engine.specs.State.{history_by, memory_in, state_of, stop_in, why_of}
-use Rattle.x7_engine.specs.Stop.{Stopped, stop_fault}
+use Rattle.x7_engine.specs.State.{history_by, memory_in, state_of, first_stop_of_bytes, why_stopped}
+use Rattle.x7_engine.specs.Stop.{Stopped, fault_of_stop}
 use Rattle.x7_engine.specs.Value.{attempt_of}
 use Rattle.x7_engine.specs.declared.kept.Kept.{Kept}
 use Rattle.x7_effects.specs.Played.{PlaysFull, device_after}
@@ -111,10 +111,10 @@ pub record StartsWith (part : PartData) (kept : Kept) (address : ℕ) (flash : L
   pub memory : AreSame (memory_in part course.kept course.bytes) (total part plan)
   pub bootsts : (end_state part course).bootsts ≡ boot_status_of (record { kind = kept.kind; cause = None; ignored = ignored }) kept.before
 
-pub bootsts_is : (part : PartData) (kept : Kept) (bytes : List ℕ) (ignored : Bool) → stop_in part kept bytes ≡ None → (is_fallback kept.kind && wrote_iprog (history_of bytes)) ≡ ignored
+pub bootsts_is : (part : PartData) (kept : Kept) (bytes : List ℕ) (ignored : Bool) → first_stop_of_bytes part kept bytes ≡ None → (is_fallback kept.kind && wrote_iprog (history_of bytes)) ≡ ignored
     → (state_of part kept false bytes).bootsts ≡ boot_status_of (record { kind = kept.kind; cause = None; ignored = ignored }) kept.before
 bootsts_is part kept bytes ignored none e =
-    ap (λ (o : Option Stopped). boot_status_of (attempt_of kept false (stop_fault (why_of o)) (history_by o (history_of bytes))) kept.before) none
+    ap (λ (o : Option Stopped). boot_status_of (attempt_of kept false (fault_of_stop (why_stopped o)) (history_by o (history_of bytes))) kept.before) none
     ∙ ap (λ (b : Bool). boot_status_of (record { kind = kept.kind; cause = None; ignored = b }) kept.before) e
 
 pub full_starts : (part : PartData) (kept : Kept) (bytes : List ℕ) (plan : PlanData) (address : ℕ) (flash more : List ℕ) (ignored : Bool) → AreBytes bytes → AtRest part kept bytes → NeverStarts (history_of bytes)
@@ -125,13 +125,13 @@ full_starts part kept bytes plan address flash more ignored fits rest never is f
     let all : List ℕ = bytes ++ stream in
     let all_fit : AreBytes all = all_append (λ b. b < 256) bytes stream fits (full_stream_fits part plan is for) in
     let plays : PlaysFull (device_after part kept bytes) stream plan = full_law part kept bytes plan fits rest is for.is_plan for.width for.addressed in
-    let none : stop_in part kept all ≡ None = plays.rests.no_stop in
+    let none : first_stop_of_bytes part kept all ≡ None = plays.rests.no_stop in
     let seven_at : ℕ → Bool = λ k. (state_of part kept false (take k all)).phase == 7 in
     let seven : seven_at (length all) ≡ true = ap (λ (b : List ℕ). (state_of part kept false b).phase == 7) (take-length all) ∙ ap (λ (p : ℕ). p == 7) (plays.phase false) in
     let l : IsLeast seven_at (length all) = least_of seven_at (length all) seven in
     let taken : List ℕ = take l.least all in
     let count : length taken ≡ l.least = length-take-le l.least all l.within in
-    let going : stop_in part kept taken ≡ None = prefix_goes part kept l.least all all_fit none in
+    let going : first_stop_of_bytes part kept taken ≡ None = prefix_goes part kept l.least all all_fit none in
     let same : history_of taken ≡ history_of all = seven_whole part kept bytes stream l.least all_fit (full_ends part plan bytes fits rest.searching is for never) l.here in
     let first : NoneBefore part kept (all ++ more) (length taken) = λ k few.
     let less : k < l.least = omega (arith, few, count) in

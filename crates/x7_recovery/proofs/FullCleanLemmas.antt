@@ -17,7 +17,7 @@ use Rattle.x7_part.specs.Ranges.{IsPart}
 use Rattle.x7_part.specs.Slot.{slots_in}
 use Rattle.x7_memory.specs.Plan.{IsPlanFor, PlanData}
 use Rattle.x7_planner.specs.FullStream.{full_stream}
-use Rattle.x7_engine.specs.State.{state_of, stop_in, why_of}
+use Rattle.x7_engine.specs.State.{state_of, first_stop_of_bytes, why_stopped}
 use Rattle.x7_engine.specs.declared.kept.Kept.{Kept}
 use Rattle.x7_engine.specs.declared.stop.StopCause.{StopCause}
 use Rattle.x7_engine.specs.declared.stop.StopCause.TheVariants as stop
@@ -106,14 +106,14 @@ module _ (u : Updating) (p : IsPrepared u) (t : AttemptCourse) (s : StartsAsPlan
   taken =
       sym (take-append_seam t.bytes x.rest) ∙ ap (take (length t.bytes)) (sym x.taken ∙ whole) ∙ take-append-le (length t.bytes) short p.golden.rest (let l : length t.bytes ≤ length short = omega (arith, s.within, short_long) in l)
 
-  none : stop_in u.part at_power short ≡ None
+  none : first_stop_of_bytes u.part at_power short ≡ None
   none =
       let plays : PlaysFull (device_after u.part at_power erased_sector) stream u.golden = full_law u.part at_power erased_sector u.golden bytes_erased_sector (rest_erased u.part) p.is_part p.plan.is_plan p.plan.width p.plan.addressed in
       plays.rests.no_stop
 
   at_seven : ((state_of u.part at_power false (take (length t.bytes) short)).phase == 7) ≡ true
   at_seven =
-      let here : ((state_of u.part t.kept false t.bytes).phase == 7) ≡ true = seven ((state_of u.part t.kept false t.bytes).phase == 7) (why_of (stop_in u.part t.kept t.bytes)) (x.ends ∙ ap Some s.golden.starts.started) in
+      let here : ((state_of u.part t.kept false t.bytes).phase == 7) ≡ true = seven ((state_of u.part t.kept false t.bytes).phase == 7) (why_stopped (first_stop_of_bytes u.part t.kept t.bytes)) (x.ends ∙ ap Some s.golden.starts.started) in
       ap (λ (y : List ℕ). (state_of u.part at_power false y).phase == 7) (sym taken) ∙ ap (λ (k : Kept). (state_of u.part k false t.bytes).phase == 7) (sym s.golden.starts.kept) ∙ here
 
   same_history : history_of (take (length t.bytes) short) ≡ history_of short
@@ -141,8 +141,8 @@ module _ (u : Updating) (p : IsPrepared u) (t : AttemptCourse) (s : StartsAsPlan
       fits : AreBytes t.bytes
       fits = subst AreBytes (sym taken) (all_take (λ b. b < 256) (length t.bytes) short short_fits)
 
-      going : stop_in u.part t.kept t.bytes ≡ None
-      going = ap (λ (k : Kept). stop_in u.part k t.bytes) s.golden.starts.kept ∙ ap (stop_in u.part at_power) taken ∙ prefix_goes u.part at_power (length t.bytes) short short_fits none
+      going : first_stop_of_bytes u.part t.kept t.bytes ≡ None
+      going = ap (λ (k : Kept). first_stop_of_bytes u.part k t.bytes) s.golden.starts.kept ∙ ap (first_stop_of_bytes u.part at_power) taken ∙ prefix_goes u.part at_power (length t.bytes) short short_fits none
 
       by : (length t.bytes < length erased_sector) ⊎ (length erased_sector ≤ length t.bytes) → StartsClean u.part u.flash t
       by (inl few) = absurd (not_fewer few)

@@ -16,8 +16,8 @@ use Rattle.x7_planner.specs.FullStream.{full_stream}
 use Rattle.x7_engine.specs.Kept.{AreFallbacks, is_fallback, without_kept}
 use Rattle.x7_engine.specs.Registers.{wrote_iprog}
 use Rattle.x7_engine.specs.Rest.{AtRest}
-use Rattle.x7_engine.specs.State.{attempt_in, history_by, history_taken, kept_after, memory_in, stop_in, why_of}
-use Rattle.x7_engine.specs.Stop.{Stopped, stop_fault}
+use Rattle.x7_engine.specs.State.{attempt_in, history_by, history_taken, kept_after, memory_in, first_stop_of_bytes, why_stopped}
+use Rattle.x7_engine.specs.Stop.{Stopped, fault_of_stop}
 use Rattle.x7_engine.specs.Value.{failure_of}
 use Rattle.x7_engine.specs.declared.kept.Kept.{Kept}
 use Rattle.x7_engine.proofs.FallbackLemmas.{kept_memory, kept_state, kept_stop}
@@ -114,7 +114,7 @@ module _ (o : OpenFlash) (is : IsOpenFlash o) where
   failed_attempt t cause fails =
       let ended : UpdateEnds o t (ending.Failed cause) = fails.ended in
       let kind : t.kept.kind ≡ Iprog = ap (λ (k : Kept). k.kind) ended.kept in
-      ap (λ (k : Kind). record { kind = k; cause = failure_of (stop_fault (why_of (stop_in o.part t.kept t.bytes))) t.wrapped; ignored = is_fallback k && wrote_iprog (history_taken o.part t.kept t.bytes) }) kind
+      ap (λ (k : Kind). record { kind = k; cause = failure_of (fault_of_stop (why_stopped (first_stop_of_bytes o.part t.kept t.bytes))) t.wrapped; ignored = is_fallback k && wrote_iprog (history_taken o.part t.kept t.bytes) }) kind
       ∙ ap (λ (c : Option Cause). record { kind = Iprog; cause = c; ignored = false }) (cause_is o.part o.flash t cause ended.is ended.ends)
 
   -- what the fallback keeps
@@ -169,8 +169,8 @@ module _ (o : OpenFlash) (is : IsOpenFlash o) where
   -- to a golden stream of any kind
   kept_attempt : (one other : Kept) (wrapped : Bool) (bytes : List ℕ) → one.kind ≡ Fallback → other.kind ≡ Fallback → attempt_in o.part one wrapped bytes ≡ attempt_in o.part other wrapped bytes
   kept_attempt one other wrapped bytes e f =
-      ap (λ (s : Option Stopped). record { kind = one.kind; cause = failure_of (stop_fault (why_of s)) wrapped; ignored = is_fallback one.kind && wrote_iprog (history_by s (history_of bytes)) }) (kept_stop o.part one other bytes (ap is_fallback e, ap is_fallback f))
-      ∙ ap (λ (k : Kind). record { kind = k; cause = failure_of (stop_fault (why_of (stop_in o.part other bytes))) wrapped; ignored = is_fallback k && wrote_iprog (history_taken o.part other bytes) }) (e ∙ sym f)
+      ap (λ (s : Option Stopped). record { kind = one.kind; cause = failure_of (fault_of_stop (why_stopped s)) wrapped; ignored = is_fallback one.kind && wrote_iprog (history_by s (history_of bytes)) }) (kept_stop o.part one other bytes (ap is_fallback e, ap is_fallback f))
+      ∙ ap (λ (k : Kind). record { kind = k; cause = failure_of (fault_of_stop (why_stopped (first_stop_of_bytes o.part other bytes))) wrapped; ignored = is_fallback k && wrote_iprog (history_taken o.part other bytes) }) (e ∙ sym f)
 
   pub falls_alike : (c : BootCourse) (t : AttemptCourse) (cause : Cause) (f : AttemptCourse) → IsCourse o.part o.flash c → StartsAsFallback o f → UpdateFallsBack o t cause → FallsBackAlike o cause f c
   falls_alike c t cause f course s fails =

@@ -23,8 +23,8 @@ use Rattle.x7_startup.specs.Startup.{NotBegun}
 use Rattle.x7_engine.specs.Kept.{is_fallback}
 use Rattle.x7_engine.specs.Registers.{wrote_iprog}
 use Rattle.x7_engine.specs.Rest.{AtRest, LastGapGoesOn}
-use Rattle.x7_engine.specs.State.{history_by, kept_after, why_of, stop_in}
-use Rattle.x7_engine.specs.Stop.{Stopped, stop_fault, why_at, stop_of, stopped_at}
+use Rattle.x7_engine.specs.State.{history_by, kept_after, why_stopped, first_stop_of_bytes}
+use Rattle.x7_engine.specs.Stop.{Stopped, fault_of_stop, why_at_access, first_stop_of_history, stop_at_place}
 use Rattle.x7_engine.specs.Value.{failure_of}
 use Rattle.x7_engine.specs.declared.kept.Kept.{Kept}
 use Rattle.x7_engine.specs.declared.stop.StopCause.TheVariants as stop
@@ -132,24 +132,24 @@ module _ (flash : List ℕ) (number start : ℕ) (o : HasOpenSlot flash number s
 
   calm : (part : PartData) (kept : Kept) → IsOff kept [] → IsCalm part kept (wbstar_at (flash_slot_size * number) start) (flash_slot_size * number + 24)
   calm part kept off =
-      let none : why_at part kept [] (access.Write 16 start) ≡ None = why_none part kept [] (access.Write 16 start) refl refl in
+      let none : why_at_access part kept [] (access.Write 16 start) ≡ None = why_none part kept [] (access.Write 16 start) refl refl in
       calm_bytes part kept (wbstar_at (flash_slot_size * number) start) (flash_slot_size * number + 16) (flash_slot_size * number + 24) (omega arith)
       (calm_access part kept [] (access.Write 16 start) 0 (flash_slot_size * number + 16) (omega arith) (record { no_stop = refl; off = off; newest = omega arith }) none off)
 
-  taken_stop : (part : PartData) → stop_in part at_power taken ≡ Some (record { place = flash_slot_size * number + 24; why = stop.Iprog })
+  taken_stop : (part : PartData) → first_stop_of_bytes part at_power taken ≡ Some (record { place = flash_slot_size * number + 24; why = stop.Iprog })
   taken_stop part =
-      let why : why_at part at_power (wbstar_at (flash_slot_size * number) start) (access.Write 4 15) ≡ Some stop.Iprog = refl in
-      ap (λ (h : History). stop_of part at_power h (length taken)) taken_history
-      ∙ ap (stop_of part at_power (iprog_at (flash_slot_size * number) start)) taken_long
+      let why : why_at_access part at_power (wbstar_at (flash_slot_size * number) start) (access.Write 4 15) ≡ Some stop.Iprog = refl in
+      ap (λ (h : History). first_stop_of_history part at_power h (length taken)) taken_history
+      ∙ ap (first_stop_of_history part at_power (iprog_at (flash_slot_size * number) start)) taken_long
       ∙ stop_of_access part at_power (wbstar_at (flash_slot_size * number) start) (access.Write 4 15) (flash_slot_size * number + 24) (calm part at_power refl).no_stop
-      ∙ ap (stopped_at (flash_slot_size * number + 24)) why
+      ∙ ap (stop_at_place (flash_slot_size * number + 24)) why
 
   taken_never : NeverStarts (history_of taken)
   taken_never = subst NeverStarts (sym taken_history) (inl refl, (inl refl, tt))
 
   taken_ends : (part : PartData) → ending_at part at_power taken ≡ Some ending.Iprog
   taken_ends part =
-      ends_by_stop part at_power taken (never_seven part at_power taken taken_fits taken_never) ∙ ap (λ (s : Option Stopped). ending_by (why_of s)) (taken_stop part)
+      ends_by_stop part at_power taken (never_seven part at_power taken taken_fits taken_never) ∙ ap (λ (s : Option Stopped). ending_by (why_stopped s)) (taken_stop part)
 
   -- nothing ends it at fewer bytes
   taken_first : (part : PartData) → NoneBefore part at_power flash (length taken)
@@ -157,8 +157,8 @@ module _ (flash : List ℕ) (number start : ℕ) (o : HasOpenSlot flash number s
       let within : k ≤ length taken = omega (arith, few) in
       let whole : take k taken ++ drop k taken ≡ taken = take-append-drop k taken in
       let count : length (take k taken) ≡ k = length-take-le k taken within in
-      let none : stop_in part at_power (take k taken) ≡ None =
-      no_stop_before part at_power (take k taken) (drop k taken) (record { place = flash_slot_size * number + 24; why = stop.Iprog }) (subst AreBytes (sym whole) taken_fits) (ap (stop_in part at_power) whole ∙ taken_stop part) (omega (arith, count, few, taken_long)) in
+      let none : first_stop_of_bytes part at_power (take k taken) ≡ None =
+      no_stop_before part at_power (take k taken) (drop k taken) (record { place = flash_slot_size * number + 24; why = stop.Iprog }) (subst AreBytes (sym whole) taken_fits) (ap (first_stop_of_bytes part at_power) whole ∙ taken_stop part) (omega (arith, count, few, taken_long)) in
       ap (λ (x : List ℕ). ending_at part at_power (take k x)) taken_split ∙ ap (ending_at part at_power) (take-append-le k taken left within) ∙ prefix_open part at_power k taken taken_fits taken_never none
 
   abbrev pub power : AttemptCourse
@@ -177,7 +177,7 @@ module _ (flash : List ℕ) (number start : ℕ) (o : HasOpenSlot flash number s
         timer = last_word 17 0 (history_by s (history_of taken));
         bspi = last_word 31 0 (history_by s (history_of taken));
         kind = Iprog;
-        before = Some (record { kind = Power; cause = failure_of (stop_fault (why_of s)) false; ignored = false });
+        before = Some (record { kind = Power; cause = failure_of (fault_of_stop (why_stopped s)) false; ignored = false });
       }) (taken_stop part)
       ∙ ap (λ (h : History). record {
         wbstar = last_word 16 0 (until (flash_slot_size * number + 24) h);
@@ -264,7 +264,7 @@ module _ (flash : List ℕ) (number start : ℕ) (o : HasOpenSlot flash number s
       let first : IsGoing part kept NotBegun [] 0 = record { calm = record { no_stop = refl; off = fallback_off kept [] e; newest = omega arith }; still = inl (record { armed_is = never_armed 0; progress_is = refl }, refl); pending = refl } in
       let wbstar : IsGoing part kept NotBegun (wbstar_at m start) (m + 16) =
       going_access part kept NotBegun [] (access.Write 16 start) 0 (m + 16) (omega arith) first (record { start = refl; shutdown = refl; desync = refl }) (why_none part kept [] (access.Write 16 start) refl refl) (fallback_off kept (wbstar_at m start) e) in
-      let ignored : why_at part kept (wbstar_at m start) (access.Write 4 15) ≡ None = rw e refl in
+      let ignored : why_at_access part kept (wbstar_at m start) (access.Write 4 15) ≡ None = rw e refl in
       let iprog : IsGoing part kept NotBegun (iprog_at m start) (m + 24) =
       going_access part kept NotBegun (wbstar_at m start) (access.Write 4 15) (m + 16) (m + 24) (omega arith) wbstar (record { start = refl; shutdown = refl; desync = refl }) ignored (fallback_off kept (iprog_at m start) e) in
       let desync : IsGoing part kept NotBegun (desync_at m start) (m + 32) = going_desync part kept NotBegun (iprog_at m start) (m + 24) (m + 32) (omega arith) iprog (why_none part kept (iprog_at m start) (access.Write 4 13) refl refl) in

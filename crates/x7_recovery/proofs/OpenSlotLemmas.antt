@@ -8,7 +8,7 @@ use Rattle.x7_part.specs.Part.{PartData}
 use Rattle.x7_startup.specs.Startup.{NotBegun}
 use Rattle.x7_engine.specs.Kept.{is_fallback}
 use Rattle.x7_engine.specs.Rest.{AtRest}
-use Rattle.x7_engine.specs.Stop.{why_at}
+use Rattle.x7_engine.specs.Stop.{why_at_access}
 use Rattle.x7_engine.specs.declared.kept.Kept.{Kept}
 use Rattle.x7_engine.proofs.FallbackLemmas.{fallback_off}
 use Rattle.x7_effects.proofs.Items.{AreItems, Item, MayLead, Noop, Write, bytes_of_words, closed, opened}
@@ -64,7 +64,7 @@ slot_place start l = ap (λ (b : List ℕ). (reading_of b).place) (slot_is start
 calm_new : (part : PartData) (kept : Kept) → IsOff kept [] → IsCalm part kept [] 0
 calm_new part kept off = record { no_stop = refl; off = off; newest = omega arith }
 
-pub iprog_ignored : (part : PartData) (kept : Kept) (start : ℕ) → is_fallback kept.kind ≡ true → why_at part kept (after_wbstar start) (access.Write 4 15) ≡ None
+pub iprog_ignored : (part : PartData) (kept : Kept) (start : ℕ) → is_fallback kept.kind ≡ true → why_at_access part kept (after_wbstar start) (access.Write 4 15) ≡ None
 iprog_ignored part kept start e = rw e refl
 
 slot_going : (part : PartData) (kept : Kept) (start : ℕ) → is_fallback kept.kind ≡ true → IsGoing part kept NotBegun (after_slot start) 32

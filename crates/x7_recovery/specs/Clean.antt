@@ -10,7 +10,7 @@ use Rattle.x7_regs.specs.Command.{code_of}
 use Rattle.x7_regs.specs.Register.{number_of}
 use Rattle.x7_regs.specs.declared.command.Command.TheVariants as command
 use Rattle.x7_regs.specs.declared.register.Reg.TheVariants as reg
-use Rattle.x7_engine.specs.State.{stop_in}
+use Rattle.x7_engine.specs.State.{first_stop_of_bytes}
 use Rattle.x7_boot.specs.Attempt.{AttemptCourse}
 use Rattle.x7_recovery.specs.Golden.{StartsAtPower, with_erased}
 
@@ -35,6 +35,6 @@ pub data BeginsClean : History → Type 0 where
 -- nothing has stopped the device by then.
 pub record StartsClean (part : PartData) (flash : List ℕ) (t : AttemptCourse) : Type 0 where
   pub starts : StartsAtPower part (with_erased flash) t
-  pub going : stop_in part t.kept t.bytes ≡ None
+  pub going : first_stop_of_bytes part t.kept t.bytes ≡ None
   pub clean : BeginsClean (history_of (drop sector_size t.bytes))
   pub fits : AreBytes t.bytes

@@ -4,8 +4,8 @@ use Rattle.std.specs.Prelude.{is_some}
 use Rattle.x7_part.specs.Part.{PartData}
 use Rattle.x7_engine.specs.declared.fault.Fault.{Fault}
 use Rattle.x7_engine.specs.Kept.{on_the_bench}
-use Rattle.x7_engine.specs.State.{why_of, stop_in}
-use Rattle.x7_engine.specs.Stop.{stop_fault}
+use Rattle.x7_engine.specs.State.{why_stopped, first_stop_of_bytes}
+use Rattle.x7_engine.specs.Stop.{fault_of_stop}
 use Rattle.x7_debug.specs.declared.order.Order.{Order}
 use Rattle.x7_debug.specs.Session.{MovesTo, SessionState}
 use Rattle.x7_debug.specs.Showing.{final_position, transcript_of}
@@ -19,11 +19,11 @@ stream_steady name = so_steady (List ℕ) (List ℕ) (λ t. whole_known t stream
 
 -- the first n bytes of a stream have a fault
 abbrev fails_at : PartData → List ℕ → ℕ → Bool
-fails_at part stream n = is_some (stop_fault (why_of (stop_in part on_the_bench (take n stream))))
+fails_at part stream n = is_some (fault_of_stop (why_stopped (first_stop_of_bytes part on_the_bench (take n stream))))
 
 pub shown_is : (part : PartData) (stream : List ℕ) (orders : List Order) (begin now : SessionState) (text : List ℕ) (fault : Option Fault) (stopped : Bool)
     → begin.part ≡ part → begin.stream ≡ stream → text ≡ transcript_of begin.part begin.stream orders → MovesTo begin now (final_position begin.part begin.stream orders)
-    → fault ≡ stop_fault (why_of (stop_in now.part on_the_bench (take now.at now.stream))) → stopped ≡ is_some fault → shown_of part stream orders ≡ record { stopped = stopped; text = text }
+    → fault ≡ fault_of_stop (why_stopped (first_stop_of_bytes now.part on_the_bench (take now.at now.stream))) → stopped ≡ is_some fault → shown_of part stream orders ≡ record { stopped = stopped; text = text }
 shown_is part stream orders begin now text fault stopped p q t m f s =
     let ends : fails_at part stream (final_position part stream orders) ≡ stopped
     = ap (λ (x : PartData). fails_at x stream (final_position x stream orders)) (sym p)

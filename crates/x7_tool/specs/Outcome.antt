@@ -30,8 +30,8 @@ use Rattle.x7_update.specs.Writing.{IsReadWrong}
 use Rattle.x7_update.specs.declared.fault.UpdateFault.{UpdateFault}
 use Rattle.x7_update.specs.declared.fault.UpdateFault.TheVariants as update_fault
 use Rattle.x7_engine.specs.Kept.{on_the_bench}
-use Rattle.x7_engine.specs.State.{why_of, stop_in}
-use Rattle.x7_engine.specs.Stop.{stop_fault}
+use Rattle.x7_engine.specs.State.{why_stopped, first_stop_of_bytes}
+use Rattle.x7_engine.specs.Stop.{fault_of_stop}
 use Rattle.x7_mcs.specs.declared.fault.McsFault.{McsFault}
 use Rattle.x7_mcs.specs.declared.fault.McsFault.TheVariants as mcs
 use Rattle.x7_mcs.specs.Flash.{mcs_of}
@@ -137,7 +137,7 @@ script_event name script.NoMemory = no_memory
 -- what a script shows of a stream, and whether the device has a fault at the script's last position
 abbrev pub shown_of : PartData → List ℕ → List Order → Answer
 shown_of part stream orders = record {
-  stopped = is_some (stop_fault (why_of (stop_in part on_the_bench (take (final_position part stream orders) stream))));
+  stopped = is_some (fault_of_stop (why_stopped (first_stop_of_bytes part on_the_bench (take (final_position part stream orders) stream))));
   text = transcript_of part stream orders;
 }
 

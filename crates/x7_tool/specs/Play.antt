@@ -2,8 +2,8 @@
 use Rattle.std.specs.Prelude.{ℕ, List, is_some, Result, Ok, Err, false, if◌then◌else◌, length, nat_lt}
 use Rattle.x7_part.specs.Part.{PartData}
 use Rattle.x7_engine.specs.Kept.{on_the_bench}
-use Rattle.x7_engine.specs.State.{why_of, memory_in, reads_of, state_of, stop_in}
-use Rattle.x7_engine.specs.Stop.{stop_fault}
+use Rattle.x7_engine.specs.State.{why_stopped, memory_in, reads_of, state_of, first_stop_of_bytes}
+use Rattle.x7_engine.specs.Stop.{fault_of_stop}
 use Rattle.x7_report.specs.Reports.{PlayTextState, report_text}
 use Rattle.x7_forms.specs.Event.{Event, too_many_reads}
 use Rattle.x7_forms.specs.Known.{Answer, Known, and_so, streams_known, part_known, reads_limit, stream_limit}
@@ -11,7 +11,7 @@ use Rattle.x7_forms.specs.Known.{Answer, Known, and_so, streams_known, part_know
 -- the report of a new device of the part that took the data, and whether a fault stopped it
 abbrev pub report_of : PartData → List ℕ → Answer
 report_of part bytes = record {
-  stopped = is_some (stop_fault (why_of (stop_in part on_the_bench bytes)));
+  stopped = is_some (fault_of_stop (why_stopped (first_stop_of_bytes part on_the_bench bytes)));
   text = report_text part (state_of part on_the_bench false bytes) (reads_of part on_the_bench bytes) (memory_in part on_the_bench bytes);
 }
 

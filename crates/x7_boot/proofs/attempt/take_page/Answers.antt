@@ -1,8 +1,8 @@
 use Rattle.std.proofs.Common.{◌++◌, List, ℕ, false, Option, length, take, sym, ap, subst, ◌∙◌, refl}
 use Rattle.x7_regs.specs.declared.boot_status.Cause.{Cause}
 use Rattle.x7_engine.specs.ReadBuffer.{ReadBufState}
-use Rattle.x7_engine.specs.State.{why_of, stop_in}
-use Rattle.x7_engine.specs.Stop.{stop_fault}
+use Rattle.x7_engine.specs.State.{why_stopped, first_stop_of_bytes}
+use Rattle.x7_engine.specs.Stop.{fault_of_stop}
 use Rattle.x7_engine.specs.UntilStarted.{taken_until}
 use Rattle.x7_engine.specs.Value.{failure_of}
 use Rattle.x7_engine.specs.declared.fault.Fault.{Fault}
@@ -19,7 +19,7 @@ pub returns-in-Started : goal.returns-in-Started
 returns-in-Started c = λ part kept bytes s going none.
     let fed = c.feed_until_started.ensures in
     let all : List ℕ = bytes ++ take (taken_until (length c.args.page.now) c.feed_until_started.result) c.args.page.now in
-    let cause : Option Cause = failure_of (stop_fault (why_of (stop_in part kept all))) false in
+    let cause : Option Cause = failure_of (fault_of_stop (why_stopped (first_stop_of_bytes part kept all))) false in
     let dropping = ap (λ (r : ReadBufState). r.most) (fed.reads part kept false bytes s).1 ∙ ap (λ (r : ReadBufState). r.most) c.dropping-read.ensures in
     subst (λ (r : UntilStarted). TookPiece (past_in_flash part kept bytes) c.feed_until_started.new.self c.args.page.now (step_until r cause)) c.in-Started.is
     (page_took part kept c.feed_until_started.new.self bytes c.args.page.now c.feed_until_started.new.read c.feed_until_started.result cause fed.within

@@ -8,7 +8,7 @@ use Rattle.x7_engine.specs.declared.stop.StopCause.{StopCause}
 use Rattle.x7_engine.specs.declared.stop.StopCause.TheVariants as stop
 use Rattle.x7_engine.specs.Registers.{word_held}
 use Rattle.x7_engine.specs.Standing.{DeviceStandsFor, DeviceState, IsCutterOf, registers_in}
-use Rattle.x7_engine.specs.State.{end_by, history_taken, why_of, stop_in}
+use Rattle.x7_engine.specs.State.{end_by, history_taken, why_stopped, first_stop_of_bytes}
 use Rattle.x7_engine.proofs.StateLemmas.{why_is}
 use Rattle.x7_engine.proofs.device.Device.end.Goals as goal
 
@@ -34,4 +34,4 @@ returns c = λ given kept wrapped bytes s.
     ∙ same_end c.self.inside.registers.stop c.is_synced.result (is_synced (reading_of bytes).place) c.value.result session
     ∙ ap (end_by c.self.inside.registers.stop (is_synced (reading_of bytes).place)) (c.value.ensures kept h (length bytes) stands.registers_are)
     ∙ ap (λ (o : Option StopCause). end_by o (is_synced (reading_of bytes).place) (word_held kept 16 h)) (sym (why_is part kept wrapped fields bytes stands))
-    ∙ ap (λ (p : PartData). end_by (why_of (stop_in p kept bytes)) (is_synced (reading_of bytes).place) (word_held kept 16 (history_taken p kept bytes))) here
+    ∙ ap (λ (p : PartData). end_by (why_stopped (first_stop_of_bytes p kept bytes)) (is_synced (reading_of bytes).place) (word_held kept 16 (history_taken p kept bytes))) here

@@ -6,7 +6,7 @@ use Rattle.x7_engine.specs.declared.stop.StopCause.{StopCause}
 use Rattle.x7_engine.specs.ReadBuffer.{with_words}
 use Rattle.x7_engine.specs.Past.{AnswersAt, past_of}
 use Rattle.x7_engine.specs.Standing.{DeviceStandsFor, DeviceState, NoWordDue, answer_at_stop, taken_in, reads_given}
-use Rattle.x7_engine.specs.Stop.{stopped_at}
+use Rattle.x7_engine.specs.Stop.{stop_at_place}
 use Rattle.x7_engine.proofs.FeedLemmas.{answers_stop, now_given, read_here, stands_on, taken_by_stop, words_none}
 use Rattle.x7_engine.proofs.UntilReadLemmas.{room_read_on}
 use Rattle.x7_engine.proofs.device.Device.feed.Goals as goal
@@ -85,7 +85,7 @@ returns-then-turn-clause-answer c = λ part kept wrapped bytes s.
     let piece : List ℕ = c.args.piece.now in
     let used = c.turn.ensures.used_up c.if-turn.true in
     let stands : DeviceStandsFor part kept wrapped c.turn.new.self (bytes ++ take (length piece) piece) = returns-then-turn-clause-takes c part kept wrapped bytes s in
-    (stands.stop_is ∙ ap (stopped_at (length (bytes ++ take (length piece) piece))) used.going, used.no_word_due)
+    (stands.stop_is ∙ ap (stop_at_place (length (bytes ++ take (length piece) piece))) used.going, used.no_word_due)
 
 pub returns-then-turn-clause-reads : goal.returns-then-turn-clause-reads
 returns-then-turn-clause-reads c = λ part kept wrapped bytes s.

@@ -6,7 +6,7 @@ use Rattle.x7_engine.specs.declared.stop.StopCause.{StopCause}
 use Rattle.x7_engine.specs.ReadBuffer.{with_words}
 use Rattle.x7_engine.specs.Past.{AnswersAt, AnswersUntilAt, past_of}
 use Rattle.x7_engine.specs.Standing.{DeviceStandsFor, DeviceState, NoWordDue, taken_in, reads_given}
-use Rattle.x7_engine.specs.Stop.{stopped_at}
+use Rattle.x7_engine.specs.Stop.{stop_at_place}
 use Rattle.x7_engine.specs.UntilStarted.{NoneStarted, has_started, says_started, taken_until}
 use Rattle.x7_engine.proofs.FeedLemmas.{answers_stop, now_given, read_here, stands_on, taken_by_stop, words_none}
 use Rattle.x7_engine.proofs.UntilLemmas.{answers_until, count_is, none_on, says_answer}
@@ -146,7 +146,7 @@ returns-then-turn_until_started-clause-answer c = λ part kept wrapped bytes s.
     stands_on part kept wrapped c.give.new.self c.turn_until_started.new.self bytes piece c.runs.at at c.turn_until_started.ensures.took.turned.forward (c.turn_until_started.ensures.took.turned.turn.takes part kept wrapped) given.stands in
     subst (λ (k : ℕ). AnswersUntilAt (past_of part kept wrapped (bytes ++ take k piece)) c.turn_until_started.new.self c.give.new.read c.answer-then-turn_until_started.result) (sym count)
     (subst (AnswersUntilAt (past_of part kept wrapped all) c.turn_until_started.new.self c.give.new.read) (sym c.answer-then-turn_until_started.ensures)
-    (answers_until (past_of part kept wrapped all) c.turn_until_started.new.self c.give.new.read c.started-then-turn_until_started.result fed.All at used.no_word_due (here.stop_is ∙ ap (stopped_at (length all)) used.going, used.no_word_due)))
+    (answers_until (past_of part kept wrapped all) c.turn_until_started.new.self c.give.new.read c.started-then-turn_until_started.result fed.All at used.no_word_due (here.stop_is ∙ ap (stop_at_place (length all)) used.going, used.no_word_due)))
 
 pub returns-then-turn_until_started-clause-reads : goal.returns-then-turn_until_started-clause-reads
 returns-then-turn_until_started-clause-reads c = λ part kept wrapped bytes s.

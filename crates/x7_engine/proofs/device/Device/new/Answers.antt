@@ -6,7 +6,7 @@ use Rattle.x7_engine.specs.declared.due.Due.{Due}
 use Rattle.x7_engine.specs.Kept.{on_the_bench}
 use Rattle.x7_engine.specs.Past.{past_of}
 use Rattle.x7_engine.specs.Standing.{DeviceStandsFor, due_count, registers_in, words_still_due}
-use Rattle.x7_engine.specs.Stop.{stopped_at}
+use Rattle.x7_engine.specs.Stop.{stop_at_place}
 use Rattle.x7_engine.proofs.device.Device.new.Goals as goal
 
 -- the device that took nothing
@@ -16,7 +16,7 @@ first c = record {
   part_is = c.in_ok-part.ensures;
   wrapped_is = refl;
   taken_is = refl;
-  stop_is = sym (ap (stopped_at 0) c.new-3.ensures.going);
+  stop_is = sym (ap (stop_at_place 0) c.new-3.ensures.going);
   registers_are = c.new-3.ensures.stands c.args.part.now c.in_ok-frames.ensures.stands;
   cutter_is = λ _. record { sessions = []; place = Searching []; stands = c.new-2.ensures };
   due_are = record { given = []; all = sym (ap (λ (d : Due). words_still_due c.args.part.now [] d) c.new-3.ensures.no_word_due) };

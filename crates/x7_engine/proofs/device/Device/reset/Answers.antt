@@ -5,7 +5,7 @@ use Rattle.x7_flow.specs.Standing.{FramesFit}
 use Rattle.x7_engine.specs.declared.due.Due.{Due}
 use Rattle.x7_engine.specs.Past.{past_of}
 use Rattle.x7_engine.specs.Standing.{DeviceStandsFor, DeviceState, due_count, registers_in, words_still_due}
-use Rattle.x7_engine.specs.Stop.{stopped_at}
+use Rattle.x7_engine.specs.Stop.{stop_at_place}
 use Rattle.x7_engine.proofs.device.Device.reset.Goals as goal
 
 -- the device that took nothing
@@ -17,7 +17,7 @@ first c =
       part_is = ap (λ (d : DeviceState). d.part) c.self.view_is;
       wrapped_is = refl;
       taken_is = refl;
-      stop_is = sym (ap (stopped_at 0) c.reset.ensures.going);
+      stop_is = sym (ap (stop_at_place 0) c.reset.ensures.going);
       registers_are = c.reset.ensures.stands c.args.self.now.part fit;
       cutter_is = λ _. record { sessions = []; place = Searching []; stands = c.new-self-inside.ensures };
       due_are = record { given = []; all = sym (ap (λ (d : Due). words_still_due c.args.self.now.part [] d) c.reset.ensures.no_word_due) };

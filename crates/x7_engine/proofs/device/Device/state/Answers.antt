@@ -8,8 +8,8 @@ use Rattle.x7_engine.specs.declared.stop.StopCause.{StopCause}
 use Rattle.x7_flow.specs.Standing.{far_owing}
 use Rattle.x7_engine.specs.Standing.{DeviceStandsFor, DeviceState, RegistersStandFor, frames_due, registers_in}
 use Rattle.x7_engine.specs.Startup.{phase_by, startup_progress}
-use Rattle.x7_engine.specs.State.{history_taken, why_of, state_of, state_owing, stop_in, taken_of}
-use Rattle.x7_engine.specs.Stop.{stop_fault}
+use Rattle.x7_engine.specs.State.{history_taken, why_stopped, state_of, state_owing, first_stop_of_bytes, taken_of}
+use Rattle.x7_engine.specs.Stop.{fault_of_stop}
 use Rattle.x7_engine.specs.Value.{lines_by, register_value}
 use Rattle.x7_engine.proofs.FrameLemmas.{none_frames}
 use Rattle.x7_engine.proofs.StateLemmas.{why_is, state_now, taken_is}
@@ -30,28 +30,28 @@ returns-clause-owing c = λ given kept wrapped bytes s.
     let course : Course = course_at part kept h n in
     let all_taken : length bytes ≡ n = sym (taken_is part kept wrapped (fields_of c) bytes stands) in
     let regs : RegistersStandFor part kept (registers_in c.self.inside.registers) h n = subst (λ (k : ℕ). RegistersStandFor part kept (registers_in c.self.inside.registers) h k) all_taken stands.registers_are in
-    let shown : (r : Reg) → register_value course false (stop_fault c.self.inside.registers.stop) r ≡ register_value course false (stop_fault (why_of (stop_in part kept bytes))) r =
-    λ r. ap (λ (o : Option StopCause). register_value course false (stop_fault o) r) (sym (why_is part kept wrapped (fields_of c) bytes stands)) in
+    let shown : (r : Reg) → register_value course false (fault_of_stop c.self.inside.registers.stop) r ≡ register_value course false (fault_of_stop (why_stopped (first_stop_of_bytes part kept bytes))) r =
+    λ r. ap (λ (o : Option StopCause). register_value course false (fault_of_stop o) r) (sym (why_is part kept wrapped (fields_of c) bytes stands)) in
     let taken : c.self.inside.taken ≡ n = stands.taken_is ∙ sym (taken_is part kept wrapped (fields_of c) bytes stands) in
     let phase : c.phase.result ≡ phase_by part (startup_progress h n) = c.phase.ensures.value part h n regs.clock.startup in
     let lines : c.lines.result ≡ lines_by part (startup_progress h n) = c.lines.ensures part h n regs.clock.startup in
     let end : c.end.result ≡ (state_of part kept wrapped bytes).end = c.end.ensures part kept wrapped bytes now in
-    let crc : c.value.result ≡ register_value course wrapped (stop_fault (why_of (stop_in part kept bytes))) reg.Crc = c.value.ensures kept h n regs ∙ shown reg.Crc in
+    let crc : c.value.result ≡ register_value course wrapped (fault_of_stop (why_stopped (first_stop_of_bytes part kept bytes))) reg.Crc = c.value.ensures kept h n regs ∙ shown reg.Crc in
     let due : ℕ = frames_due c.self.inside.registers.due in
     let far : c.value-2.result ≡ far_owing part h due = c.value-2.ensures kept h n regs in
-    let cmd : c.value-3.result ≡ register_value course wrapped (stop_fault (why_of (stop_in part kept bytes))) reg.Cmd = c.value-3.ensures kept h n regs ∙ shown reg.Cmd in
-    let ctl0 : c.value-4.result ≡ register_value course wrapped (stop_fault (why_of (stop_in part kept bytes))) reg.Ctl0 = c.value-4.ensures kept h n regs ∙ shown reg.Ctl0 in
-    let mask : c.value-5.result ≡ register_value course wrapped (stop_fault (why_of (stop_in part kept bytes))) reg.Mask = c.value-5.ensures kept h n regs ∙ shown reg.Mask in
-    let stat : c.value-6.result ≡ register_value course wrapped (stop_fault (why_of (stop_in part kept bytes))) reg.Stat = c.value-6.ensures kept h n regs ∙ shown reg.Stat in
-    let cor0 : c.value-7.result ≡ register_value course wrapped (stop_fault (why_of (stop_in part kept bytes))) reg.Cor0 = c.value-7.ensures kept h n regs ∙ shown reg.Cor0 in
-    let idcode : c.value-8.result ≡ register_value course wrapped (stop_fault (why_of (stop_in part kept bytes))) reg.Idcode = c.value-8.ensures kept h n regs ∙ shown reg.Idcode in
-    let axss : c.value-9.result ≡ register_value course wrapped (stop_fault (why_of (stop_in part kept bytes))) reg.Axss = c.value-9.ensures kept h n regs ∙ shown reg.Axss in
-    let cor1 : c.value-10.result ≡ register_value course wrapped (stop_fault (why_of (stop_in part kept bytes))) reg.Cor1 = c.value-10.ensures kept h n regs ∙ shown reg.Cor1 in
-    let wbstar : c.value-11.result ≡ register_value course wrapped (stop_fault (why_of (stop_in part kept bytes))) reg.Wbstar = c.value-11.ensures kept h n regs ∙ shown reg.Wbstar in
-    let timer : c.value-12.result ≡ register_value course wrapped (stop_fault (why_of (stop_in part kept bytes))) reg.Timer = c.value-12.ensures kept h n regs ∙ shown reg.Timer in
-    let bootsts : c.boot_status.result ≡ register_value course wrapped (stop_fault (why_of (stop_in part kept bytes))) reg.Bootsts = c.boot_status.ensures part kept wrapped bytes now in
-    let ctl1 : c.value-13.result ≡ register_value course wrapped (stop_fault (why_of (stop_in part kept bytes))) reg.Ctl1 = c.value-13.ensures kept h n regs ∙ shown reg.Ctl1 in
-    let bspi : c.value-14.result ≡ register_value course wrapped (stop_fault (why_of (stop_in part kept bytes))) reg.Bspi = c.value-14.ensures kept h n regs ∙ shown reg.Bspi in
+    let cmd : c.value-3.result ≡ register_value course wrapped (fault_of_stop (why_stopped (first_stop_of_bytes part kept bytes))) reg.Cmd = c.value-3.ensures kept h n regs ∙ shown reg.Cmd in
+    let ctl0 : c.value-4.result ≡ register_value course wrapped (fault_of_stop (why_stopped (first_stop_of_bytes part kept bytes))) reg.Ctl0 = c.value-4.ensures kept h n regs ∙ shown reg.Ctl0 in
+    let mask : c.value-5.result ≡ register_value course wrapped (fault_of_stop (why_stopped (first_stop_of_bytes part kept bytes))) reg.Mask = c.value-5.ensures kept h n regs ∙ shown reg.Mask in
+    let stat : c.value-6.result ≡ register_value course wrapped (fault_of_stop (why_stopped (first_stop_of_bytes part kept bytes))) reg.Stat = c.value-6.ensures kept h n regs ∙ shown reg.Stat in
+    let cor0 : c.value-7.result ≡ register_value course wrapped (fault_of_stop (why_stopped (first_stop_of_bytes part kept bytes))) reg.Cor0 = c.value-7.ensures kept h n regs ∙ shown reg.Cor0 in
+    let idcode : c.value-8.result ≡ register_value course wrapped (fault_of_stop (why_stopped (first_stop_of_bytes part kept bytes))) reg.Idcode = c.value-8.ensures kept h n regs ∙ shown reg.Idcode in
+    let axss : c.value-9.result ≡ register_value course wrapped (fault_of_stop (why_stopped (first_stop_of_bytes part kept bytes))) reg.Axss = c.value-9.ensures kept h n regs ∙ shown reg.Axss in
+    let cor1 : c.value-10.result ≡ register_value course wrapped (fault_of_stop (why_stopped (first_stop_of_bytes part kept bytes))) reg.Cor1 = c.value-10.ensures kept h n regs ∙ shown reg.Cor1 in
+    let wbstar : c.value-11.result ≡ register_value course wrapped (fault_of_stop (why_stopped (first_stop_of_bytes part kept bytes))) reg.Wbstar = c.value-11.ensures kept h n regs ∙ shown reg.Wbstar in
+    let timer : c.value-12.result ≡ register_value course wrapped (fault_of_stop (why_stopped (first_stop_of_bytes part kept bytes))) reg.Timer = c.value-12.ensures kept h n regs ∙ shown reg.Timer in
+    let bootsts : c.boot_status.result ≡ register_value course wrapped (fault_of_stop (why_stopped (first_stop_of_bytes part kept bytes))) reg.Bootsts = c.boot_status.ensures part kept wrapped bytes now in
+    let ctl1 : c.value-13.result ≡ register_value course wrapped (fault_of_stop (why_stopped (first_stop_of_bytes part kept bytes))) reg.Ctl1 = c.value-13.ensures kept h n regs ∙ shown reg.Ctl1 in
+    let bspi : c.value-14.result ≡ register_value course wrapped (fault_of_stop (why_stopped (first_stop_of_bytes part kept bytes))) reg.Bspi = c.value-14.ensures kept h n regs ∙ shown reg.Bspi in
     let all : _ ≡ state_owing part kept wrapped bytes due = λ i. record {
       taken = taken i;
       end = end i;

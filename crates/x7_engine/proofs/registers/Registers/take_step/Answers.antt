@@ -5,7 +5,7 @@ use Rattle.x7_flow.proofs.TakenLemmas.{other_access}
 use Rattle.x7_engine.specs.declared.fault.Fault.TheVariants as fault
 use Rattle.x7_engine.specs.declared.stop.StopCause.TheVariants as stop
 use Rattle.x7_engine.specs.Standing.{registers_in}
-use Rattle.x7_engine.specs.Stop.{stop_of, stopped_at}
+use Rattle.x7_engine.specs.Stop.{first_stop_of_history, stop_at_place}
 use Rattle.x7_engine.proofs.ClockLemmas.{stop_of_access}
 use Rattle.x7_engine.proofs.FrameLemmas.{frames_none_at, standing_frames, none_among}
 use Rattle.x7_engine.proofs.PlainLemmas.{clock_other}
@@ -18,7 +18,7 @@ returns-in-Read-clause-enters c = λ kept h place next s.
 
 pub returns-in-Bad-clause-enters : goal.returns-in-Bad-clause-enters
 returns-in-Bad-clause-enters c = λ kept h place next s.
-    let going : stop_of c.args.part.now kept h place ≡ None = s.stop ∙ ap (stopped_at place) c.requires.may_take.going in
+    let going : first_stop_of_history c.args.part.now kept h place ≡ None = s.stop ∙ ap (stop_at_place place) c.requires.may_take.going in
     rw c.in-Bad.is record {
       places = (next.0, omega arith, next.1);
       words = record { each = s.words.each };

@@ -5,7 +5,7 @@ use Rattle.x7_engine.specs.Registers.{takes_shutdown}
 use Rattle.x7_part.specs.Part.{PartData}
 use Rattle.x7_flow.specs.Standing.{FramesStandFor}
 use Rattle.x7_engine.specs.Standing.{AreLastWords, FramesAre, IsProgress, progress_in}
-use Rattle.x7_engine.specs.Stop.{stop_of, stopped_at}
+use Rattle.x7_engine.specs.Stop.{first_stop_of_history, stop_at_place}
 use Rattle.x7_engine.proofs.ClockLemmas.{stop_of_access}
 use Rattle.x7_engine.proofs.FrameLemmas.{access_frames, why_is, none_frames, standing_frames, none_among}
 use Rattle.x7_engine.proofs.registers.Registers.write.Goals as goal
@@ -20,7 +20,7 @@ returns c = record {
       let progress : IsProgress c.idcode-idcode.result (progress_in c.args.self.now.progress) h = subst (λ (i : ℕ). IsProgress i (progress_in c.args.self.now.progress) h) (sym e) s.progress in
       let taken : c.write-taken.result ≡ takes_shutdown h access = c.write-taken.ensures.takes h command progress in
       let cor0 : c.held-cor0.result ≡ last_word 9 0 h = c.held-cor0.ensures kept h s.words in
-      let going : stop_of part kept h place ≡ None = s.stop ∙ ap (stopped_at place) c.requires.may_take.going in
+      let going : first_stop_of_history part kept h place ≡ None = s.stop ∙ ap (stop_at_place place) c.requires.may_take.going in
       let are : FramesStandFor part c.args.self.now.frames h 0 = standing_frames part c.args.self.now.frames c.args.self.now.stop h c.args.self.now.due c.requires.may_take.going c.requires.may_take.no_word_due s.frames in
       let refused = c.write-refused.ensures.fault h (c.settings-settings.ensures.after part kept h place s) are in
       let why = c.why_by_write-why.ensures.value kept h place s command in
@@ -33,7 +33,7 @@ returns c = record {
         kind = s.kind;
         before = s.before;
         clock = c.write-3.ensures place part kept h (record { executed_is = command; takes_shutdown_is = taken; cor0_is = cor0 }) s.clock;
-        stop = stop_of_access part kept h access place going ∙ ap (stopped_at place) (sym (why_is part kept h access c.why_by_write-why.result c.first_cause-self.result c.write-refused.result refused why c.first_cause-self.ensures.value));
+        stop = stop_of_access part kept h access place going ∙ ap (stop_at_place place) (sym (why_is part kept h access c.why_by_write-why.result c.first_cause-self.result c.write-refused.result refused why c.first_cause-self.ensures.value));
         frames = subst (λ (n : ℕ). FramesAre part c.write-refused.new.self c.first_cause-self.result (entry access place ∷ h) n) (sym (none_frames c.args.self.now.due c.requires.may_take.no_word_due))
             (access_frames part kept c.args.self.now.frames c.write-refused.new.self h (entry access place) c.why_by_write-why.result c.first_cause-self.result c.write-refused.result are after refused why c.first_cause-self.ensures.value);
         due_kind = none_among c.args.self.now.due (entry access place ∷ h) c.requires.may_take.no_word_due;
