@@ -1,7 +1,9 @@
 -- What is known of the real inputs, flash and sinks (this project's choice).
 use Rattle.std.specs.Prelude.{◌≡◌, ◌↔◌, ◌+◌, ◌<◌, ℕ, Bool, true, false, List, [], ◌∷◌, length, take, bit_and, Option, None, Some, IfSome, is_some, Result, Ok, Err, OnOk, OnErr}
+use Rattle.std.specs.Fs.{asks_append, asks_create, asks_create_new, asks_read, asks_truncate, asks_write}
 use Rattle.std.specs.Io.KnownBytes.{Appends, Consumes, IsAtEnd, Keeps}
 use Rattle.std.specs.List.{concat}
+use Rattle.std.specs.declared.fs.options.OpenOptions.{OpenOptions}
 use Rattle.std.specs.declared.io.ErrorKind.{ErrorKind}
 use Rattle.std.specs.declared.io.ErrorKind.TheVariants.{NotFound}
 use Rattle.x7_words.specs.Count.{IsLaterCount, raised}
@@ -88,6 +90,16 @@ after_select f rest refusal (Err fault) =
 -- buffer is empty
 abbrev pub ReadGives : Option (List ℕ) → Option (List ℕ) → List ℕ → ℕ → Type 0
 ReadGives old new buf n = Consumes old new (take n buf) × (n ≡ 0 → 0 < length buf → IsAtEnd new)
+
+-- Options that ask to read and to write a file, and for nothing else: a file that is opened with them keeps its bytes,
+-- each write goes to its place, and no file is made.
+pub record AsksReadAndWriteAlone (options : OpenOptions) : Type 0 where
+  pub read : asks_read options ≡ true
+  pub write : asks_write options ≡ true
+  pub append : asks_append options ≡ false
+  pub truncate : asks_truncate options ≡ false
+  pub create : asks_create options ≡ false
+  pub create_new : asks_create_new options ≡ false
 
 -- what is known of a file of this type
 pub record KnowsOfFile (F : Type 0) : Type 0 where

@@ -3,7 +3,7 @@ ghost use Rattle.std.specs.Prelude.{◌≡◌, ◌+◌, ◌<◌, ◌≤◌, ◌^
 ghost use Rattle.std.specs.Io.KnownBytes.{Consumes};
 ghost use Rattle.std.specs.Io.Seek.{MovesTo};
 ghost use Rattle.x7_words.specs.Count.{IsLaterCount, raised};
-ghost use Rattle.x7_files.specs.Files.{after_attach, file_tells, known_flash, ClearsBits, ClearsAt, EndsAt, IsExtent, ReadsAt, RefusedFor, TriesWrite, WhileOpen, WritesAt};
+ghost use Rattle.x7_files.specs.Files.{after_attach, file_tells, known_flash, AsksReadAndWriteAlone, ClearsBits, ClearsAt, EndsAt, IsExtent, ReadsAt, RefusedFor, TriesWrite, WhileOpen, WritesAt};
 ghost use Rattle.x7_words.specs.Flash.{erased_sector, sector_size, sector_place, zip_with};
 
 use super::count_refusal;
@@ -51,11 +51,20 @@ fn read_from<F: Read + Seek>(file: &mut F, place: u64, buf: &mut [u8]) -> io::Re
 /// How many bytes a program reads and writes at once.
 const PIECE_SIZE: usize = 4096;
 
-/// Opens a file for reading and writing, or for reading alone where it may not be written.
-fn open_flash<R: Files>(rt: &R, name: &str) -> io::Result<R::File> {
+/// The options that a flash file is opened with where it may be written.
+fn flash_options() -> OpenOptions
+    ensures { AsksReadAndWriteAlone result }
+{
     let mut options = OpenOptions::new();
     options.read(true);
     options.write(true);
+    options
+}
+
+/// Opens a file with these options, or for reading alone where it may not be written.
+fn open_flash<R: Files>(rt: &R, options: &OpenOptions, name: &str) -> io::Result<R::File>
+    requires { AsksReadAndWriteAlone options.now }
+{
     match options.open(rt, name) {
         Ok(file) => Ok(file),
         Err(_) => fs::open(rt, name),
@@ -66,7 +75,7 @@ fn open_flash<R: Files>(rt: &R, name: &str) -> io::Result<R::File> {
 fn open_sized<R: Files>(rt: &R, name: &str) -> io::Result<(R::File, u64)>
     ensures { IfOk result (λ opened. IsExtent (file_tells R.File.stream_position R.File.stream_bytes) opened.1 (Some opened.0)) }
 {
-    let mut file = open_flash(rt, name)?;
+    let mut file = open_flash(rt, &flash_options(), name)?;
     let extent = extent_of(&mut file)?;
     Ok((file, extent))
 }
