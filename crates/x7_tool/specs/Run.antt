@@ -94,15 +94,17 @@ IsPrefixOf (Some known) name bytes = (rest : List ℕ) × (bytes_found (known.in
 abbrev pub PutsListing : List ℕ → SinkState → SinkState → Type 0
 PutsListing bytes old new = (text : List ℕ) × ((stream_listing bytes ≡ Ok text) × PutsSome old text new)
 
--- The bytes have a listing, and what was put is a prefix of the listing of every list of
--- bytes that begins with them and has one.
+-- The bytes have a listing whatever follows them, so they don't end inside a header, and what was put is a prefix of
+-- the listing of every list of bytes that begins with them.
 pub record ListsSoFar (bytes : List ℕ) (old new : Option (List ℕ)) : Type 0 where
-  pub has_listing : (text : List ℕ) × (stream_listing bytes ≡ Ok text)
+  pub has_listing : (rest : List ℕ) → (text : List ℕ) × (stream_listing (bytes ++ rest) ≡ Ok text)
   pub puts_prefix : (rest text : List ℕ) → AreBytes rest → stream_listing (bytes ++ rest) ≡ Ok text → PutsPrefix old text new
 
--- the output got a prefix of the listing of bytes that are a prefix of the stream, and of whatever may follow them
+-- the output got nothing, or a prefix of the listing of bytes that are a prefix of the stream, and of whatever may
+-- follow them
 abbrev pub ListsPrefix : List ℕ → Outside → Outside → Type 0
-ListsPrefix stream old new = (bytes : List ℕ) × (IsPrefixOf (known_in old) stream bytes × ListsSoFar bytes old.out.written new.out.written)
+ListsPrefix stream old new =
+    (new.out.written ≡ old.out.written) ⊎ ((bytes : List ℕ) × (IsPrefixOf (known_in old) stream bytes × ListsSoFar bytes old.out.written new.out.written))
 
 -- what `list` wrote where a reason ended it: what it had listed as it read, or nothing
 -- where the reason comes before the listing
