@@ -82,7 +82,7 @@ FeedsPrefix old new prefix = (part : PartData) (bytes : List ℕ) → HasPlayedB
 
 -- by whether a player is over: with `count` bytes more it was given no more than a device counts
 abbrev pub MayPlayBy : Bool → PlayState → ℕ → Type 0
-MayPlayBy over s count = (part : PartData) × (bytes : List ℕ) × HasPlayedBy over part bytes s × (length bytes + count ≤ taken_bytes_limit)
+MayPlayBy over s count = (part : PartData) × ((bytes : List ℕ) × (HasPlayedBy over part bytes s × (length bytes + count ≤ taken_bytes_limit)))
 
 -- a player may be given `count` bytes more, which with all before are no more than a device counts
 abbrev pub MayPlay : Player → ℕ → Type 0
