@@ -132,7 +132,7 @@ returns-in-Boot-clause-answered g c = λ e f.
     let old = outside (g.I.Inputs.state c.args.inputs.now) (g.F.Flash.state c.args.flash.now) (g.O.Sink.state c.args.out.now) e in
     let new = outside (g.I.Inputs.state c.boot.new.inputs) (g.F.Flash.state c.boot.new.flash) (g.O.Sink.state c.put_whole-in-Boot.new.out) f in
     flash_answered _ (Booting c.in-Boot.part.now c.in-Boot.name.now) old new (result_by play_answer c.boot.result) _ (ap asked_by c.in-Boot.is) refl
-    (boot_judges c.in-Boot.part.now c.in-Boot.name.now (sources old.inputs old.flash) (sources new.inputs new.flash) (seen play_answer c.boot.result) old.out new.out _ c.boot.ensures.ready.judges c.put_whole-in-Boot.ensures)
+    (boot_judges c.in-Boot.part.now c.in-Boot.name.now (sources old.inputs old.flash) (sources new.inputs new.flash) (result_by play_answer c.boot.result) old.out new.out _ c.boot.ensures.ready.judges c.put_whole-in-Boot.ensures)
     c.boot.ensures.ready (c.boot.ensures.ready.caused old new) c.put_whole-in-Boot.ensures
 
 pub returns-in-Boot-clause-flash : goal.returns-in-Boot-clause-flash
