@@ -9,7 +9,6 @@ use Rattle.x7_words.specs.Input.{InputsState, AsksForName, AtEnd, MissesInput, R
 use Rattle.x7_words.specs.Input.{MapLacks}
 use Rattle.x7_words.specs.Sink.{SinkFails, SinkState, appended, PutsPrefix}
 use Rattle.x7_words.specs.Word.{AreBytes}
-use Rattle.x7_words.proofs.SinkLemmas.{appended_nil}
 use Rattle.x7_header.specs.Header.{fixed_bytes}
 use Rattle.x7_header.proofs.HeaderLemmas.{raw_at}
 use Rattle.x7_listing.specs.Listing.{listing_of}
@@ -39,9 +38,9 @@ use Rattle.x7_tool.proofs.RunLemmas.{has_cause}
 abbrev pub PutsListed : List ℕ → Option (List ℕ) → Option (List ℕ) → Type 0
 PutsListed bytes old new = (text : List ℕ) × ((stream_listing bytes ≡ Ok text) × PutsPrefix old text new)
 
--- a prefix of the listing of a prefix of the stream was put, and of whatever may follow it
+-- nothing was put, or a prefix of the listing of a prefix of the stream, and of whatever may follow it
 abbrev pub PutsPrefixOf : Option Known → List ℕ → Option (List ℕ) → Option (List ℕ) → Type 0
-PutsPrefixOf known stream old new = (bytes : List ℕ) × (IsPrefixOf known stream bytes × ListsSoFar bytes old new)
+PutsPrefixOf known stream old new = (new ≡ old) ⊎ ((bytes : List ℕ) × (IsPrefixOf known stream bytes × ListsSoFar bytes old new))
 
 -- what is left by a reason
 abbrev pub LeftAs : Why → Option Known → List ℕ → Option (List ℕ) → Option (List ℕ) → Type 0
@@ -130,19 +129,8 @@ pub faulted : (old new : InputsState) (flash : Option (List ℕ)) (stream : List
     → IsCaused {A = Answer} (with_inputs old.contents flash) (CameIn (step_over (stream ∷ []) old new)) (λ known. listed known stream) (Err (reading_failed stream))
 faulted old new flash stream f g = inl (fault_from Answer (with_inputs old.contents flash) old new stream (λ t r. listed t stream ≡ r) f (broken_due old.contents flash stream new.given g))
 
-prefix_none : (contents : Option (List ℕ → Option (List ℕ))) (flash : Option (List ℕ)) (name : List ℕ) → IsPrefixOf (with_inputs contents flash) name []
-prefix_none None flash name = tt
-prefix_none (Some inputs) flash name = (bytes_found (input_found (inputs name)), refl)
-
-none_put : (old : Option (List ℕ)) (text : List ℕ) → PutsPrefix old text old
-none_put old text = ([], (text, refl, sym (appended_nil old)))
-
 pub nothing_listed : stream_listing [] ≡ Ok (listing_of [])
 nothing_listed = raw_listed [] ((raw_at [] (starts_with nat_eq [] fixed_bytes) refl).1 (λ rest. λ e. absurd cc))
-
--- nothing was put of any listing
-pub nothing_put : (old : Option (List ℕ)) → ListsSoFar [] old old
-nothing_put old = record { has_listing = (listing_of [], nothing_listed); puts_prefix = λ rest text fits e. none_put old text }
 
 -- the bytes that were taken are a prefix of the input
 prefix_taken : (contents : Option (List ℕ → Option (List ℕ))) (flash : Option (List ℕ)) (name taken : List ℕ) (rest : Option (List ℕ)) → RestIsWhole contents name (preceded taken rest) → IsPrefixOf (with_inputs contents flash) name taken
@@ -156,12 +144,16 @@ prefix_taken (Some inputs) flash name taken (Some rest) s =
 -- a stream whose reading failed after these bytes
 pub broken : (contents : Option (List ℕ → Option (List ℕ))) (flash : Option (List ℕ)) (C : Mishap → Type 0) (stream taken : List ℕ) (rest : Option (List ℕ)) (Full : Type 0) (old now : Option (List ℕ))
     → RestIsWhole contents stream (preceded taken rest) → IsCaused {A = Answer} (with_inputs contents flash) C (λ known. listed known stream) (Err (reading_failed stream)) → ListsSoFar taken old now → Ended (with_inputs contents flash) C stream Full old now (Err (reading_failed stream))
-broken contents flash C stream taken rest Full old now s c p = (c, (taken, (prefix_taken contents flash stream taken rest s, p)))
+broken contents flash C stream taken rest Full old now s c p = (c, inr (taken, (prefix_taken contents flash stream taken rest s, p)))
 
 -- memory that ended after these bytes
 pub out_of_memory : (contents : Option (List ℕ → Option (List ℕ))) (flash : Option (List ℕ)) (C : Mishap → Type 0) (stream taken : List ℕ) (rest : Option (List ℕ)) (Full : Type 0) (old now : Option (List ℕ))
     → RestIsWhole contents stream (preceded taken rest) → ListsSoFar taken old now → Ended (with_inputs contents flash) C stream Full old now (Err no_memory)
-out_of_memory contents flash C stream taken rest Full old now s p = (inl (inl refl), (taken, (prefix_taken contents flash stream taken rest s, p)))
+out_of_memory contents flash C stream taken rest Full old now s p = (inl (inl refl), inr (taken, (prefix_taken contents flash stream taken rest s, p)))
+
+-- memory that ended before anything was put
+pub out_of_memory_before : (known : Option Known) (C : Mishap → Type 0) (stream : List ℕ) (Full : Type 0) (old now : Option (List ℕ)) → now ≡ old → Ended known C stream Full old now (Err no_memory)
+out_of_memory_before known C stream Full old now e = (inl (inl refl), inl e)
 
 -- what may follow the bytes that were taken
 pub may_follow : (last : Bool) (rest : Option (List ℕ)) (left : List ℕ) → rest ≡ Some left → (last ≡ true → AtEnd rest) → FollowsUnlessLast last left
@@ -191,12 +183,12 @@ listed_is inputs flash stream bytes e = rw e refl
 pub oversized : (contents : Option (List ℕ → Option (List ℕ))) (flash : Option (List ℕ)) (C : Mishap → Type 0) (stream taken listed_prefix : List ℕ) (rest more : Option (List ℕ)) (Full : Type 0) (old now : Option (List ℕ))
     → RestIsWhole contents stream (preceded taken rest) → RestIsWhole contents stream (preceded listed_prefix more) → ((left : List ℕ) → (text : List ℕ) × (stream_listing (taken ++ left) ≡ Ok text)) → stream_limit < length taken → ListsSoFar listed_prefix old now
     → Ended (with_inputs contents flash) C stream Full old now (Err (too_large stream))
-oversized None flash C stream taken listed_prefix rest more Full old now s t h l p = (inr tt, (listed_prefix, (tt, p)))
+oversized None flash C stream taken listed_prefix rest more Full old now s t h l p = (inr tt, inr (listed_prefix, (tt, p)))
 oversized (Some inputs) flash C stream taken listed_prefix rest more Full old now s t h l p =
     let all = known_all inputs stream taken rest s in
     let text = h all.0 in
     let long : nat_lt stream_limit (length (taken ++ all.0)) ≡ true = grind (arith, length-append taken all.0, l, nat_tests) in
-    (inr (tt, listed_is inputs flash stream (taken ++ all.0) all.1.1 ∙ due_over stream (taken ++ all.0) text.0 true text.1 long), (listed_prefix, (prefix_taken (Some inputs) flash stream listed_prefix more t, p)))
+    (inr (tt, listed_is inputs flash stream (taken ++ all.0) all.1.1 ∙ due_over stream (taken ++ all.0) text.0 true text.1 long), inr (listed_prefix, (prefix_taken (Some inputs) flash stream listed_prefix more t, p)))
 
 -- a stream whose header is refused
 pub refused : (contents : Option (List ℕ → Option (List ℕ))) (flash : Option (List ℕ)) (C : Mishap → Type 0) (stream taken : List ℕ) (rest : Option (List ℕ)) (last : Bool) (place : ℕ) (Full : Type 0) (old : Option (List ℕ))
@@ -229,7 +221,7 @@ unopened s n flash stream Full old event (inl h, none) a =
     ends_same (with_inputs s.contents flash) (CameIn (step_over (stream ∷ []) s n)) stream Full old old event (missing stream) h.0 (absent s n flash stream a none h.1, refl)
 unopened s n flash stream Full old event (inr h, none) a =
     ends_same (with_inputs s.contents flash) (CameIn (step_over (stream ∷ []) s n)) stream Full old old event (reading_failed stream) h.0
-    (faulted s n flash stream (record { among = inl refl; deselected = record { asked = a.asked; selected = none }; risen = h.1 }) (omega (arith, a.given)), ([], (prefix_none s.contents flash stream, nothing_put old)))
+    (faulted s n flash stream (record { among = inl refl; deselected = record { asked = a.asked; selected = none }; risen = h.1 }) (omega (arith, a.given)), inl refl)
 
 -- an error by two of its clauses
 pub both_err : {A B : Type 0} (r : Result A B) (P Q R : B → Type 0) → ((e : B) → P e → Q e → R e) → IfErr r P → IfErr r Q → IfErr r R
@@ -247,11 +239,11 @@ pub without_prefix : (s m n : InputsState) (flash : Option (List ℕ)) (stream :
     → Ended (with_inputs s.contents flash) (CameIn (step_over (stream ∷ []) s n)) stream Full old old (Err event)
 without_prefix s m n flash stream Full old event f sel a (inl h) =
     ends_same (with_inputs s.contents flash) (CameIn (step_over (stream ∷ []) s n)) stream Full old old event no_memory h
-    (out_of_memory s.contents flash (CameIn (step_over (stream ∷ []) s n)) stream [] m.rest Full old old (nothing_taken s.contents stream m.rest sel) (nothing_put old))
+    (out_of_memory_before (with_inputs s.contents flash) (CameIn (step_over (stream ∷ []) s n)) stream Full old old refl)
 without_prefix s m n flash stream Full old event f sel a (inr (inl h)) =
     let fault = at_fault s m n stream [] stream_limit f (at_open stream m a) h.1 h.2 in
     ends_same (with_inputs s.contents flash) (CameIn (step_over (stream ∷ []) s n)) stream Full old old event (reading_failed stream) h.0
-    (broken s.contents flash (CameIn (step_over (stream ∷ []) s n)) stream [] m.rest Full old old (nothing_taken s.contents stream m.rest sel) (faulted s n flash stream fault.0 (omega (arith, fault.1))) (nothing_put old))
+    (faulted s n flash stream fault.0 (omega (arith, fault.1)), inl refl)
 without_prefix s m n flash stream Full old event f sel a (inr (inr h)) =
     ends_same (with_inputs s.contents flash) (CameIn (step_over (stream ∷ []) s n)) stream Full old old event (bad_input stream (input.Byte h.place)) h.reports
     (refused s.contents flash (CameIn (step_over (stream ∷ []) s n)) stream h.bytes n.rest h.last h.place Full old (subst (λ r. RestIsWhole s.contents stream r) h.taken sel) h.end h.refused)

@@ -32,7 +32,7 @@ use Rattle.x7_svf.specs.declared.fault.SvfFault.TheVariants as svf
 use Rattle.x7_tool.specs.Outcome.{DebugInputs, DebuggedAs, PartAndText, PlayedSvf, asm_event, frames_event, mcs_event, planner_event, script_event, svf_event, update_event}
 use Rattle.x7_update.specs.declared.fault.UpdateFault.{UpdateFault}
 use Rattle.x7_update.specs.declared.fault.UpdateFault.TheVariants as update
-use Rattle.x7_tool.specs.Outside.{Sources}
+use Rattle.x7_tool.specs.Outside.{Sources, sources}
 use Rattle.x7_tool.specs.Run.{FlashComes, IsUnattachedOrLarge, IsUnusable, JudgesFlash, PutsAnswer}
 use Rattle.x7_tool.proofs.FlashLemmas.{flash_open}
 use Rattle.x7_tool.specs.Stopping.{StopsReading, StopsBy, NamesItsStop, inputs_of}
@@ -200,14 +200,17 @@ puts_stop form first now (Ok answer) old new (Err event) s p = subst (λ (x : Ev
 -- a form that uses no flash judges none
 pub unused_judges : {A : Type 0} (form : AskedForm) (old new : Sources) (got : Result A Event) → flash_use (Some form) ≡ Unused → JudgesFlash {A = A} (Some form) old new got
 unused_judges (UpdatingFlash flash stream) old new got u = absurd (cc)
+unused_judges (Booting part flash) old new got u = absurd (cc)
 unused_judges form old new got u = tt
 
 pub done_judges : (form : AskedForm) (old new : Sources) (answer : Answer) → JudgesFlash {A = Answer} (Some form) old new (Ok answer)
 done_judges (UpdatingFlash flash stream) old new answer = tt
+done_judges (Booting part flash) old new answer = tt
 done_judges form old new answer = tt
 
 pub refused_judges : (form : AskedForm) (old new : Sources) (event : Event) → JudgesFlash {A = Bool} (Some form) old new (Err event) → JudgesFlash {A = Answer} (Some form) old new (Err event)
 refused_judges (UpdatingFlash flash stream) old new event j = j
+refused_judges (Booting part flash) old new event j = j
 refused_judges form old new event j = tt
 
 -- the flash wasn't opened, and no input was asked for
@@ -258,6 +261,28 @@ fault_judges flash stream now update.NoMemory a u = fault_by now why.NoMemory a 
 
 pub updated_judges : (flash stream : List ℕ) (old new : Sources) (fault : UpdateFault) (event : Event) → event ≡ update_event (record { flash = flash; stream = stream }) fault → new.flash.attached ≡ true → JudgesFlash {A = Bool} (Some (UpdatingFlash flash stream)) old new (Err event)
 updated_judges flash stream old new fault event e a = λ u. absurd (fault_judges flash stream new.flash fault a (subst (λ (x : Event). IsUnusable flash new.flash x) e u))
+
+-- ---- that a boot touches its flash last
+
+-- the part wasn't good
+pub untouched_judges : (part_name name : List ℕ) (old new : InputsState) (flash : FlashState) (event : Event) → JudgesFlash {A = Answer} (Some (Booting part_name name)) (sources old flash) (sources new flash) (Err event)
+untouched_judges part_name name old new flash event = inr (inr (inr refl))
+
+-- what a boot from an attached flash, or from one that isn't, comes to
+pub comes_judges : (part_name name : List ℕ) (part : PartData) (old new : InputsState) (first last : FlashState) (got : Result Answer Event) → FlashComes name part first last got
+    → JudgesFlash {A = Answer} (Some (Booting part_name name)) (sources old first) (sources new last) got
+comes_judges part_name name part old new first last (Ok answer) h = tt
+comes_judges part_name name part old new first last (Err event) (inl e) = inl e
+comes_judges part_name name part old new first last (Err event) (inr (inl (inl h))) = inr (inr (inl (ap (λ (x : Event). x.concerned) h.0)))
+comes_judges part_name name part old new first last (Err event) (inr (inl (inr h))) = inr (inr (inl (ap (λ (x : Event). x.concerned) h.0)))
+comes_judges part_name name part old new first last (Err event) (inr (inr h)) = inr (inr (inl (ap (λ (x : Event). x.concerned) (flash_open name part first.bytes event h.0))))
+
+-- a text of a boot that is ready, or none, and how it was written
+pub boot_judges : (part flash : List ℕ) (old new : Sources) (whole : Result Answer Event) (before after : SinkState) (got : Result Bool Event) → JudgesFlash {A = Answer} (Some (Booting part flash)) old new whole → PutsAnswer whole before after got
+    → JudgesFlash {A = Bool} (Some (Booting part flash)) old new got
+boot_judges part flash old new (Err event) before after got j p = subst (λ (r : Result Bool Event). JudgesFlash {A = Bool} (Some (Booting part flash)) old new r) (sym p.0) j
+boot_judges part flash old new (Ok answer) before after (Ok stopped) j p = tt
+boot_judges part flash old new (Ok answer) before after (Err event) j p = inr (inl p.0)
 
 -- ---- how often inputs are asked for, and their ends read
 

@@ -128,7 +128,7 @@ one_text all given r g e = let same : Ok given ≡ r = sym g in cc
 -- what was put is a prefix of the listing of every stream that begins with these bytes
 pub stream_so_far : (l : ListerState) (first now : Option (List ℕ)) (bytes : List ℕ) → ListsStream l first now bytes → ListsSoFar bytes first now
 stream_so_far l first now bytes t = record {
-  has_listing = (t.line ++ listing_of t.content, stream_whole bytes t.line t.content (t.listing []));
+  has_listing = λ rest. (t.line ++ listing_of (t.content ++ rest), t.listing rest);
   puts_prefix = λ rest text fits e.
       let all_fit : AreBytes (t.content ++ rest) = all_append (λ b. b < 256) t.content rest (stands_fit l t.lists.given t.content t.lists.stands) fits in
       let prefix = line_prefix first now t.line (listing_of (t.content ++ rest)) (lists_prefix l (appended first t.line) now t.content rest t.lists all_fit) in
@@ -139,7 +139,7 @@ stream_so_far l first now bytes t = record {
 pub prefix_so_far : (taken line content : List ℕ) (old now : Option (List ℕ)) → AreBytes content → ((left : List ℕ) → stream_listing (taken ++ left) ≡ Ok (line ++ listing_of (content ++ left)))
     → ((left : List ℕ) → AreBytes (content ++ left) → PutsPrefix old (line ++ listing_of (content ++ left)) now) → ListsSoFar taken old now
 prefix_so_far taken line content old now fits g p = record {
-  has_listing = (line ++ listing_of content, stream_whole taken line content (g []));
+  has_listing = λ rest. (line ++ listing_of (content ++ rest), g rest);
   puts_prefix = λ rest text more e.
       subst (λ (x : List ℕ). PutsPrefix old x now) (one_text text (line ++ listing_of (content ++ rest)) (stream_listing (taken ++ rest)) (g rest) e) (p rest (all_append (λ b. b < 256) content rest fits more));
 }

@@ -11,7 +11,7 @@ use Rattle.x7_forms.specs.declared.refusal.Refusal.{Refusal}
 use Rattle.x7_forms.specs.declared.refusal.Why.{Why}
 use Rattle.x7_forms.specs.declared.refusal.Why.TheVariants as why
 use Rattle.x7_forms.specs.Event.{Event, ReasonCause, Wording, Want, Fault, Absence, Break, Contents, Difference, cause_of_event, differs, event_line, missing, no_memory, reading_failed, too_large, usage, writing_failed}
-use Rattle.x7_forms.specs.Form.{AskedForm, Listing, UpdatingFlash, flash_names, listed_by, names_of, updated_by}
+use Rattle.x7_forms.specs.Form.{AskedForm, Booting, Listing, UpdatingFlash, flash_names, listed_by, names_of, updated_by}
 use Rattle.x7_forms.specs.Known.{Answer, Held, Known, bytes_found, flash_found, with_inputs}
 use Rattle.x7_part.specs.Part.{PartData}
 use Rattle.x7_forms.specs.Status.{final_status}
@@ -94,15 +94,17 @@ IsPrefixOf (Some known) name bytes = (rest : List ℕ) × (bytes_found (known.in
 abbrev pub PutsListing : List ℕ → SinkState → SinkState → Type 0
 PutsListing bytes old new = (text : List ℕ) × ((stream_listing bytes ≡ Ok text) × PutsSome old text new)
 
--- The bytes have a listing, and what was put is a prefix of the listing of every list of
--- bytes that begins with them and has one.
+-- The bytes have a listing whatever follows them, so they don't end inside a header, and what was put is a prefix of
+-- the listing of every list of bytes that begins with them.
 pub record ListsSoFar (bytes : List ℕ) (old new : Option (List ℕ)) : Type 0 where
-  pub has_listing : (text : List ℕ) × (stream_listing bytes ≡ Ok text)
+  pub has_listing : (rest : List ℕ) → (text : List ℕ) × (stream_listing (bytes ++ rest) ≡ Ok text)
   pub puts_prefix : (rest text : List ℕ) → AreBytes rest → stream_listing (bytes ++ rest) ≡ Ok text → PutsPrefix old text new
 
--- the output got a prefix of the listing of bytes that are a prefix of the stream, and of whatever may follow them
+-- the output got nothing, or a prefix of the listing of bytes that are a prefix of the stream, and of whatever may
+-- follow them
 abbrev pub ListsPrefix : List ℕ → Outside → Outside → Type 0
-ListsPrefix stream old new = (bytes : List ℕ) × (IsPrefixOf (known_in old) stream bytes × ListsSoFar bytes old.out.written new.out.written)
+ListsPrefix stream old new =
+    (new.out.written ≡ old.out.written) ⊎ ((bytes : List ℕ) × (IsPrefixOf (known_in old) stream bytes × ListsSoFar bytes old.out.written new.out.written))
 
 -- what `list` wrote where a reason ended it: what it had listed as it read, or nothing
 -- where the reason comes before the listing
@@ -177,9 +179,16 @@ FailsLast (Some form) old new (Err event) =
 abbrev pub IsUnusable : List ℕ → FlashState → Event → Type 0
 IsUnusable name now event = (event ≡ missing name) ⊎ ((event ≡ too_large name) ⊎ ((event ≡ reading_failed name) × (now.attached ≡ false)))
 
--- an update whose flash can't be used asks for no stream; the event may be that of a stream of its name too
+-- A boot ended by this event touched its flash only once its part was good: unless memory was wanting or the output
+-- failed, the event concerns the flash of this name, or the flash is as it was before.
+abbrev pub TouchesFlashLast : List ℕ → FlashState → FlashState → Event → Type 0
+TouchesFlashLast name old new event = (event ≡ no_memory) ⊎ ((event ≡ writing_failed) ⊎ ((event.concerned ≡ name) ⊎ (new ≡ old)))
+
+-- An update whose flash can't be used asks for no stream; the event may be that of a stream of its name too. A boot
+-- touches its flash only once its part is good.
 abbrev pub JudgesFlash : {A : Type 0} → Option AskedForm → Sources → Sources → Result A Event → Type 0
 JudgesFlash (Some (UpdatingFlash flash stream)) old new (Err event) = IsUnusable flash new.flash event → (new.inputs.selects ≤ old.inputs.selects) ⊎ (flash ≡ stream)
+JudgesFlash (Some (Booting part flash)) old new (Err event) = TouchesFlashLast flash old.flash new.flash event
 JudgesFlash form old new end = Unit {0}
 
 -- ---- the end of a command
@@ -200,7 +209,8 @@ CommandEndsAs form old new (Ok stopped) = (text : List ℕ) × CommandEnds form 
 CommandEndsAs form old new (Err event) = CommandEnds form old new (Err event)
 
 -- What a form did, up to the line that is said of its end: how it ended, where reading stopped, that an update whose
--- flash can't be used asks for no stream, how often inputs were asked for, and that every input keeps its bytes.
+-- flash can't be used asks for no stream, and a boot whose part isn't good for no flash, how often inputs were asked
+-- for, and that every input keeps its bytes.
 pub record Answered (form : AskedForm) (old new : Outside) (got : Result Bool Event) : Type 0 where
   pub ends : CommandEndsAs (Some form) old new got
   pub stops : StopsReading (Some form) old.inputs new.inputs got
@@ -255,12 +265,13 @@ pub record MakesReady (form : AskedForm) (old new : InputsState) (got : Result A
   pub stays : InputsStay old new
 
 -- A form that reads a flash too made its text ready, or not: the text has its cause in inputs and flash, the flash's
--- size and its faults fit the answer, and the rest is as in `MakesReady`.
+-- size and its faults fit the answer, the flash was touched in its turn, and the rest is as in `MakesReady`.
 pub record MakesReadyFrom (form : AskedForm) (old new : Sources) (got : Result Answer Event) : Type 0 where
   pub caused : AnswersFrom form old new got
   pub stops : StopsReading (Some form) old.inputs new.inputs got
   pub measured : IsMeasured (Some form) new.flash got
   pub fails_last : FailsLast (Some form) old.inputs new.flash got
+  pub judges : JudgesFlash (Some form) old new got
   pub asks : AsksAtMost old.inputs (length (names_of (Some form))) new.inputs
   pub stays : InputsStay old.inputs new.inputs
 

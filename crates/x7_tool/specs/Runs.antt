@@ -77,7 +77,8 @@ pub record Runs (form : Option AskedForm) (old new : Outside) (s : Status) : Typ
   pub fails_last : FailsLast form old.inputs new.flash end
   -- where an input ends the command, no later one was asked for, and no more than a byte over its limit was given of it
   pub stops : StopsReading form old.inputs new.inputs end
-  -- an update whose flash isn't there, wasn't attached or is too large asks for no stream
+  -- an update whose flash isn't there, wasn't attached or is too large asks for no stream; a boot touches its flash
+  -- only once its part is good
   pub judges : JudgesFlash form (sources old.inputs old.flash) (sources new.inputs new.flash) end
   -- no more inputs were asked for than the words name, so that none was read again, nor more ends of inputs read
   pub asks : AsksAtMost old.inputs (length (names_of form)) new.inputs

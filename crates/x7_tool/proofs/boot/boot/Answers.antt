@@ -5,7 +5,7 @@ use Rattle.x7_tool.specs.Play.{play_answer}
 use Rattle.x7_forms.specs.Step.{CameIn, result_by, step_over}
 use Rattle.x7_tool.proofs.FlashLemmas.{boot_last, boot_measured, booted_ends, no_part_last, no_part_measured, part_good, part_refused}
 use Rattle.x7_forms.specs.Known.{part_limit}
-use Rattle.x7_tool.proofs.StopLemmas.{boot_stops, first_stops}
+use Rattle.x7_tool.proofs.StopLemmas.{boot_stops, comes_judges, first_stops, untouched_judges}
 use Rattle.x7_forms.proofs.AskedLemmas.{no_part_about}
 use Rattle.x7_forms.specs.ReadingStops.{limited}
 use Rattle.x7_forms.proofs.ResultLemmas.{handed_on}
@@ -27,6 +27,7 @@ returns-clause-ready g c =
       stops = boot_stops name part_name part old new first last made c.boot_from.ensures.caused;
       measured = boot_measured (Some (Booting part_name name)) name part first last made c.boot_from.ensures.caused;
       fails_last = boot_last play_answer name part_name old last c.boot_from.result c.boot_from.ensures.failed (part_good old.contents C name part_name part (c.in_ok-part.ensures.caused None));
+      judges = comes_judges part_name name part old new first last made c.boot_from.ensures.caused;
       asks = c.read_part.ensures.asks;
       stays = c.read_part.ensures.inputs;
     }
@@ -43,6 +44,7 @@ returns-in_err-part-clause-ready g c = rw (handed_on c.from_residual.result c.in
       stops = first_stops (Booting part_name name) (limited part_limit part_name) [] old new event refl c.read_part.ensures.last_asked c.read_part.ensures.asks (no_part_about part_name event c.in_err-part.ensures.named);
       measured = no_part_measured (Some (Booting part_name name)) flash part_name event (inl refl) c.in_err-part.ensures.named;
       fails_last = no_part_last (Booting part_name name) old flash part_name event (inl refl) c.in_err-part.ensures.named;
+      judges = untouched_judges part_name name old new flash event;
       asks = c.read_part.ensures.asks;
       stays = c.read_part.ensures.inputs;
     })

@@ -17,7 +17,7 @@ use Rattle.x7_tool.specs.Run.{ListsSoFar}
 use Rattle.x7_tool.specs.Between.{ListsInTurns, ListsStream}
 use Rattle.x7_forms.specs.Turn.{FollowsUnlessLast, longest_beginning, turn_size}
 use Rattle.x7_tool.proofs.AheadLemmas.{prefix_given, prefix_near, longer_prefix, longer_twice, same_now, stays_near, turn_given, turn_near, without_prefix_near, unopened_near, unread_near, unwritten_near, why_weaker}
-use Rattle.x7_tool.proofs.Causes.{Ended, PutsListed, both_err, ends_same, list_ends, list_seen, listed_whole, nothing_put, nothing_taken, out_of_memory, without_prefix, unopened}
+use Rattle.x7_tool.proofs.Causes.{Ended, PutsListed, both_err, ends_same, list_ends, list_seen, listed_whole, out_of_memory, out_of_memory_before, without_prefix, unopened}
 use Rattle.x7_forms.proofs.ReadLemmas.{asked_on, at_on, turn_unread}
 use Rattle.x7_forms.proofs.ResultLemmas.{handed_on, err_weaker}
 use Rattle.x7_tool.proofs.TurnLemmas.{end_failed, prefix_failed, prefix_so_far, goes_on, line_prefix, line_then, stream_so_far, stream_whole, taken_more, unread_end, write_failed}
@@ -155,10 +155,7 @@ returns-then-beginning g c = λ before after.
     (λ r p w.
     let by : ((event_of r ≡ no_memory) × (now ≡ old)) ⊎ ((event_of r ≡ writing_failed) × Full) → Ended (with_inputs contents flash) C stream Full old now (Err (event_of r))
     = elim [
-      | inl h ↦
-          let none : ListsSoFar [] old now = subst (λ (x : Option (List ℕ)). ListsSoFar [] old x) (sym h.1) (nothing_put old) in
-          let opened = nothing_taken contents stream (i.state c.open.new.inputs).rest c.in_ok-open.ensures.opened.found in
-          ends_same (with_inputs contents flash) C stream Full old now (event_of r) no_memory h.0 (out_of_memory contents flash C stream [] (i.state c.open.new.inputs).rest Full old now opened none)
+      | inl h ↦ ends_same (with_inputs contents flash) C stream Full old now (event_of r) no_memory h.0 (out_of_memory_before (with_inputs contents flash) C stream Full old now h.1)
       | inr h ↦ ends_same (with_inputs contents flash) C stream Full old now (event_of r) writing_failed h.0 (end_failed contents flash C stream taken rest Full old now sel end h.1 (text, (same, p)))
     ] in
     by w)

@@ -3,11 +3,12 @@ use Rattle.x7_forms.specs.Form.{Assembling, Booting, Debugging, FromMcs, Generat
 use Rattle.x7_forms.specs.Step.{result_by}
 use Rattle.x7_forms.proofs.ResultLemmas.{handed_on}
 use Rattle.x7_tool.specs.FullText.{full_answer}
-use Rattle.x7_tool.specs.Outside.{outside}
+use Rattle.x7_tool.specs.Outside.{outside, sources}
 use Rattle.x7_tool.specs.Play.{play_answer}
 use Rattle.x7_tool.specs.Ready.{bytes_answer, mcs_answer, text_answer}
 use Rattle.x7_tool.proofs.AnswerLemmas.{as_asked, flash_answered, ready_answered, uses_as}
 use Rattle.x7_tool.proofs.FlashLemmas.{uses_read, uses_same}
+use Rattle.x7_tool.proofs.StopLemmas.{boot_judges}
 use Rattle.x7_tool.proofs.top.answer.Goals as goal
 
 pub returns-in_ok-list-in-List-clause-answered : goal.returns-in_ok-list-in-List-clause-answered
@@ -130,7 +131,9 @@ pub returns-in-Boot-clause-answered : goal.returns-in-Boot-clause-answered
 returns-in-Boot-clause-answered g c = λ e f.
     let old = outside (g.I.Inputs.state c.args.inputs.now) (g.F.Flash.state c.args.flash.now) (g.O.Sink.state c.args.out.now) e in
     let new = outside (g.I.Inputs.state c.boot.new.inputs) (g.F.Flash.state c.boot.new.flash) (g.O.Sink.state c.put_whole-in-Boot.new.out) f in
-    flash_answered _ (Booting c.in-Boot.part.now c.in-Boot.name.now) old new (result_by play_answer c.boot.result) _ (ap asked_by c.in-Boot.is) refl tt c.boot.ensures.ready (c.boot.ensures.ready.caused old new) c.put_whole-in-Boot.ensures
+    flash_answered _ (Booting c.in-Boot.part.now c.in-Boot.name.now) old new (result_by play_answer c.boot.result) _ (ap asked_by c.in-Boot.is) refl
+    (boot_judges c.in-Boot.part.now c.in-Boot.name.now (sources old.inputs old.flash) (sources new.inputs new.flash) (result_by play_answer c.boot.result) old.out new.out _ c.boot.ensures.ready.judges c.put_whole-in-Boot.ensures)
+    c.boot.ensures.ready (c.boot.ensures.ready.caused old new) c.put_whole-in-Boot.ensures
 
 pub returns-in-Boot-clause-flash : goal.returns-in-Boot-clause-flash
 returns-in-Boot-clause-flash g c =
