@@ -25,7 +25,7 @@ use Rattle.x7_tool.specs.Outcome.{listed, listed_bytes, listed_found}
 use Rattle.x7_forms.specs.Turn.{IsRefused, FollowsUnlessLast, UnreadBeginning, Unopened}
 use Rattle.x7_tool.specs.Outside.{Outside, known_in}
 use Rattle.x7_tool.specs.Ahead.{StaysNear}
-use Rattle.x7_tool.specs.Run.{EndIsCaused, CommandEnds, CommandEndsAs, GetsPrefix, IsPrefixOf, LeftBy, ListLeaves, ListsSoFar}
+use Rattle.x7_tool.specs.Run.{EndIsCaused, CommandEnds, CommandEndsAs, GetsPrefixOfText, IsPrefixOfInput, OutputByCause, ListingAfterReason, ListsSoFar}
 use Rattle.x7_forms.specs.Step.{CameIn, DueBy, FailsAmong, IsCaused, result_by, step_over}
 use Rattle.x7_forms.proofs.BeginningLemmas.{raw_listed}
 use Rattle.x7_forms.proofs.ReadLemmas.{absence_from, at_fault, at_open, fault_from, known_all, name_is}
@@ -40,7 +40,7 @@ PutsListed bytes old new = (text : List ℕ) × ((stream_listing bytes ≡ Ok te
 
 -- nothing was put, or a prefix of the listing of a prefix of the stream, and of whatever may follow it
 abbrev pub PutsPrefixOf : Option Known → List ℕ → Option (List ℕ) → Option (List ℕ) → Type 0
-PutsPrefixOf known stream old new = (new ≡ old) ⊎ ((bytes : List ℕ) × (IsPrefixOf known stream bytes × ListsSoFar bytes old new))
+PutsPrefixOf known stream old new = (new ≡ old) ⊎ ((bytes : List ℕ) × (IsPrefixOfInput known stream bytes × ListsSoFar bytes old new))
 
 -- what is left by a reason
 abbrev pub LeftAs : Why → Option Known → List ℕ → Option (List ℕ) → Option (List ℕ) → Type 0
@@ -73,19 +73,19 @@ ended_cause : (cause : ReasonCause) (stream : List ℕ) (old new : Outside) (eve
 ended_cause Break stream old new event e h = rw e (h.0, inl h.1)
 ended_cause cause stream old new event e h = has_cause (Listing stream) old new (Err event) (answers_over (Listing stream) old new (Err event) h.0)
 
-left_as : (reason : Why) (stream : List ℕ) (old new : Outside) → LeftAs reason (known_in old) stream old.out.written new.out.written → ListLeaves reason stream old new
+left_as : (reason : Why) (stream : List ℕ) (old new : Outside) → LeftAs reason (known_in old) stream old.out.written new.out.written → ListingAfterReason reason stream old new
 left_as why.ReadFault stream old new h = h
 left_as why.TooLarge stream old new h = h
 left_as why.NoMemory stream old new h = h
 left_as reason stream old new h = h
 
-some_of : (known : Option Known) (stream : List ℕ) (old new : SinkState) → PutsSomeOf known stream old.written new.written → GetsPrefix known (Listing stream) old new
+some_of : (known : Option Known) (stream : List ℕ) (old new : SinkState) → PutsSomeOf known stream old.written new.written → GetsPrefixOfText known (Listing stream) old new
 some_of None stream old new h = h
 some_of (Some known) stream old new h = h
 
 ended_left : (cause : ReasonCause) (stream : List ℕ) (old new : Outside) (event : Event)
     → EndedBy cause (known_in old) (CameIn (step_over (stream ∷ []) old.inputs new.inputs)) stream (SinkFails old.out new.out) old.out.written new.out.written event
-    → LeftBy cause (Some (Listing stream)) old new event
+    → OutputByCause cause (Some (Listing stream)) old new event
 ended_left Break stream old new event h = some_of (known_in old) stream old.out new.out h.2
 ended_left cause stream old new event h = left_as event.reason stream old new h.1
 
@@ -133,7 +133,7 @@ pub nothing_listed : stream_listing [] ≡ Ok (listing_of [])
 nothing_listed = raw_listed [] ((raw_at [] (starts_with nat_eq [] fixed_bytes) refl).1 (λ rest. λ e. absurd cc))
 
 -- the bytes that were taken are a prefix of the input
-prefix_taken : (contents : Option (List ℕ → Option (List ℕ))) (flash : Option (List ℕ)) (name taken : List ℕ) (rest : Option (List ℕ)) → RestIsWhole contents name (preceded taken rest) → IsPrefixOf (with_inputs contents flash) name taken
+prefix_taken : (contents : Option (List ℕ → Option (List ℕ))) (flash : Option (List ℕ)) (name taken : List ℕ) (rest : Option (List ℕ)) → RestIsWhole contents name (preceded taken rest) → IsPrefixOfInput (with_inputs contents flash) name taken
 prefix_taken None flash name taken rest s = tt
 prefix_taken (Some inputs) flash name taken None s = let h = s.2 in absurd (cc)
 prefix_taken (Some inputs) flash name taken (Some rest) s =

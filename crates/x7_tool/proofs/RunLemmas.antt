@@ -25,7 +25,7 @@ use Rattle.x7_tool.specs.Leaving.{UpdateLeaves}
 use Rattle.x7_tool.specs.Outcome.{AssembledAs, FormGives, IsOutcome, mcs_image, text_limit}
 use Rattle.x7_tool.specs.Outside.{CameInRun, IsQuiet, KeepsFlash, Outside, known_in, sources}
 use Rattle.x7_tool.specs.Promise.{Promise}
-use Rattle.x7_tool.specs.Run.{GivesIfKnown, AnswersForm, AnswersOver, CausedBy, EndIsCaused, CommandEnds, CommandEndsAs, FailsLast, GetsBy, GetsPrefix, ReportsMishap, IsMeasured, JudgesFlash, LeavesBy, LeftAtBreak, LeftBy, PutsAnswer, SaysEnd}
+use Rattle.x7_tool.specs.Run.{GivesIfKnown, AnswersForm, AnswersOver, CausedBy, EndIsCaused, CommandEnds, CommandEndsAs, FailsLast, GetsPrefixOfKnown, GetsPrefixOfText, ReportsMishap, IsMeasured, JudgesFlash, OutputAfterEvent, OutputAfterFailure, OutputByCause, PutsAnswer, SaysEnd}
 use Rattle.x7_tool.specs.Runs.{TextsLeadBack, Runs}
 use Rattle.x7_tool.specs.Stopping.{StopsReading}
 use Rattle.x7_tool.proofs.FlashLemmas.{answers_over, not_fault, not_large}
@@ -216,9 +216,9 @@ runs form old new s r f =
 -- ---- a text that is whole before it is written
 
 -- what other forms leave where nothing was written
-pub leaves_all : (form : AskedForm) (cause : ReasonCause) (old new : Outside) (event : Event) → listed_by (Some form) ≡ None → (cause ≡ Break → ⊥) → new.out.written ≡ old.out.written → LeftBy cause (Some form) old new event
+pub leaves_all : (form : AskedForm) (cause : ReasonCause) (old new : Outside) (event : Event) → listed_by (Some form) ≡ None → (cause ≡ Break → ⊥) → new.out.written ≡ old.out.written → OutputByCause cause (Some form) old new event
 leaves_all form Break old new event l n e = absurd (n refl)
-leaves_all form cause old new event l n e = subst (λ (s : Option (List ℕ)). LeavesBy s event old new) (sym l) e
+leaves_all form cause old new event l n e = subst (λ (s : Option (List ℕ)). OutputAfterEvent s event old new) (sym l) e
 
 outside_by : (known : Option Known) (C : Mishap → Type 0) (Due : Known → Result Answer Event → Type 0) (event : Event) → IsFromOutside {A = Answer} known C Due (Err event) → cause_of_event event ≡ Break → ⊥
 outside_by known C Due event (inl e) b = let c : Want ≡ Break = sym (ap cause_of_event e) ∙ b in absurd (cc)
@@ -242,9 +242,9 @@ no_break known C Due event (inl h) = outside_by known C Due event h
 no_break None C Due event (inr h) = open_by (cause_of_event event) h
 no_break (Some t) C Due event (inr h) = decided_by (cause_of_event event) h.0
 
-gets_by : (known : Option Known) (form : AskedForm) (answer : Answer) (old new : SinkState) → listed_by (Some form) ≡ None → GivesIfKnown known form (Ok answer) → PutsSome old answer.text new → GetsPrefix known form old new
+gets_by : (known : Option Known) (form : AskedForm) (answer : Answer) (old new : SinkState) → listed_by (Some form) ≡ None → GivesIfKnown known form (Ok answer) → PutsSome old answer.text new → GetsPrefixOfText known form old new
 gets_by None form answer old new l h p = (answer.text, p)
-gets_by (Some known) form answer old new l h p = subst (λ (s : Option (List ℕ)). GetsBy s known form old new) (sym l) (answer, (h, p))
+gets_by (Some known) form answer old new l h p = subst (λ (s : Option (List ℕ)). GetsPrefixOfKnown s known form old new) (sym l) (answer, (h, p))
 
 pub near_all : (form : AskedForm) (s : Status) (old new : Outside) → listed_by (Some form) ≡ None → StaysNear s (Some form) old new
 near_all form s old new l = subst (λ (x : Option (List ℕ)). StaysNearIn s x old new) (sym l) tt
@@ -294,7 +294,7 @@ puts_end form old new (Ok answer) (Err event) l u m f c p =
     subst (λ (e : Event). CommandEnds (Some form) old new (Err e)) (sym p.0)
     (record {
       cause = (refl, inl p.1);
-      wrote = subst (λ (x : Option (List ℕ)). LeftAtBreak x form old new) (sym u) (gets_by (known_in old) form answer old.out new.out l (has_cause form old new (Ok answer) c) p.2);
+      wrote = subst (λ (x : Option (List ℕ)). OutputAfterFailure x form old new) (sym u) (gets_by (known_in old) form answer old.out new.out l (has_cause form old new (Ok answer) c) p.2);
       near = near_all form status.WriteFault old new l;
       measured = not_large (Some form) new.flash writing_failed (λ r. absurd (cc));
       fails_last = not_fault (Some form) old.inputs new.flash writing_failed (λ r. absurd (cc));

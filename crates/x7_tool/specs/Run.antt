@@ -86,13 +86,13 @@ EndIsCaused (Some form) old new (Err event) = CausedBy (cause_of_event event) fo
 -- ---- what the output got
 
 -- the bytes are a prefix of the input of this name, where it is known; of one that isn't there, none
-abbrev pub IsPrefixOf : Option Known → List ℕ → List ℕ → Type 0
-IsPrefixOf None name bytes = Unit {0}
-IsPrefixOf (Some known) name bytes = (rest : List ℕ) × (bytes_found (known.inputs name) ≡ bytes ++ rest)
+abbrev pub IsPrefixOfInput : Option Known → List ℕ → List ℕ → Type 0
+IsPrefixOfInput None name bytes = Unit {0}
+IsPrefixOfInput (Some known) name bytes = (rest : List ℕ) × (bytes_found (known.inputs name) ≡ bytes ++ rest)
 
 -- the sink got a prefix of the listing of a stream of these bytes
-abbrev pub PutsListing : List ℕ → SinkState → SinkState → Type 0
-PutsListing bytes old new = (text : List ℕ) × ((stream_listing bytes ≡ Ok text) × PutsSome old text new)
+abbrev pub GetsPrefixOfListing : List ℕ → SinkState → SinkState → Type 0
+GetsPrefixOfListing bytes old new = (text : List ℕ) × ((stream_listing bytes ≡ Ok text) × PutsSome old text new)
 
 -- The bytes have a listing whatever follows them, so they don't end inside a header, and what was put is a prefix of
 -- the listing of every list of bytes that begins with them.
@@ -104,53 +104,53 @@ pub record ListsSoFar (bytes : List ℕ) (old new : Option (List ℕ)) : Type 0 
 -- follow them
 abbrev pub ListsPrefix : List ℕ → Outside → Outside → Type 0
 ListsPrefix stream old new =
-    (new.out.written ≡ old.out.written) ⊎ ((bytes : List ℕ) × (IsPrefixOf (known_in old) stream bytes × ListsSoFar bytes old.out.written new.out.written))
+    (new.out.written ≡ old.out.written) ⊎ ((bytes : List ℕ) × (IsPrefixOfInput (known_in old) stream bytes × ListsSoFar bytes old.out.written new.out.written))
 
 -- what `list` wrote where a reason ended it: what it had listed as it read, or nothing
 -- where the reason comes before the listing
-abbrev pub ListLeaves : Why → List ℕ → Outside → Outside → Type 0
-ListLeaves why.ReadFault stream old new = ListsPrefix stream old new
-ListLeaves why.TooLarge stream old new = ListsPrefix stream old new
-ListLeaves why.NoMemory stream old new = ListsPrefix stream old new
-ListLeaves _ stream old new = new.out.written ≡ old.out.written
+abbrev pub ListingAfterReason : Why → List ℕ → Outside → Outside → Type 0
+ListingAfterReason why.ReadFault stream old new = ListsPrefix stream old new
+ListingAfterReason why.TooLarge stream old new = ListsPrefix stream old new
+ListingAfterReason why.NoMemory stream old new = ListsPrefix stream old new
+ListingAfterReason _ stream old new = new.out.written ≡ old.out.written
 
 -- what the output got where an event other than its own failure ended the command: nothing, save from a listing
-abbrev pub LeavesBy : Option (List ℕ) → Event → Outside → Outside → Type 0
-LeavesBy (Some stream) event old new = ListLeaves event.reason stream old new
-LeavesBy None event old new = new.out.written ≡ old.out.written
+abbrev pub OutputAfterEvent : Option (List ℕ) → Event → Outside → Outside → Type 0
+OutputAfterEvent (Some stream) event old new = ListingAfterReason event.reason stream old new
+OutputAfterEvent None event old new = new.out.written ≡ old.out.written
 
 -- the sink got a prefix of the listing of a stream that is known, whether or not it is within its limit
-abbrev pub ListsSome : Known → List ℕ → SinkState → SinkState → Type 0
-ListsSome known stream old new = (bytes : List ℕ) × ((known.inputs stream ≡ Held bytes) × (AreBytes bytes → PutsListing bytes old new))
+abbrev pub GetsPrefixOfKnownListing : Known → List ℕ → SinkState → SinkState → Type 0
+GetsPrefixOfKnownListing known stream old new = (bytes : List ℕ) × ((known.inputs stream ≡ Held bytes) × (AreBytes bytes → GetsPrefixOfListing bytes old new))
 
 -- the sink got a prefix of the whole text of the form over what is known
-abbrev pub GetsSome : Known → AskedForm → SinkState → SinkState → Type 0
-GetsSome known form old new = (answer : Answer) × (FormGives known form (Ok answer) × PutsSome old answer.text new)
+abbrev pub GetsPrefixOfKnownText : Known → AskedForm → SinkState → SinkState → Type 0
+GetsPrefixOfKnownText known form old new = (answer : Answer) × (FormGives known form (Ok answer) × PutsSome old answer.text new)
 
 -- the sink got a prefix of the whole text: that of a listing, or of another form
-abbrev pub GetsBy : Option (List ℕ) → Known → AskedForm → SinkState → SinkState → Type 0
-GetsBy (Some stream) known form old new = ListsSome known stream old new
-GetsBy None known form old new = GetsSome known form old new
+abbrev pub GetsPrefixOfKnown : Option (List ℕ) → Known → AskedForm → SinkState → SinkState → Type 0
+GetsPrefixOfKnown (Some stream) known form old new = GetsPrefixOfKnownListing known stream old new
+GetsPrefixOfKnown None known form old new = GetsPrefixOfKnownText known form old new
 
 -- where the contents are known the output got a prefix of the whole text, and else of some text
-abbrev pub GetsPrefix : Option Known → AskedForm → SinkState → SinkState → Type 0
-GetsPrefix None form old new = (text : List ℕ) × PutsSome old text new
-GetsPrefix (Some known) form old new = GetsBy (listed_by (Some form)) known form old new
+abbrev pub GetsPrefixOfText : Option Known → AskedForm → SinkState → SinkState → Type 0
+GetsPrefixOfText None form old new = (text : List ℕ) × PutsSome old text new
+GetsPrefixOfText (Some known) form old new = GetsPrefixOfKnown (listed_by (Some form)) known form old new
 
 -- what the output got where it failed: a prefix of the text; where a write of the flash failed, nothing
-abbrev pub LeftAtBreak : Option (List ℕ) → AskedForm → Outside → Outside → Type 0
-LeftAtBreak None form old new = GetsPrefix (known_in old) form old.out new.out
-LeftAtBreak (Some stream) form old new = new.out.written ≡ old.out.written
+abbrev pub OutputAfterFailure : Option (List ℕ) → AskedForm → Outside → Outside → Type 0
+OutputAfterFailure None form old new = GetsPrefixOfText (known_in old) form old.out new.out
+OutputAfterFailure (Some stream) form old new = new.out.written ≡ old.out.written
 
 -- what the output got after an event of this cause
-abbrev pub LeftBy : ReasonCause → Option AskedForm → Outside → Outside → Event → Type 0
-LeftBy Break (Some form) old new event = LeftAtBreak (updated_by (Some form)) form old new
-LeftBy _ form old new event = LeavesBy (listed_by form) event old new
+abbrev pub OutputByCause : ReasonCause → Option AskedForm → Outside → Outside → Event → Type 0
+OutputByCause Break (Some form) old new event = OutputAfterFailure (updated_by (Some form)) form old new
+OutputByCause _ form old new event = OutputAfterEvent (listed_by form) event old new
 
 -- what the output got: the whole text, or what the event leaves of it
 abbrev pub OutputGets : Option AskedForm → Outside → Outside → Result Answer Event → Type 0
 OutputGets form old new (Ok answer) = PutsAll old.out answer.text new.out
-OutputGets form old new (Err event) = LeftBy (cause_of_event event) form old new event
+OutputGets form old new (Err event) = OutputByCause (cause_of_event event) form old new event
 
 -- ---- how large a flash is
 

@@ -4,7 +4,7 @@ use Rattle.std.proofs.lemmas.Bool.{cases_lt}
 use Rattle.x7_words.specs.Flash.{sector_size, FlashState, IfKnown, SeesBytes}
 use Rattle.x7_packets.specs.FlashSlot.{flash_slot_size}
 use Rattle.x7_update.specs.After.{IsAfterUpdate, IsBetweenSlots, with_stream}
-use Rattle.x7_update.specs.Layout.{CanStandAt, IsUpdatable, HasSize, HasNoOpenSlot, IsNextFreeSlot, IsOpen, open_switch, switch_of, update_place, switch_size}
+use Rattle.x7_update.specs.Layout.{CanStandAt, IsUpdatable, IsUpdatableSize, HasNoOpenSlot, IsNextFreeSlot, IsOpen, open_switch, switch_of, update_place, switch_size}
 use Rattle.x7_update.specs.Verified.{AllVerified, IsVerified, WasReady}
 use Rattle.x7_update.specs.Slots.{IsTargetIn, HasTarget, TargetFits}
 use Rattle.x7_update.specs.Writing.{CanVerify, HasWanted, ReadsWanted, ReadsWantedTo, ReplacingUpdate, SeesWanted, wanted_at}
@@ -59,7 +59,7 @@ still_found old new target attached size bytes found = record {
 pub can_still_verify : (old new : FlashState) (update : ℕ) (stream buffer after : List ℕ) → new.attached ≡ old.attached → new.extent ≡ old.extent → new.bytes ≡ old.bytes → length after ≡ sector_size → CanVerify old update stream buffer → CanVerify new update stream after
 can_still_verify old new update stream buffer after attached size bytes long can = record {
   attached = attached ∙ can.attached;
-  size = subst HasSize (sym size) can.size;
+  size = subst IsUpdatableSize (sym size) can.size;
   place = subst (λ n. CanStandAt n update) (sym size) can.place;
   fits = omega (arith, size, can.fits);
   wanted = subst (λ (o : Option (List ℕ)). IfKnown o (HasWanted update stream)) (sym bytes) can.wanted;

@@ -2,7 +2,7 @@
 use Rattle.std.proofs.Common.{◌≡◌, ℕ, suc, ◌+◌, ◌-◌, ◌*◌, ◌<◌, ◌≤◌, inl, inr, List, Option, None, Some, refl, sym, subst, arith}
 use Rattle.std.proofs.lemmas.Bool.{cases_eq, cases_order}
 use Rattle.x7_packets.specs.FlashSlot.{flash_slot_size, flash_slot_count}
-use Rattle.x7_update.specs.Layout.{CanStandAt, HasSize, IsFree, IsOpen, LeadsToUpdate, update_place}
+use Rattle.x7_update.specs.Layout.{CanStandAt, IsUpdatableSize, IsFree, IsOpen, LeadsToUpdate, update_place}
 use Rattle.x7_update.specs.Fault.{BeginsWell, IsGoodSlot, NoLayoutAt, OpensAgain, last_taken}
 use Rattle.x7_update.specs.Slots.{IsTargetIn, OpenAmong, SlotsAmong, TargetFits, WithinSlots}
 use Rattle.x7_update.specs.declared.slots.Slots.{Slots}
@@ -49,7 +49,7 @@ pub so_far_good : (first : List ℕ) (count : ℕ) (slots : Slots) → SlotsAmon
 so_far_good first count slots so slot h = (so.leads slot h, so.once slot h)
 
 -- all slots are good
-pub all_found : (size : ℕ) (first : List ℕ) (target : UpdateTarget) → HasSize size → CanStandAt size (update_place first) → SlotsAmong first flash_slot_count target.slots → target.slots.next < flash_slot_count → target.place ≡ update_place first → IsTargetIn size first target
+pub all_found : (size : ℕ) (first : List ℕ) (target : UpdateTarget) → IsUpdatableSize size → CanStandAt size (update_place first) → SlotsAmong first flash_slot_count target.slots → target.slots.next < flash_slot_count → target.place ≡ update_place first → IsTargetIn size first target
 all_found size first target sized place so some is = record {
   sized = sized;
   has = record { place = place; leads = so.leads; one_open = one_open; last_free = so.free (flash_slot_count - 1) (omega arith) (omega arith) };

@@ -5,7 +5,7 @@ use Rattle.x7_words.specs.Flash.{FlashState, IfKnown, SeesBytes}
 use Rattle.x7_words.proofs.CountLemmas.{risen_from}
 use Rattle.x7_words.proofs.FlashLemmas.{get_or_slice_range}
 use Rattle.x7_packets.specs.FlashSlot.{flash_slot_size, flash_slot_count}
-use Rattle.x7_update.specs.Layout.{CanStandAt, HasSize, IsOpen, open_switch, switch_size}
+use Rattle.x7_update.specs.Layout.{CanStandAt, IsUpdatableSize, IsOpen, open_switch, switch_size}
 use Rattle.x7_update.specs.Fault.{CanTake, HasCause, UntouchedForWant}
 use Rattle.x7_update.specs.Writing.{BecomesBytes, HasLateCause, HasWanted, IsWritten, IsWrong, SeesWanted, in_stream, in_switch, wanted_at}
 use Rattle.x7_update.specs.declared.fault.UpdateFault.{UpdateFault}
@@ -29,7 +29,7 @@ not_known (Some all) from piece place count buffer at wrote read long r h w =
     absurd (w.5 same)
 
 -- a fault of what was read from a place on and compared with what is wanted there
-wrong_fails : (from : ℕ) (piece : List ℕ) (place count end : ℕ) (buffer stream : List ℕ) (old new : FlashState) (fault : UpdateFault) → length buffer ≡ count → SeesBytes new place buffer → HasSize new.extent → IfKnown old.bytes (λ all. buffer ≡ slice_range all place (place + count))
+wrong_fails : (from : ℕ) (piece : List ℕ) (place count end : ℕ) (buffer stream : List ℕ) (old new : FlashState) (fault : UpdateFault) → length buffer ≡ count → SeesBytes new place buffer → IsUpdatableSize new.extent → IfKnown old.bytes (λ all. buffer ≡ slice_range all place (place + count))
     → IfKnown old.bytes (AreWanted from piece place count) → IsWritten new.extent stream piece from end → from ≤ place → place + count ≤ end → SeesWanted from piece from place new → IsWrong from piece place buffer fault → HasLateCause stream old new fault
 wrong_fails from piece place count end buffer stream old new (Differs at wrote read) long seen sized r h written after within had w = (
   record {
@@ -55,7 +55,7 @@ wrong_fails from piece place count end buffer stream old new TooLong long seen s
 wrong_fails from piece place count end buffer stream old new (NoLayout at) long seen sized r h written after within had w = absurd w
 wrong_fails from piece place count end buffer stream old new NoMemory long seen sized r h written after within had w = absurd w
 
-compared_fails : (from : ℕ) (piece : List ℕ) (place count end : ℕ) (buffer stream : List ℕ) (old new : FlashState) (result : Result (Unit {0}) UpdateFault) → length buffer ≡ count → SeesBytes new place buffer → HasSize new.extent → IfKnown old.bytes (λ all. buffer ≡ slice_range all place (place + count))
+compared_fails : (from : ℕ) (piece : List ℕ) (place count end : ℕ) (buffer stream : List ℕ) (old new : FlashState) (result : Result (Unit {0}) UpdateFault) → length buffer ≡ count → SeesBytes new place buffer → IsUpdatableSize new.extent → IfKnown old.bytes (λ all. buffer ≡ slice_range all place (place + count))
     → IfKnown old.bytes (AreWanted from piece place count) → IsWritten new.extent stream piece from end → from ≤ place → place + count ≤ end → SeesWanted from piece from place new → IfErr result (IsWrong from piece place buffer) → IfErr result (HasLateCause stream old new)
 compared_fails from piece place count end buffer stream old new (Ok _) long seen sized r h written after within had w = tt
 compared_fails from piece place count end buffer stream old new (Err fault) long seen sized r h written after within had w =
@@ -68,11 +68,11 @@ stream_wanted None update stream place count size after within s h = tt
 stream_wanted (Some all) update stream place count size after within s h = λ i l. h (place + i) (omega arith) (omega (arith, s))
 
 -- this many bytes of the stream, or of FF after it, were verified from a place on
-pub stream_fails : (update : ℕ) (stream : List ℕ) (place count : ℕ) (buffer : List ℕ) (old new : FlashState) (result : Result (Unit {0}) UpdateFault) → length buffer ≡ count → SeesBytes new place buffer → new.extent ≡ old.extent → HasSize old.extent → CanStandAt old.extent update
+pub stream_fails : (update : ℕ) (stream : List ℕ) (place count : ℕ) (buffer : List ℕ) (old new : FlashState) (result : Result (Unit {0}) UpdateFault) → length buffer ≡ count → SeesBytes new place buffer → new.extent ≡ old.extent → IsUpdatableSize old.extent → CanStandAt old.extent update
     → update + length stream ≤ old.extent → update ≤ place → place + count ≤ old.extent → IfKnown old.bytes (λ all. old.extent ≡ length all) → IfKnown old.bytes (HasWanted update stream)
     → IfKnown old.bytes (λ all. buffer ≡ slice_range all place (place + count)) → SeesWanted update stream update place new → IfErr result (IsWrong update stream place buffer) → IfErr result (HasLateCause stream old new)
 stream_fails update stream place count buffer old new result long seen same sized stands fits after within counted wanted r had w =
-    compared_fails update stream place count new.extent buffer stream old new result long seen (subst HasSize (sym same) sized) r (stream_wanted old.bytes update stream place count old.extent after within counted wanted)
+    compared_fails update stream place count new.extent buffer stream old new result long seen (subst IsUpdatableSize (sym same) sized) r (stream_wanted old.bytes update stream place count old.extent after within counted wanted)
     (in_stream (subst (λ (n : ℕ). CanStandAt n update) (sym same) stands) (omega (arith, same, fits)) refl refl) after (omega (arith, same, within)) had w
 
 -- ---- a switch word
@@ -86,10 +86,10 @@ switch_wanted (Some all) slot h = λ i l.
     same_four all open_switch place 0 i h l ∙ ap (λ k. get_or open_switch k 0) at ∙ sym (wanted_inside place open_switch (place + i) short)
 
 -- the switch word of a slot that was opened was verified
-pub switch_fails : (slot : ℕ) (buffer stream : List ℕ) (old new : FlashState) (result : Result (Unit {0}) UpdateFault) → length buffer ≡ 4 → SeesBytes new (flash_slot_size * slot) buffer → new.extent ≡ old.extent → HasSize old.extent → slot < flash_slot_count → IfKnown old.bytes (λ all. IsOpen all slot)
+pub switch_fails : (slot : ℕ) (buffer stream : List ℕ) (old new : FlashState) (result : Result (Unit {0}) UpdateFault) → length buffer ≡ 4 → SeesBytes new (flash_slot_size * slot) buffer → new.extent ≡ old.extent → IsUpdatableSize old.extent → slot < flash_slot_count → IfKnown old.bytes (λ all. IsOpen all slot)
     → IfKnown old.bytes (λ all. buffer ≡ slice_range all (flash_slot_size * slot) (flash_slot_size * slot + switch_size)) → IfErr result (IsWrong (flash_slot_size * slot) open_switch (flash_slot_size * slot) buffer) → IfErr result (HasLateCause stream old new)
 switch_fails slot buffer stream old new result long seen same sized h opened r w =
-    compared_fails (flash_slot_size * slot) open_switch (flash_slot_size * slot) 4 (flash_slot_size * slot + switch_size) buffer stream old new result long seen (subst HasSize (sym same) sized) r (switch_wanted old.bytes slot opened) (in_switch slot h refl refl refl) (omega arith) (omega arith)
+    compared_fails (flash_slot_size * slot) open_switch (flash_slot_size * slot) 4 (flash_slot_size * slot + switch_size) buffer stream old new result long seen (subst IsUpdatableSize (sym same) sized) r (switch_wanted old.bytes slot opened) (in_switch slot h refl refl refl) (omega arith) (omega arith)
     (λ place l below. absurd (omega (arith, l, below))) w
 
 -- ---- the end of an update
@@ -118,7 +118,7 @@ fails_since stream a b c (Ok _) r w e h = tt
 fails_since stream a b c (Err fault) r w e h = fails_before stream a b c fault r w e h
 
 -- why an update is refused whose end fails, of a flash that can take the stream
-pub end_refused : (stream : List ℕ) (old new : FlashState) (result : Result (Unit {0}) UpdateFault) → HasSize new.extent → IfKnown old.bytes (CanTake stream) → IfErr result (HasLateCause stream old new) → IfErr result (HasCause stream old new)
+pub end_refused : (stream : List ℕ) (old new : FlashState) (result : Result (Unit {0}) UpdateFault) → IsUpdatableSize new.extent → IfKnown old.bytes (CanTake stream) → IfErr result (HasLateCause stream old new) → IfErr result (HasCause stream old new)
 end_refused stream old new (Ok _) sized can h = tt
 end_refused stream old new (Err (Differs at wrote read)) sized can h = h
 end_refused stream old new (Err (Failed true)) sized can h = (h, sized, can)

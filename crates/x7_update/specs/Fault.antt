@@ -2,7 +2,7 @@
 use Rattle.std.specs.Prelude.{◌≡◌, ◌≢◌, ℕ, ◌+◌, ◌-◌, ◌*◌, ◌<◌, ◌≤◌, ◌⊎◌, true, false, List, length, get_or, None, Some}
 use Rattle.x7_words.specs.Flash.{FlashFails, FlashState, IfKnown, WriteFails}
 use Rattle.x7_packets.specs.FlashSlot.{flash_slot_size, flash_slot_count}
-use Rattle.x7_update.specs.Layout.{CanStandAt, IsUpdatable, HasSize, IsFree, IsOpen, LeadsToUpdate, first_slot, start_place, switch_size, update_place}
+use Rattle.x7_update.specs.Layout.{CanStandAt, IsUpdatable, IsUpdatableSize, IsFree, IsOpen, LeadsToUpdate, first_slot, start_place, switch_size, update_place}
 use Rattle.x7_update.specs.Writing.{IsFirstRead, IsReadWrong}
 use Rattle.x7_update.specs.declared.fault.UpdateFault.{UpdateFault}
 use Rattle.x7_update.specs.declared.fault.UpdateFault.TheVariants.{Differs, Failed, NoLayout, NoMemory, TooLong}
@@ -34,7 +34,7 @@ IsBadSlotAt flash slot place = DiffersAt flash slot place ⊎ (LeadsToUpdate fla
 
 -- a flash can be updated by its size and its first slot: the slot leads to a place at which an update can stand
 pub record BeginsWell (size : ℕ) (flash : List ℕ) : Type 0 where
-  pub sized : HasSize size
+  pub sized : IsUpdatableSize size
   pub leads : LeadsToUpdate flash 0
   pub place : CanStandAt size (update_place flash)
 
@@ -42,9 +42,9 @@ pub record BeginsWell (size : ℕ) (flash : List ℕ) : Type 0 where
 -- is bad (the size); the first slot differs (there); the update's place is none where an update can stand (where the
 -- first slot has it); a further slot is bad, the slots in their order; the last slot isn't free (its place).
 pub data NoLayoutAt (size : ℕ) (flash : List ℕ) (place : ℕ) : Type 0 where
-  bad_size : (HasSize size → ⊥) → place ≡ size → NoLayoutAt size flash place
-  bad_first : HasSize size → DiffersAt flash 0 place → NoLayoutAt size flash place
-  bad_place : HasSize size → LeadsToUpdate flash 0 → (CanStandAt size (update_place flash) → ⊥) → place ≡ start_place → NoLayoutAt size flash place
+  bad_size : (IsUpdatableSize size → ⊥) → place ≡ size → NoLayoutAt size flash place
+  bad_first : IsUpdatableSize size → DiffersAt flash 0 place → NoLayoutAt size flash place
+  bad_place : IsUpdatableSize size → LeadsToUpdate flash 0 → (CanStandAt size (update_place flash) → ⊥) → place ≡ start_place → NoLayoutAt size flash place
   bad_slot : BeginsWell size flash → (slot : ℕ) → slot < flash_slot_count → ((earlier : ℕ) → earlier < slot → IsGoodSlot flash earlier)
       → IsBadSlotAt flash slot place → NoLayoutAt size flash place
   last_taken : BeginsWell size flash → ((slot : ℕ) → slot < flash_slot_count → IsGoodSlot flash slot) → (IsFree flash (flash_slot_count - 1) → ⊥) → place ≡ flash_slot_size * (flash_slot_count - 1)
@@ -64,9 +64,9 @@ pub record CanTake (stream flash : List ℕ) : Type 0 where
 abbrev pub HasCause : List ℕ → FlashState → FlashState → UpdateFault → Type 0
 -- a write failed: its count has risen, the flash's size is good, and known
 -- bytes were written only where the stream fits
-HasCause stream old new (Failed true) = WriteFails old new × HasSize new.extent × IfKnown old.bytes (CanTake stream)
+HasCause stream old new (Failed true) = WriteFails old new × IsUpdatableSize new.extent × IfKnown old.bytes (CanTake stream)
 -- a read failed: its count has risen, and the flash's size is good
-HasCause stream old new (Failed false) = FlashFails old new × HasSize new.extent
+HasCause stream old new (Failed false) = FlashFails old new × IsUpdatableSize new.extent
 -- a flash whose bytes are known can be updated, and the stream doesn't fit in it
 HasCause stream old new TooLong = IfKnown old.bytes (IsTooLong stream)
 -- a flash whose bytes are known can't be updated, as the place shows
@@ -93,7 +93,7 @@ UntouchedForWant old new fault = fault ≡ NoMemory → new ≡ old
 
 -- the flash is touched only where its size is good: else it is as before, and not even its first sector was read
 abbrev pub UntouchedUnlessSized : FlashState → FlashState → Type 0
-UntouchedUnlessSized old new = (HasSize old.extent → ⊥) → new ≡ old
+UntouchedUnlessSized old new = (IsUpdatableSize old.extent → ⊥) → new ≡ old
 
 -- No fault but want of memory has a cause: the flash's bytes were known, it can be updated, the stream fits in it, and
 -- no write and no read failed.

@@ -50,7 +50,7 @@ abbrev pub first_slot : List ℕ → List ℕ
 first_slot flash = flash_slot open_switch (four_at flash start_place)
 
 -- a flash of this size, in bytes, can be updated: it is whole sectors, two at least, and not too large
-pub record HasSize (size : ℕ) : Type 0 where
+pub record IsUpdatableSize (size : ℕ) : Type 0 where
   pub whole : size % sector_size ≡ 0
   pub least : 2 * sector_size ≤ size
   pub most : size ≤ flash_limit
@@ -83,7 +83,7 @@ pub record HasSlots (size : ℕ) (flash : List ℕ) : Type 0 where
 
 -- a flash can be updated: its size and its slots are those of the layout
 pub record IsUpdatable (flash : List ℕ) : Type 0 where
-  pub size : HasSize (length flash)
+  pub size : IsUpdatableSize (length flash)
   pub slots : HasSlots (length flash) flash
 
 -- no slot of the flash is open

@@ -2,7 +2,7 @@
 use Rattle.std.specs.Prelude.{◌≡◌, ◌≢◌, ℕ, suc, ◌<◌, ◌≤◌, true, List, length, Option, None, Some}
 use Rattle.x7_words.specs.Flash.{FlashState, IfKnown}
 use Rattle.x7_packets.specs.FlashSlot.{sector_size, flash_slot_count}
-use Rattle.x7_update.specs.Layout.{CanStandAt, HasSize, HasSlots, IsFree, IsNextFreeSlot, IsOpen, LeadsToUpdate, first_slot, free_switch, open_switch, switch_of, update_place}
+use Rattle.x7_update.specs.Layout.{CanStandAt, IsUpdatableSize, HasSlots, IsFree, IsNextFreeSlot, IsOpen, LeadsToUpdate, first_slot, free_switch, open_switch, switch_of, update_place}
 use Rattle.x7_update.specs.Fault.{OpensAgain}
 use Rattle.x7_update.specs.declared.slots.Slots.{Slots}
 use Rattle.x7_update.specs.declared.slots.UpdateTarget.{UpdateTarget}
@@ -30,7 +30,7 @@ pub record SlotsAmong (flash : List ℕ) (count : ℕ) (slots : Slots) : Type 0 
 -- where an update of a flash of this size goes: the first sector is slots as the layout has them, with this U, this
 -- open slot or none, and this next one
 pub record IsTargetIn (size : ℕ) (flash : List ℕ) (target : UpdateTarget) : Type 0 where
-  pub sized : HasSize size
+  pub sized : IsUpdatableSize size
   pub has : HasSlots size flash
   pub update : target.place ≡ update_place flash
   pub opens : OpenAmong flash flash_slot_count target.slots.open_slot
@@ -43,7 +43,7 @@ WithinSlots (Some slot) = slot < flash_slot_count
 
 -- the update's place and the slots are within a flash of a size
 pub record TargetFits (size : ℕ) (target : UpdateTarget) : Type 0 where
-  pub sized : HasSize size
+  pub sized : IsUpdatableSize size
   pub place : CanStandAt size target.place
   pub next : target.slots.next < flash_slot_count
   pub opens : WithinSlots target.slots.open_slot

@@ -5,7 +5,7 @@ use Rattle.x7_words.specs.FlashCalls.{FlashModel}
 use Rattle.x7_words.specs.Word.{AreBytes}
 use Rattle.x7_packets.specs.FlashSlot.{sector_size, flash_slot_size, flash_slot_count}
 use Rattle.x7_update.specs.After.{SpendsOpen, IsBetweenSlots, switched, with_stream}
-use Rattle.x7_update.specs.Layout.{CanStandAt, HasSize, open_switch, switch_size, switch_of}
+use Rattle.x7_update.specs.Layout.{CanStandAt, IsUpdatableSize, open_switch, switch_size, switch_of}
 use Rattle.x7_update.specs.declared.fault.UpdateFault.{UpdateFault}
 use Rattle.x7_update.specs.declared.fault.UpdateFault.TheVariants.{Differs, Failed, NoLayout, NoMemory, TooLong}
 
@@ -119,7 +119,7 @@ HasWanted stream_place stream flash = (place : ℕ) → stream_place ≤ place �
 -- the buffer is of a sector's size
 pub record CanVerify (state : FlashState) (stream_place : ℕ) (stream buffer : List ℕ) : Type 0 where
   pub attached : state.attached ≡ true
-  pub size : HasSize state.extent
+  pub size : IsUpdatableSize state.extent
   pub place : CanStandAt state.extent stream_place
   pub fits : stream_place + length stream ≤ state.extent
   pub wanted : IfKnown state.bytes (HasWanted stream_place stream)
@@ -156,7 +156,7 @@ pub data IsWritten (size : ℕ) (stream piece : List ℕ) (from end : ℕ) : Typ
 
 -- a byte is another than the one that an update with this stream writes at a place of a flash of a size
 pub record IsReadWrong (size : ℕ) (stream : List ℕ) (place wrote read : ℕ) : Type 0 where
-  pub sized : HasSize size
+  pub sized : IsUpdatableSize size
   pub piece : List ℕ
   pub from : ℕ
   pub end : ℕ

@@ -1,6 +1,6 @@
 //! The layout of a flash that can be updated: its size, the update's place, and the words of a slot.
 ghost use Rattle.std.specs.Prelude.{◌≡◌, ◌↔◌, ◌+◌, ◌≤◌, true, length};
-ghost use Rattle.x7_update.specs.Layout.{CanStandAt, HasSize, first_slot, four_at, start_place};
+ghost use Rattle.x7_update.specs.Layout.{CanStandAt, IsUpdatableSize, first_slot, four_at, start_place};
 
 use x7_packets::{SYNC_BYTES, flash_slot};
 use x7_words::{FLASH_LIMIT, SECTOR_SIZE};
@@ -44,7 +44,7 @@ pub(crate) fn first_slot(first_sector: &[u8]) -> [u8; 32]
 
 /// Whether a flash of this size, in bytes, can be updated.
 pub(crate) fn has_size(size: u64) -> bool
-    ensures { (result ≡ true) ↔ HasSize size }
+    ensures { (result ≡ true) ↔ IsUpdatableSize size }
 {
     size % SECTOR_SIZE == 0 && 2 * SECTOR_SIZE <= size && size <= FLASH_LIMIT
 }

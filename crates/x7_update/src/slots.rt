@@ -3,7 +3,7 @@ ghost use Rattle.std.specs.Prelude.{◌≡◌, ◌+◌, ◌<◌, ℕ, List, true
 ghost use Rattle.x7_words.specs.Flash.{KnowsBytes};
 ghost use Rattle.x7_words.specs.FlashCalls.{CallOnlyReads};
 ghost use Rattle.x7_packets.specs.FlashSlot.{sector_size, flash_slot_count};
-ghost use Rattle.x7_update.specs.Layout.{HasSize, LeadsToUpdate};
+ghost use Rattle.x7_update.specs.Layout.{IsUpdatableSize, LeadsToUpdate};
 ghost use Rattle.x7_update.specs.Fault.{DiffersAt, HasCause, IsBadSlotAt, IsGoodSlot, NoLayoutAt, UntouchedUnlessSized};
 ghost use Rattle.x7_update.specs.Slots.{IsTargetIn, HasFirstSlot, HasTarget, SlotsAmong};
 ghost use Rattle.x7_update.specs.declared.fault.UpdateFault.TheVariants.{NoMemory};
@@ -105,7 +105,7 @@ fn look_at_slots(first_sector: &[u8], wanted: &[u8; 32]) -> Result<Slots, u64>
 /// Where an update goes in a flash of a size, by its first sector, or the first place that breaks the layout.
 fn target_of(first_sector: &[u8], size: u64) -> Result<UpdateTarget, u64>
     requires first_sector { length first_sector.now ≡ sector_size }
-    requires size { HasSize size }
+    requires size { IsUpdatableSize size }
     ensures found { IfOk result (IsTargetIn size first_sector.now) }
     ensures no_layout { IfErr result (NoLayoutAt size first_sector.now) }
 {

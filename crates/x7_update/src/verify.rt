@@ -3,7 +3,7 @@ ghost use Rattle.std.specs.Prelude.{◌≡◌, ◌+◌, ◌*◌, ◌<◌, ◌≤
 ghost use Rattle.x7_words.specs.Flash.{IfKnown, SeesBytes};
 ghost use Rattle.x7_words.specs.FlashCalls.{CallOnlyReads};
 ghost use Rattle.x7_packets.specs.FlashSlot.{sector_size, flash_slot_size, flash_slot_count};
-ghost use Rattle.x7_update.specs.Layout.{HasSize, IsOpen, open_switch};
+ghost use Rattle.x7_update.specs.Layout.{IsUpdatableSize, IsOpen, open_switch};
 ghost use Rattle.x7_update.specs.Writing.{CanVerify, HasLateCause, IsWrong, ReadsWanted, SeesWanted, wanted_at};
 
 use crate::fault::UpdateFault;
@@ -94,7 +94,7 @@ fn verify_sector<F: Flash>(
 /// Reads the switch word of the slot that was opened, and compares it.
 pub(crate) fn verify_switch<F: Flash>(flash: &mut F, slot: u64) -> Result<(), UpdateFault>
     requires attached { (F.state flash.old).attached ≡ true }
-    requires size { HasSize (F.state flash.old).extent }
+    requires size { IsUpdatableSize (F.state flash.old).extent }
     requires slot { slot < flash_slot_count }
     requires opened { IfKnown (F.state flash.old).bytes (λ all. IsOpen all slot) }
     ensures seen { OnOk result (SeesBytes (F.state flash.new) (flash_slot_size * slot) open_switch) }

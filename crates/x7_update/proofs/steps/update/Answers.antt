@@ -3,7 +3,7 @@ use Rattle.x7_words.specs.Count.{HasRisen}
 use Rattle.x7_words.specs.Flash.{IfKnown, WriteFails}
 use Rattle.x7_words.specs.Word.{AreBytes}
 use Rattle.x7_update.specs.After.{IsBetweenSlots, MayBeLeft, untouched}
-use Rattle.x7_update.specs.Layout.{CanStandAt, IsUpdatable, HasSize, HasNoOpenSlot, IsFree}
+use Rattle.x7_update.specs.Layout.{CanStandAt, IsUpdatable, IsUpdatableSize, HasNoOpenSlot, IsFree}
 use Rattle.x7_update.specs.Verified.{OpensVerified, IsVerified, WasReady}
 use Rattle.x7_update.specs.Fault.{CanTake, IsTooLong}
 use Rattle.x7_update.specs.Slots.{IsTargetIn, TargetFits}
@@ -61,7 +61,7 @@ returns-in-Err-clause-refused g c =
     record { updatable = record { size = finds.sized; slots = finds.has }; fits = omega (arith, long, finds.update, read.extent, c.size.ensures.extent, found.fits.place.most, c.if-stream-size.false) })
     found.finds in
     let fails : WriteFails first then = subst (λ n. HasRisen n then.write_faults) read.unwritten.write_faults c.in-Err.ensures.failed in
-    (fails, subst HasSize (sym size) found.fits.sized, can)
+    (fails, subst IsUpdatableSize (sym size) found.fits.sized, can)
 
 pub returns-in-Err-clause-complete : goal.returns-in-Err-clause-complete
 returns-in-Err-clause-complete g c =
@@ -84,7 +84,7 @@ returns-clause-refused g c =
     let long : first.extent ≡ length all = known_at first.bytes (λ all. first.extent ≡ length all) (g.met.F.Flash.counted c.args.flash.now) all e in
     record { updatable = record { size = finds.sized; slots = finds.has }; fits = omega (arith, long, finds.update, read.extent, c.size.ensures.extent, fits.place.most, c.if-stream-size.false) })
     c.in_ok-target.ensures.found.finds in
-    end_refused stream first last c.verify_and_open.result (subst HasSize (sym size) fits.sized) can
+    end_refused stream first last c.verify_and_open.result (subst IsUpdatableSize (sym size) fits.sized) can
     (fails_since stream first then last c.verify_and_open.result (omega (arith, read.faults, wrote.faults)) (omega (arith, read.unwritten.write_faults, wrote.write_faults))
     (λ none. sym read.bytes ∙ none_before (UpdateReplaced target.place stream) (g.F.Flash.state c.find_target.new.flash).bytes then.bytes c.in-Ok-replace.ensures.replaced none) c.verify_and_open.ensures.fault)
 
@@ -139,7 +139,7 @@ verify_and_open-requires-clause-written g c =
     let size : then.extent ≡ first.extent = wrote.extent ∙ read.extent in
     record {
       attached = wrote.attached ∙ read.attached ∙ c.requires;
-      size = subst HasSize (sym size) found.fits.sized;
+      size = subst IsUpdatableSize (sym size) found.fits.sized;
       place = subst (λ n. CanStandAt n target.place) (sym size) found.fits.place;
       fits = omega (arith, size, read.extent, c.size.ensures.extent, found.fits.place.most, c.if-stream-size.false);
       wanted = becomes_then mid then (UpdateReplaced target.place stream) (HasWanted target.place stream)
