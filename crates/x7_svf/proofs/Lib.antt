@@ -2,6 +2,7 @@ pub mod BitLemmas
 pub mod ByteLemmas
 pub mod DigitLemmas
 pub mod FieldLemmas
+pub mod HexLemmas
 pub mod NextLemmas
 pub mod NumberLemmas
 pub mod OutcomeLemmas

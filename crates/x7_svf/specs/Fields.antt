@@ -1,7 +1,7 @@
 -- The fields of a scan, and what it says (this project's profile of SVF). After the number of bits come the fields, in
 -- any order and each at most once: a field's name, `(`, hexadecimal digits, at least one, which blanks may
 -- part, and `)`.
-use Rattle.std.specs.Prelude.{ℕ, ◌+◌, ◌*◌, ◌^◌, ◌==◌, ◌&&◌, nat_le, nat_lt, Bool, true, false, if◌then◌else◌, List, [], ◌∷◌, ◌++◌, Option, Some, None, codes, length}
+use Rattle.std.specs.Prelude.{ℕ, ◌+◌, ◌*◌, ◌^◌, ◌==◌, ◌&&◌, nat_lt, Bool, true, false, if◌then◌else◌, List, [], ◌∷◌, ◌++◌, Option, Some, None, codes, length}
 use Rattle.std.specs.List.{list_all}
 use Rattle.x7_words.specs.Characters.{digit_number, is_hex_digit}
 use Rattle.x7_svf.specs.Token.{Token, Word, Open, Close, End}
@@ -86,21 +86,10 @@ abbrev pub hex_value : List ℕ → ℕ
 hex_value [] = 0
 hex_value (c ∷ cs) = digit_number c * 2 ^ (4 * length cs) + hex_value cs
 
--- how many bits the value of a digit has: the least count whose power of two is above the value
-abbrev pub digit_width : ℕ → ℕ
-digit_width c =
-    if nat_lt (digit_number c) 1 then 0 else (if nat_lt (digit_number c) 2 then 1 else (if nat_lt (digit_number c) 4 then 2 else (if nat_lt (digit_number c) 8 then 3 else 4)))
-
--- how many bits the value of digits has: four for each digit after the first that isn't 0, and the bits of that one;
--- by `values_fit_their_width` the least count whose power of two is above the value
-abbrev pub width : List ℕ → ℕ
-width [] = 0
-width (c ∷ cs) = if digit_width c == 0 then width cs else 4 * length cs + digit_width c
-
 -- the value of a field's digits, if it has any, fits n bits
 abbrev pub fits : ℕ → Option (List ℕ) → Bool
 fits n None = true
-fits n (Some ds) = nat_le (width ds) n
+fits n (Some ds) = nat_lt (hex_value ds) (2 ^ n)
 
 -- the values of all fields fit n bits
 abbrev pub all_fit : ℕ → ScanFields → Bool

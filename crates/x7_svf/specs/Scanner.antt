@@ -1,5 +1,5 @@
--- How a scan's fields are read token by token (this project's choice).
-use Rattle.std.specs.Prelude.{ℕ, nat_lt, if◌then◌else◌, List, [], ◌∷◌, ◌++◌, Option, Some, None, length}
+-- How a scan's fields are read token by token, and what is known of their digits (this project's choice).
+use Rattle.std.specs.Prelude.{◌≡◌, ◌<◌, ◌≤◌, ℕ, ◌^◌, nat_lt, true, ⊤, if◌then◌else◌, List, [], ◌∷◌, ◌++◌, Option, Some, None, length}
 use Rattle.x7_svf.specs.Token.{Token, Word, Open, Close}
 use Rattle.x7_svf.specs.Fields.{ScanFields, are_hex, field_by_name, with_field}
 use Rattle.x7_svf.specs.declared.fields.ScanField.{ScanField}
@@ -52,3 +52,22 @@ fields_after_step (Some s) next = next s.at s.fields
 abbrev pub scan_from : ScanPlace → ScanFields → List Token → Option ScanFields
 scan_from at f [] = fields_at_end at f
 scan_from at f (t ∷ ts) = fields_after_step (scan_step at f t) (λ a g. scan_from a g ts)
+
+-- ---- digits
+
+-- the digits of a field, if it has any, are hexadecimal
+abbrev pub AreHexIf : Option (List ℕ) → Type 0
+AreHexIf None = ⊤
+AreHexIf (Some ds) = are_hex ds ≡ true
+
+-- the digits of all fields are hexadecimal
+pub record AreHexFields (f : ScanFields) : Type 0 where
+  pub tdi : AreHexIf f.tdi
+  pub tdo : AreHexIf f.tdo
+  pub mask : AreHexIf f.mask
+  pub smask : AreHexIf f.smask
+
+-- the bits are the least count whose power of two is above the value
+pub record IsWidth (value bits : ℕ) : Type 0 where
+  pub above : value < 2 ^ bits
+  pub least : (n : ℕ) → value < 2 ^ n → bits ≤ n

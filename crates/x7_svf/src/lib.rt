@@ -17,6 +17,6 @@ mod words;
 
 pub use bits::Bits;
 pub use fault::SvfFault;
-pub use laws::{bits_are_those_of_the_value, values_fit_their_width};
+pub use laws::bits_are_those_of_the_value;
 pub use statement::{Scan, ScannedRegister, Statement};
 pub use svf::{SVF_TEXT_LIMIT, Svf, svf_from, svf_of};

@@ -1,10 +1,12 @@
 //! One statement of a text.
 ghost use Rattle.std.specs.Prelude.{◌≡◌, ◌<◌, ◌≤◌, ◌+◌, ◌*◌, true, false, length, take, IfSome, IsTrue, Option, Some, None};
 ghost use Rattle.std.specs.List.{list_all};
-ghost use Rattle.x7_svf.specs.Fields.{all_fit, digit_width, fits, scan_by, scan_if, scan_of, width};
+ghost use Rattle.x7_words.specs.Characters.{digit_number, is_hex_digit};
+ghost use Rattle.x7_svf.specs.Fields.{all_fit, are_hex, fits, hex_value, scan_by, scan_if, scan_of};
 ghost use Rattle.x7_svf.specs.Token.{token_of, token_size};
 ghost use Rattle.x7_svf.specs.Reading.{ReadsOn, StepsOver};
 ghost use Rattle.x7_svf.specs.Source.{tokens_left};
+ghost use Rattle.x7_svf.specs.Scanner.{AreHexFields, AreHexIf, IsWidth};
 ghost use Rattle.x7_svf.specs.Span.{AreWithin, StaysKept, bytes_in, digits_if, span_end_if, span_end, fields_of};
 ghost use Rattle.x7_svf.specs.Statement.{statement_by, statement_of};
 ghost use Rattle.x7_svf.specs.Stored.{IsStored};
@@ -98,7 +100,8 @@ fn words_statement(source: &mut Source, key: Span) -> Option<StoredStatement>
 
 /// How many bits the value of a digit has.
 fn digit_width(digit: u8) -> u64
-    ensures { result ≡ digit_width digit }
+    requires { is_hex_digit digit ≡ true }
+    ensures { IsWidth (digit_number digit) result }
 {
     let value = digit_number(digit);
     if value < 1 {
@@ -123,7 +126,8 @@ fn width_with(after: usize, bits: u64) -> u128
 
 /// How many bits the value of digits has.
 fn width(digits: &[u8]) -> u128
-    ensures { result ≡ width digits.now }
+    requires { are_hex digits.now ≡ true }
+    ensures { IsWidth (hex_value digits.now) result }
 {
     let mut rest = digits;
     while let [digit, after @ ..] = rest {
@@ -138,7 +142,8 @@ fn width(digits: &[u8]) -> u128
 
 /// Whether the value of digits, if there are any, fits `count` bits.
 fn fits(kept: &[u8], count: u32, digits: Option<Span>) -> bool
-    requires { span_end_if digits ≤ length kept.now }
+    requires within { span_end_if digits ≤ length kept.now }
+    requires hex { AreHexIf (digits_if kept.now digits) }
     ensures { result ≡ fits count (digits_if kept.now digits) }
 {
     match digits {
@@ -149,7 +154,8 @@ fn fits(kept: &[u8], count: u32, digits: Option<Span>) -> bool
 
 /// Whether the values of all fields fit `count` bits.
 fn all_fit(kept: &[u8], count: u32, spans: FieldSpans) -> bool
-    requires { AreWithin (length kept.now) spans }
+    requires within { AreWithin (length kept.now) spans }
+    requires hex { AreHexFields (fields_of kept.now spans) }
     ensures { result ≡ all_fit count (fields_of kept.now spans) }
 {
     fits(kept, count, spans.tdi)
@@ -165,7 +171,8 @@ fn scan_of_fields(
     count: u32,
     spans: FieldSpans,
 ) -> Option<StoredStatement>
-    requires { AreWithin (length kept.now) spans }
+    requires within { AreWithin (length kept.now) spans }
+    requires hex { AreHexFields (fields_of kept.now spans) }
     ensures { IsStored kept.now result (scan_by register count (Some (fields_of kept.now spans))) }
 {
     if !all_fit(kept, count, spans) {

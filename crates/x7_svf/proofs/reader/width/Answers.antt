@@ -1,0 +1,7 @@
+use Rattle.x7_svf.specs.Fields.{hex_value}
+use Rattle.x7_svf.proofs.ValueLemmas.{width_at}
+use Rattle.x7_svf.proofs.reader.width.Goals as goal
+
+pub returns-then-bits-gt0 : goal.returns-then-bits-gt0
+returns-then-bits-gt0 c = width_at c.loop-rest.rest.now (hex_value c.args.digits.now) c.digit_width-bits.result c.width_with.result
+    c.in-len1-up.len_at_least c.loop-rest.invariant.hex c.digit_width-bits.ensures c.if-bits-gt0.true c.loop-rest.invariant.value c.width_with.ensures
