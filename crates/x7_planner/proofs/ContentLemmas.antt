@@ -1,12 +1,12 @@
 -- Equal contents stand together.
-use Rattle.std.proofs.Common.{◌≡◌, ◌≢◌, ℕ, zero, suc, ◌+◌, ◌-◌, ◌<◌, ◌≤◌, ◌==◌, ◌&&◌, not, ◌⊎◌, inl, inr, Bool, true, false, if◌then◌else◌, List, [], ◌∷◌, ◌++◌, length, map, take, drop, get_or, set, refl, ap, sym, subst, ◌∙◌, arith, eq-eqb, Ordering, Less, Equal, Greater, cond}
+use Rattle.std.proofs.Common.{◌≡◌, ◌≢◌, ℕ, zero, suc, ◌+◌, ◌-◌, ◌<◌, ◌≤◌, ◌&&◌, not, ◌⊎◌, inl, inr, Bool, true, false, if◌then◌else◌, List, [], ◌∷◌, ◌++◌, length, map, take, drop, get_or, set, refl, ap, sym, subst, ◌∙◌, arith, Ordering, Less, Equal, Greater, cond}
 use Rattle.std.specs.Prelude.{Contains, bytes_eq, nat_le, IsPermutation}
 use Rattle.std.specs.List.{filter}
 use Rattle.std.specs.List.Sorted.{IsSortedBy, IsStableBy, ties}
 use Rattle.std.specs.Cmp.Lexicographic.{slice_cmp}
 use Rattle.std.specs.Cmp.{IsStrictWeakOrder}
 use Rattle.std.specs.Ordering.{nat_cmp, is_lt, is_eq, ordering_reverse}
-use Rattle.std.proofs.lemmas.Bool.{cases_eq, cases_order, eqb-true, false≢true}
+use Rattle.std.proofs.lemmas.Bool.{cases_eq, cases_order, false≢true}
 use Rattle.std.proofs.lemmas.Bool.Decides.{nat_tests}
 use Rattle.std.proofs.lemmas.Cmp.{nat_list_cmp_total, same_from_slice_cmp}
 use Rattle.std.proofs.lemmas.List.{get_or-take, get_or-drop, get_or-map, get_or_default, append-nil, take-append-drop, drop_more, length-append, length-drop, length-take-le, drop-drop, length-map, get_or-set_same, get_or-set_other, length_push, get_or_push, get_or_append_left}
