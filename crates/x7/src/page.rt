@@ -36,7 +36,8 @@ exit status:
    2  usage: the words have no form
    3  missing: there is no such file
    4  bad part: a part file is refused
-   5  bad input: another input is refused
+   5  bad input: an input has no reading, the part lacks what is asked, or a
+      flash or an image can't hold the stream
    6  read fault: an input or the flash could not be opened or read
    7  write fault: standard output failed, or the flash could not be written
    8  no memory
