@@ -46,7 +46,8 @@ fn shape_of(golden: u64, update: u64) -> Option<ImageShape>
     })
 }
 
-/// A slot of the first sector, 32 bytes: a device that finds the slot's sync word goes to the start address.
+/// A slot of the first sector with this switch word, 32 bytes: where that is the sync word, a device that finds it goes
+/// to the start address.
 #[tactic(auto, unfolding(crate::specs::Image::slot))]
 fn slot(switch: u32, start: u32) -> [u8; 32]
     ensures { result ≡ slot switch start }
@@ -125,8 +126,8 @@ fn image_of(alloc: Global, unit: u32, golden: &[u8], update: &[u8]) -> Result<Ve
 }
 
 /// The flash image of a golden and an update stream, for parts whose start address counts bytes: the first sector leads
-/// to the update, and a device whose update fails falls back to the golden one (UG470, MultiBoot and fallback; the
-/// layout is this project's choice).
+/// to the update, and a device whose update fails falls back to the golden one, if CTL0 allows it (UG470, MultiBoot and
+/// fallback; the layout is this project's choice).
 pub fn image(alloc: Global, golden: &[u8], update: &[u8]) -> Result<Vec<u8>, ImageFault>
     ensures bytes { IfOk result (λ all. all.items ≡ image_of 1 golden.now update.now) }
     ensures too_long { (result ≡ Err ImageFault.TooLong) ↔ (flash_limit < image_size (length golden.now) (length update.now)) }

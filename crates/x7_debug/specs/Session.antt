@@ -1,5 +1,5 @@
 -- A user's session: a device that stands at a position of a stream (this project's choice). What a stream has from a
--- sync word up to a DESYNC is called a session too (`docs/MAP.md`, words of the house).
+-- sync word up to a DESYNC is called a session too (`docs/MAP.md`, words with several senses).
 use Rattle.std.specs.Prelude.{◌≡◌, ◌≤◌, ◌++◌, ℕ, List, false, take}
 use Rattle.x7_part.specs.Part.{PartData}
 use Rattle.x7_engine.specs.Kept.{on_the_bench}

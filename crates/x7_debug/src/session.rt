@@ -1,5 +1,5 @@
 //! A user's session: forwards and backwards through a stream. A session of the stream, from a sync word up to a DESYNC,
-//! is another thing (`docs/MAP.md`, words of the house).
+//! is another thing (`docs/MAP.md`, words with several senses).
 ghost use Rattle.std.specs.Prelude.{◌≡◌, ◌≤◌, ◌+◌, ◌-◌, IfOk, min};
 ghost use Rattle.x7_engine.specs.Standing.{fed_of};
 ghost use Rattle.x7_debug.specs.Journal.{IsMove};

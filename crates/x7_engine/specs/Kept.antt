@@ -31,6 +31,7 @@ is_fallback Fallback = true
 abbrev pub AreFallbacks : Kept → Kept → Type 0
 AreFallbacks one other = (is_fallback one.kind ≡ true) × (is_fallback other.kind ≡ true)
 
--- the registers without those that show what was kept over the reset
+-- the state without what shows what was kept over the reset: WBSTAR, TIMER, BSPI, BOOTSTS, and the end, which may
+-- show WBSTAR
 abbrev pub without_kept : Regs → Regs
 without_kept r = record r { end = at_end.Searching; wbstar = 0; timer = 0; bspi = 0; bootsts = 0 }

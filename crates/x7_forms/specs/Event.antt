@@ -123,7 +123,8 @@ missing name = record { reason = why.Missing; concerned = name }
 abbrev pub bad_part : List ℕ → PartFault → Event
 bad_part name fault = record { reason = why.BadPart fault; concerned = name }
 
--- the input of this name, which is no part file, is refused; or the flash, for its layout
+-- An input of this name has no reading, or the flash or the image can't hold it; or the part of this part file lacks
+-- what is asked of it; or the flash of this name can't be updated.
 abbrev pub bad_input : List ℕ → InputFault → Event
 bad_input name fault = record { reason = why.BadInput fault; concerned = name }
 

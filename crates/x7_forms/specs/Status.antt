@@ -19,7 +19,7 @@ status_number status.NoMemory = 8
 status_number status.TooLarge = 9
 status_number status.Differs = 11
 
--- the status of a whole text, by whether what it reports stopped at a fault
+-- the status of a whole text, by whether what it reports stopped
 abbrev pub text_status : Bool → Status
 text_status true = status.Stopped
 text_status false = status.Done

@@ -14,7 +14,7 @@ use Rattle.x7_listing.specs.StreamListing.{stream_listing}
 abbrev pub turn_size : ℕ
 turn_size = 65536
 
--- the most bytes that are read of a stream until its header is judged: a turn more than a header may have
+-- a bound on the bytes that are read of a stream until its header is judged: a turn more than a header may have
 abbrev pub longest_beginning : ℕ
 longest_beginning = longest_header + turn_size
 

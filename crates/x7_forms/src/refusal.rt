@@ -96,7 +96,8 @@ fn say_differs<E: Sink>(err: &mut E, name: &str, place: u64) -> Result<(), Faile
 pub struct Refusal<'w> {
     /// The reason.
     pub reason: Why,
-    /// The name of the input or of the flash concerned; empty where the reason concerns none.
+    /// The name of the input or of the flash concerned; `reads` where too many words were read out; empty where the
+    /// reason concerns none.
     pub name: &'w str,
 }
 

@@ -7,7 +7,7 @@ use Rattle.x7_header.specs.Header.{HeaderContents, header_bytes, longest_header}
 use Rattle.x7_text.specs.Appends.{HasSpareRoom}
 use Rattle.x7_text.specs.Row.{bytes_row_size}
 use Rattle.x7_listing.specs.BitLine.{bit_text, FitsHeader}
-use Rattle.x7_listing.specs.Line.{Line, line_bytes, FitsLine, IsListed, ended_texts}
+use Rattle.x7_listing.specs.Line.{Line, line_bytes, FitsLine, IsNeitherCommentNorCheck, ended_texts}
 use Rattle.x7_listing.specs.Assembly.{AreHeadedAsm, asm_limit, assembled, BeginsWithLines, HasNoHeaderLine}
 use Rattle.x7_listing.specs.declared.assembler.AsmFault.{AsmFault}
 use Rattle.x7_listing.specs.declared.assembler.AsmFault.TheVariants as fault
@@ -106,7 +106,7 @@ AreReadOrUnbegun false = Unbegun
 pub record AppendsLines (text rest old new : List ℕ) (count : ℕ) : Type 0 where
   pub lines : List Line
   pub fit : AllByRecursion FitsLine lines
-  pub listed : AllByRecursion IsListed lines
+  pub listed : AllByRecursion IsNeitherCommentNorCheck lines
   pub text_is : text ≡ ended_texts lines ++ rest
   pub appended : new ≡ old ++ flat_map (line_bytes 0) lines
   pub count_is : count ≡ length lines

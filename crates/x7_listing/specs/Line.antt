@@ -92,11 +92,11 @@ line_bytes check (Data words) = flat_map bytes_of_word words
 line_bytes check (Cmd command) = bytes_of_word (code_of command)
 line_bytes check Check = bytes_of_word (type1_write_header (number_of Crc) 1) ++ bytes_of_word check
 
--- the line is neither a comment nor the check, as each line of a listing
-abbrev pub IsListed : Line → Type 0
-IsListed (Comment text) = ⊥
-IsListed Check = ⊥
-IsListed _ = Unit {0}
+-- the line is neither a comment nor the check: an empty one, or one as a listing has
+abbrev pub IsNeitherCommentNorCheck : Line → Type 0
+IsNeitherCommentNorCheck (Comment text) = ⊥
+IsNeitherCommentNorCheck Check = ⊥
+IsNeitherCommentNorCheck _ = Unit {0}
 
 -- the line of a payload word of CMD: the command whose code the whole word is, else the word
 abbrev pub cmd_line : ℕ → Line

@@ -4,7 +4,7 @@ ghost use Rattle.x7_words.specs.Word.{AreBytes};
 ghost use Rattle.x7_text.specs.Lines.{has_no_end};
 ghost use Rattle.x7_listing.specs.Assembly.{asm_limit, HasOutcome, IsAsm};
 ghost use Rattle.x7_listing.specs.declared.assembler.AsmFault.{AsmFault};
-ghost use Rattle.x7_listing.specs.Line.{FitsLine, IsLine, IsListed, Line, text_of};
+ghost use Rattle.x7_listing.specs.Line.{FitsLine, IsLine, IsNeitherCommentNorCheck, Line, text_of};
 ghost use Rattle.x7_listing.specs.BitLine.{bit_text, FitsHeader};
 ghost use Rattle.x7_listing.specs.Listing.{IsListing, IsTextPrefix, listing_of};
 ghost use Rattle.x7_listing.specs.StreamListing.{stream_listing};
@@ -49,7 +49,7 @@ pub fn one_line()
 
 /// The text of a line of a listing holds no line end.
 pub fn lines_hold_no_end()
-    ensures { (line : Line) → FitsLine line → IsListed line → has_no_end (text_of line) ≡ true }
+    ensures { (line : Line) → FitsLine line → IsNeitherCommentNorCheck line → has_no_end (text_of line) ≡ true }
 {}
 
 /// The listing of a stream assembles back to the stream, its header included.

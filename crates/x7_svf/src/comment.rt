@@ -41,7 +41,7 @@ fn stand_in(is_in_comment: bool, byte: u8, after: &[u8]) -> u8
     }
 }
 
-/// Puts blanks in the place of comments, byte for byte.
+/// Puts blanks in the place of comments, and of 0D before 0A, byte for byte.
 pub(crate) fn clean(text: &mut Vec<u8>)
     ensures cleaned { text.new.items ≡ clean_text false text.old.items }
     ensures length { length text.new.items ≡ length text.old.items }

@@ -18,8 +18,8 @@ use Rattle.x7_tool.specs.Leaving.{MayBeFound, UsesFlash}
 use Rattle.x7_boot.specs.Image.{flash_limit}
 use Rattle.x7_forms.specs.declared.refusal.Refusal.{Refusal}
 use Rattle.x7_tool.specs.Outcome.{BootedAs, FlashBoots, FormGives, no_text}
-use Rattle.x7_tool.specs.Outside.{CameInRun, KeepsFlash, Outside, ReadsFlash, known_from, known_in, sources}
-use Rattle.x7_tool.specs.Run.{GivesIfKnown, AnswersOver, FlashComes, IsMeasured, FailsLast, IsUnattached}
+use Rattle.x7_tool.specs.Outside.{CameInRun, UsesFlashAs, Outside, ReadsFlash, known_from, known_in, sources}
+use Rattle.x7_tool.specs.Run.{GivesIfKnown, AnswersOver, FlashComes, IsMeasured, FailsLast, IsMissingOrFailed}
 use Rattle.x7_forms.specs.Step.{Among, CameIn, DueBy, IsCaused, IsCausedBy, IsDecided, IsDue, IsNoPart, IsPossible, IsUnread, result_by, step_over}
 use Rattle.x7_forms.proofs.ReadLemmas.{caused_on_by, name_is, outside_goes, part_steady}
 
@@ -140,7 +140,7 @@ no_part_measured form new name event a (inl h) = unread_measured form new name e
 no_part_measured form new name event a (inr h) = part_small form new name h.0 event h.1
 
 -- a flash that was not attached
-pub unattached_measured : (form : Option AskedForm) (name : List ℕ) (old new : FlashState) (event : Event) → IsUnattached name old new event → IsMeasured form new (Err event)
+pub unattached_measured : (form : Option AskedForm) (name : List ℕ) (old new : FlashState) (event : Event) → IsMissingOrFailed name old new event → IsMeasured form new (Err event)
 unattached_measured form name old new event (inl h) = missing_small form new name event h.0
 unattached_measured form name old new event (inr h) = failed_small form new name event h.0
 
@@ -227,7 +227,7 @@ pub reads_none : (name : List ℕ) (s : FlashState) → ReadsFlash name s s
 reads_none name s = record { bytes = refl; write_faults = refl; moments = refl; faults = omega arith; absences = omega arith; no_other = λ other h. inl h }
 
 -- a flash that was not used
-pub kept_same : (u : FlashUse) (s : FlashState) → KeepsFlash u s s
+pub kept_same : (u : FlashUse) (s : FlashState) → UsesFlashAs u s s
 kept_same Unused s = refl
 kept_same (Read name) s = reads_none name s
 kept_same (Updated name) s = record { faults = omega arith; absences = omega arith; write_faults = omega arith; no_other = λ other h. inl h }
@@ -263,6 +263,6 @@ pub uses_read : (form : Option AskedForm) (asks : AskedForm) (name : List ℕ) (
 uses_read form asks name inputs old new past since e n r u =
     let known = known_from (sources inputs old) in
     record {
-      keeps = subst (λ (u : FlashUse). KeepsFlash u old new) (sym (ap flash_use e ∙ n)) r;
+      keeps = subst (λ (u : FlashUse). UsesFlashAs u old new) (sym (ap flash_use e ∙ n)) r;
       moments = only_read old new past since (MayBeFound known (updated_by form)) (λ all e. found_same known (updated_by form) all) r.bytes u;
     }

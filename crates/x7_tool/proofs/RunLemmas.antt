@@ -23,7 +23,7 @@ use Rattle.x7_forms.specs.Step.{Among, DecidedBy, IsCausedBy, IsDue, IsFromOutsi
 use Rattle.x7_tool.specs.Ahead.{StaysNear, StaysNearIn}
 use Rattle.x7_tool.specs.Leaving.{UpdateLeaves}
 use Rattle.x7_tool.specs.Outcome.{AssembledAs, FormGives, IsOutcome, mcs_image, text_limit}
-use Rattle.x7_tool.specs.Outside.{CameInRun, IsQuiet, KeepsFlash, Outside, known_in, sources}
+use Rattle.x7_tool.specs.Outside.{CameInRun, IsQuiet, UsesFlashAs, Outside, known_in, sources}
 use Rattle.x7_tool.specs.Promise.{Promise}
 use Rattle.x7_tool.specs.Run.{GivesIfKnown, AnswersForm, AnswersOver, CausedBy, EndIsCaused, CommandEnds, CommandEndsAs, FailsLast, GetsPrefixOfKnown, GetsPrefixOfText, ReportsMishap, IsMeasured, JudgesFlash, OutputAfterEvent, OutputAfterFailure, OutputByCause, PutsAnswer, SaysEnd}
 use Rattle.x7_tool.specs.Runs.{TextsLeadBack, Runs}
@@ -189,7 +189,7 @@ pub record RanAs (form : Option AskedForm) (old new : Outside) (s : Status) : Ty
   pub stays : InputsStay old.inputs new.inputs
 
 -- how a command ended is what its run comes to
-pub runs : (form : Option AskedForm) (old new : Outside) (s : Status) → RanAs form old new s → KeepsFlash (flash_use form) old.flash new.flash → Runs form old new s
+pub runs : (form : Option AskedForm) (old new : Outside) (s : Status) → RanAs form old new s → UsesFlashAs (flash_use form) old.flash new.flash → Runs form old new s
 runs form old new s r f =
     let outcome : (known : Known) → known_in old ≡ Some known → IsQuiet form old new → (s ≡ status.NoMemory) ⊎ IsOutcome known form r.end = outcome_is form old new s r.end r.ends_as r.ends.cause in
     record {

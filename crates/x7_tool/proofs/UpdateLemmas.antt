@@ -26,7 +26,7 @@ use Rattle.x7_forms.specs.Status.{text_status}
 use Rattle.x7_forms.specs.Known.{Absent, Answer, Failing, Found, Known, Lacking, Mishap, flash_found, mishap_event, spoiled, spoiled_name, with_inputs, with_mishap}
 use Rattle.x7_forms.specs.Step.{Among, CameIn, DueBy, IsCaused, IsDecided, IsDue, IsPossible, IsUnplayed, step_over}
 use Rattle.x7_forms.proofs.ReadLemmas.{name_is, outside_goes}
-use Rattle.x7_tool.specs.Leaving.{HasData, KeepsBytes, MayBeFound, UsesFlash}
+use Rattle.x7_tool.specs.Leaving.{HasData, BytesAfterReason, MayBeFound, UsesFlash}
 use Rattle.x7_tool.specs.Outcome.{FlashUpdates, FormGives, IsUpdateFault, UpdateNames, UpdatesBytes, UpdatesWith, no_text, stream_data, update_event}
 use Rattle.x7_tool.specs.Outside.{CameInRun, Outside, known_in, sources}
 use Rattle.x7_tool.specs.Run.{GivesIfKnown, AnswersOver, CommandEndsAs, FailsLast, IsMeasured, IsUnattachedOrLarge}
@@ -164,7 +164,7 @@ out_same : (old new : Outside) → new.out ≡ old.out → new.out.written ≡ o
 out_same old new e = ap (λ (s : SinkState). s.written) e
 
 -- bytes that stay, whatever the reason
-pub keeps_all : (reason : Why) (old new : FlashState) → new.bytes ≡ old.bytes → KeepsBytes reason old new
+pub keeps_all : (reason : Why) (old new : FlashState) → new.bytes ≡ old.bytes → BytesAfterReason reason old new
 keeps_all why.ReadFault old new e = inr e
 keeps_all why.WriteFault old new e = tt
 keeps_all (why.Differs place) old new e = tt
@@ -172,7 +172,7 @@ keeps_all reason old new e = e
 
 -- an update that was refused
 pub refused_ends : (flash stream : List ℕ) (old new : Outside) (event : Event) → new.out ≡ old.out → IsMeasured (Some (UpdatingFlash flash stream)) new.flash (Err event)
-    → FailsLast (Some (UpdatingFlash flash stream)) old.inputs new.flash (Err event) → AnswersOver (UpdatingFlash flash stream) old new (Err event) → KeepsBytes event.reason old.flash new.flash
+    → FailsLast (Some (UpdatingFlash flash stream)) old.inputs new.flash (Err event) → AnswersOver (UpdatingFlash flash stream) old new (Err event) → BytesAfterReason event.reason old.flash new.flash
     → CommandEndsAs (Some (UpdatingFlash flash stream)) old new (Err event)
 refused_ends flash stream old new event out m l a kept =
     let form = UpdatingFlash flash stream in

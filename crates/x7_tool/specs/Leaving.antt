@@ -13,7 +13,7 @@ use Rattle.x7_forms.specs.Event.{Event}
 use Rattle.x7_forms.specs.Form.{AskedForm, flash_use, updated_by}
 use Rattle.x7_forms.specs.Known.{Answer, Known}
 use Rattle.x7_tool.specs.Outcome.{stream_data}
-use Rattle.x7_tool.specs.Outside.{KeepsFlash, Outside, Sources, known_from, known_in, sources}
+use Rattle.x7_tool.specs.Outside.{UsesFlashAs, Outside, Sources, known_from, known_in, sources}
 
 -- where the contents are known, these are the data of the stream of this name
 abbrev pub HasData : Option Known → List ℕ → List ℕ → Type 0
@@ -28,7 +28,7 @@ MayBeFound known (Some stream) flash found = (found ≡ flash) ⊎ ((bytes : Lis
 
 -- what a run does to the flash, and what may be found of it at any moment of the run and is left of it
 pub record UsesFlash (form : Option AskedForm) (old : Sources) (new : FlashState) (past since : ℕ → List ℕ → Type 0) : Type 0 where
-  pub keeps : KeepsFlash (flash_use form) old.flash new
+  pub keeps : UsesFlashAs (flash_use form) old.flash new
   pub moments : AtAnyMoment old.flash new past since (MayBeFound (known_from old) (updated_by form))
 
 -- what a call for a form does to the flash, over these inputs, and what may be found of it at any moment of the call
@@ -57,15 +57,15 @@ EachBoots form old found = (u : UpdatingAny) (b : BootedState) → IsUpdateOf fo
 
 -- by the reason of an update that wasn't done: the bytes stay, but where a write or a
 -- read of the flash failed, or a byte differs
-abbrev pub KeepsBytes : Why → FlashState → FlashState → Type 0
-KeepsBytes why.ReadFault old new = FlashFails old new ⊎ (new.bytes ≡ old.bytes)
-KeepsBytes why.WriteFault old new = Unit {0}
-KeepsBytes (why.Differs place) old new = Unit {0}
-KeepsBytes reason old new = new.bytes ≡ old.bytes
+abbrev pub BytesAfterReason : Why → FlashState → FlashState → Type 0
+BytesAfterReason why.ReadFault old new = FlashFails old new ⊎ (new.bytes ≡ old.bytes)
+BytesAfterReason why.WriteFault old new = Unit {0}
+BytesAfterReason (why.Differs place) old new = Unit {0}
+BytesAfterReason reason old new = new.bytes ≡ old.bytes
 
 -- An update that is done leaves the flash as it is after one with the stream's data. One that
 -- isn't leaves its bytes, as its reason says.
 abbrev pub UpdateLeaves : Option (List ℕ) → Outside → Outside → Result Answer Event → Type 0
 UpdateLeaves None old new end = Unit {0}
 UpdateLeaves (Some stream) old new (Ok answer) = (bytes : List ℕ) × HasData (known_in old) stream bytes × Becomes old.flash new.flash (IsAfterUpdate bytes)
-UpdateLeaves (Some stream) old new (Err event) = KeepsBytes event.reason old.flash new.flash
+UpdateLeaves (Some stream) old new (Err event) = BytesAfterReason event.reason old.flash new.flash

@@ -109,7 +109,7 @@ pub record WritesFlash (name : List ℕ) (old new : FlashState) : Type 0 where
   pub no_other : (other : List ℕ) → IsTrue (new.names other) → IsTrue (old.names other) ⊎ (other ≡ name)
 
 -- by what a form does with a flash: it is untouched, read at most, or read and written
-abbrev pub KeepsFlash : FlashUse → FlashState → FlashState → Type 0
-KeepsFlash Unused old new = new ≡ old
-KeepsFlash (Read name) old new = ReadsFlash name old new
-KeepsFlash (Updated name) old new = WritesFlash name old new
+abbrev pub UsesFlashAs : FlashUse → FlashState → FlashState → Type 0
+UsesFlashAs Unused old new = new ≡ old
+UsesFlashAs (Read name) old new = ReadsFlash name old new
+UsesFlashAs (Updated name) old new = WritesFlash name old new

@@ -81,14 +81,14 @@ pub record PromisesSummary (known : Known) (part : List ℕ) (seed : ℕ) (text 
   pub played : text ≡ planned_summary device seed
 
 -- The bytes of `image GOLDEN UPDATE`: a flash that begins with them has both streams, for each part whose start address
--- counts bytes, and a boot from it tries the update, and falls back where that fails.
+-- counts bytes: a boot from it tries the update, and where that fails and CTL0 allows it, it falls back.
 pub record PromisesImage (known : Known) (golden update image : List ℕ) : Type 0 where
   pub streams : ImageStreams
   pub read : image_streams known golden update ≡ Ok streams
   pub boots : (device : PartData) (more : List ℕ) → IsPart device → device.start_unit ≡ 1 → HasStreams device streams.golden streams.update (image ++ more)
 
 -- The bytes of `image PART GOLDEN UPDATE`: a flash that begins with them has both streams for the part, and a boot from
--- it tries the update, and falls back where that fails.
+-- it tries the update, and where that fails and CTL0 allows it, it falls back.
 pub record PromisesImageFor (known : Known) (part golden update image : List ℕ) : Type 0 where
   pub device : PartData
   pub streams : ImageStreams
@@ -110,8 +110,8 @@ pub record HoldsOpen (known : Known) (flash : List ℕ) (part : PartData) (o : O
   pub part_is : o.part ≡ part
   pub opened : IsOpenFlash o
 
--- the text of a boot from a flash with an open slot, which comes to what such a boot does: the update is tried, and
--- where it fails the golden stream starts as a fallback
+-- the text of a boot from a flash with an open slot, which comes to what such a boot does: the update is tried;
+-- where it fails and CTL0 allows a fallback, a golden stream that `BootsOpen` names starts
 pub record BootsFromOpen (o : OpenFlash) (answer : Answer) : Type 0 where
   pub boot : IsBootText o.part o.flash answer
   pub comes : BootsOpen o (course_along boot.last boot.older boot.end)

@@ -275,16 +275,16 @@ pub record MakesReadyFrom (form : AskedForm) (old new : Sources) (got : Result A
   pub asks : AsksAtMost old.inputs (length (names_of (Some form))) new.inputs
   pub stays : InputsStay old.inputs new.inputs
 
--- a flash was not attached: its name isn't there, or the flash failed
-abbrev pub IsUnattached : List ℕ → FlashState → FlashState → Event → Type 0
-IsUnattached name old new event = ((event ≡ missing name) × FlashLacksAmong (name ∷ []) old new name) ⊎ ((event ≡ reading_failed name) × FlashFailsAmong (name ∷ []) old new name)
+-- a flash's name isn't there, or the flash failed: it was asked for, and its count rose
+abbrev pub IsMissingOrFailed : List ℕ → FlashState → FlashState → Event → Type 0
+IsMissingOrFailed name old new event = ((event ≡ missing name) × FlashLacksAmong (name ∷ []) old new name) ⊎ ((event ≡ reading_failed name) × FlashFailsAmong (name ∷ []) old new name)
 
 -- a flash can't be used: it was not attached and none is, or it is larger than a flash may be
 abbrev pub IsUnattachedOrLarge : List ℕ → FlashState → FlashState → Event → Type 0
-IsUnattachedOrLarge name old new event = (IsUnattached name old new event × (new.attached ≡ false)) ⊎ ((event ≡ too_large name) × (flash_limit < new.extent) × IfKnown old.bytes (λ all. flash_limit < length all))
+IsUnattachedOrLarge name old new event = (IsMissingOrFailed name old new event × (new.attached ≡ false)) ⊎ ((event ≡ too_large name) × (flash_limit < new.extent) × IfKnown old.bytes (λ all. flash_limit < length all))
 
--- what a boot from a flash of this name comes to: want of memory, a flash that was not attached or
--- failed, or what its bytes give, by their number
+-- what a boot from a flash of this name comes to: want of memory, a flash that isn't there or failed, or what its bytes
+-- give, by their number
 abbrev pub FlashComes : List ℕ → PartData → FlashState → FlashState → Result Answer Event → Type 0
 FlashComes name part old new (Ok answer) = FlashBoots name part (flash_found old.bytes) (Ok answer) × (new.extent ≤ flash_limit)
-FlashComes name part old new (Err event) = (event ≡ no_memory) ⊎ (IsUnattached name old new event ⊎ (FlashBoots name part (flash_found old.bytes) (Err event) × (flash_limit < new.extent)))
+FlashComes name part old new (Err event) = (event ≡ no_memory) ⊎ (IsMissingOrFailed name old new event ⊎ (FlashBoots name part (flash_found old.bytes) (Err event) × (flash_limit < new.extent)))

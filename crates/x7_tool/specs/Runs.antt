@@ -14,7 +14,7 @@ use Rattle.x7_forms.specs.Known.{Answer, Known, stream_limit}
 use Rattle.x7_tool.specs.Ahead.{StaysNear}
 use Rattle.x7_tool.specs.Leaving.{UpdateLeaves}
 use Rattle.x7_tool.specs.Outcome.{IsOutcome}
-use Rattle.x7_tool.specs.Outside.{IsQuiet, KeepsFlash, Outside, known_in, sources}
+use Rattle.x7_tool.specs.Outside.{IsQuiet, UsesFlashAs, Outside, known_in, sources}
 use Rattle.x7_tool.specs.Promise.{Promise}
 use Rattle.x7_tool.specs.Stopping.{StopsReading}
 use Rattle.x7_tool.specs.Run.{EndIsCaused, FailsLast, IsMeasured, JudgesFlash, SaysEnd, OutputGets}
@@ -57,8 +57,8 @@ pub record Runs (form : Option AskedForm) (old new : Outside) (s : Status) : Typ
   pub wrote : OutputGets form old new end
   -- messages got nothing after a whole text, and else the event's one line, or a prefix of it where they failed
   pub said : SaysEnd old.err new.err end
-  -- by the status: how far a stream that is listed was read where the output
-  -- failed, its header was refused or a fault came
+  -- by the status: how far a stream that is listed was read where the output failed, the stream failed or is too
+  -- large, memory is wanting, or its header is refused
   pub near : StaysNear s form old new
   -- where all that the form needs is known and nothing failed, the end is the outcome, or want of memory
   pub outcome : (known : Known) → known_in old ≡ Some known → IsQuiet form old new → (s ≡ status.NoMemory) ⊎ IsOutcome known form end
@@ -85,7 +85,7 @@ pub record Runs (form : Option AskedForm) (old new : Outside) (s : Status) : Typ
   -- every input keeps its bytes, and the counts of faults and of absences don't fall
   pub stays : InputsStay old.inputs new.inputs
   -- the flash is untouched, read or written as the form says, and was asked for no name but the form's
-  pub flash : KeepsFlash (flash_use form) old.flash new.flash
+  pub flash : UsesFlashAs (flash_use form) old.flash new.flash
   -- an update that is done left the flash as it is after one; one that isn't left its bytes, but where a write or a
   -- read of the flash failed, or a byte differs
   pub updates : UpdateLeaves (updated_by form) old new end

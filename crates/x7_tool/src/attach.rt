@@ -5,7 +5,7 @@ ghost use Rattle.x7_words.specs.FlashCalls.{CallKeepsBytes};
 ghost use Rattle.x7_boot.specs.Image.{flash_limit};
 ghost use Rattle.x7_forms.specs.Event.{event_of};
 ghost use Rattle.x7_tool.specs.Outside.{ReadsFlash};
-ghost use Rattle.x7_tool.specs.Run.{IsUnattached, IsUnattachedOrLarge};
+ghost use Rattle.x7_tool.specs.Run.{IsMissingOrFailed, IsUnattachedOrLarge};
 
 use x7_forms::{Refusal, Why};
 use x7_words::{FLASH_LIMIT, Flash, SelectFault};
@@ -13,7 +13,7 @@ use x7_words::{FLASH_LIMIT, Flash, SelectFault};
 /// Attaches the flash of this name.
 pub(crate) fn attach<'w, F: Flash>(flash: &mut F, name: &'w str) -> Result<(), Refusal<'w>>
     ensures attached { OnOk result ((F.state flash.new).attached ≡ true) }
-    ensures refused { IfErr result (λ r. IsUnattached name.now (F.state flash.old) (F.state flash.new) (event_of r)) }
+    ensures refused { IfErr result (λ r. IsMissingOrFailed name.now (F.state flash.old) (F.state flash.new) (event_of r)) }
     ensures unattached { IfErr result (λ r. (F.state flash.new).attached ≡ false) }
     ensures reads { ReadsFlash name.now (F.state flash.old) (F.state flash.new) }
     ensures stays { CallKeepsBytes F.Flash flash.old flash.new }

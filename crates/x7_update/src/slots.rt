@@ -118,7 +118,7 @@ fn target_of(first_sector: &[u8], size: u64) -> Result<UpdateTarget, u64>
         return Err(START_PLACE as u64);
     }
     let slots = look_at_slots(first_sector, &wanted)?;
-    // No free slot is left.
+    // The last slot isn't free.
     if slots.next >= FLASH_SLOT_COUNT {
         return Err(FLASH_SLOT_SIZE * (FLASH_SLOT_COUNT - 1));
     }

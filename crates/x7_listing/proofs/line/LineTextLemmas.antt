@@ -15,7 +15,7 @@ use Rattle.x7_text.specs.Digits.{hex_word}
 use Rattle.x7_text.specs.Lines.{has_no_end}
 use Rattle.x7_text.specs.Row.{spaced}
 use Rattle.x7_text.proofs.PieceLemmas.{free_both, free_more, hex_free, word_free}
-use Rattle.x7_listing.specs.Line.{Line, Empty, Comment, Bytes, Sync, Nop, Write, Read, Write2, Read2, Word, Data, Cmd, Check, cmd_line, ended_text, line_bytes, FitsLine, IsListed, text_of}
+use Rattle.x7_listing.specs.Line.{Line, Empty, Comment, Bytes, Sync, Nop, Write, Read, Write2, Read2, Word, Data, Cmd, Check, cmd_line, ended_text, line_bytes, FitsLine, IsNeitherCommentNorCheck, text_of}
 use Rattle.x7_listing.proofs.GuessLemmas.{own, each_name, each_holds}
 use Rattle.x7_packets.specs.PacketWords.{type1_counts}
 
@@ -69,7 +69,7 @@ command_free command.FallEdge = refl
 type1_free : (n c : ℕ) → n < reg_number_count → c < type1_counts → has_no_end (reg_name n ++ 32 ∷ decimal c) ≡ true
 type1_free n c h k = free_both (reg_name n) (32 ∷ decimal c) (name_free n h) (decimal_free c (omega arith))
 
-pub line_free : (l : Line) → FitsLine l → IsListed l → has_no_end (text_of l) ≡ true
+pub line_free : (l : Line) → FitsLine l → IsNeitherCommentNorCheck l → has_no_end (text_of l) ≡ true
 line_free Empty h k = refl
 line_free (Comment text) h k = absurd k
 line_free (Bytes bs) h k = hex_free bs
@@ -85,7 +85,7 @@ line_free (Cmd c) h k = command_free c
 line_free Check h k = absurd k
 
 -- the bytes of lines that are no check
-pub same_bytes : (c : ℕ) (l : Line) → IsListed l → line_bytes c l ≡ line_bytes 0 l
+pub same_bytes : (c : ℕ) (l : Line) → IsNeitherCommentNorCheck l → line_bytes c l ≡ line_bytes 0 l
 same_bytes c Empty h = refl
 same_bytes c (Comment text) h = refl
 same_bytes c (Bytes bs) h = refl
@@ -102,7 +102,7 @@ same_bytes c Check h = absurd h
 
 -- a line that fits and is that of a listing
 abbrev pub Listed : Line → Type 0
-Listed l = FitsLine l × IsListed l
+Listed l = FitsLine l × IsNeitherCommentNorCheck l
 
 pub is_eq : (a b : ℕ) → (a == b) ≡ true → a ≡ b
 is_eq a b e = grind (arith, common_steps)

@@ -15,15 +15,15 @@ use Rattle.x7_text.specs.Reads.{StaysWithin}
 use Rattle.x7_text.proofs.SplitLemmas.{split_line}
 use Rattle.x7_listing.specs.Assembly.{assembled, with_line}
 use Rattle.x7_listing.specs.Assembling.{asm_state, TextsAreRead, OpensText, AppendsFirstLines, AppendsLines}
-use Rattle.x7_listing.specs.Line.{Line, line_bytes, FitsLine, IsListed, text_of, ended_text, ended_texts}
+use Rattle.x7_listing.specs.Line.{Line, line_bytes, FitsLine, IsNeitherCommentNorCheck, text_of, ended_text, ended_texts}
 use Rattle.x7_listing.proofs.line.LineTextLemmas.{line_free, same_bytes}
 
-texts_ahead : (ls : List Line) (rest : List ℕ) → AllByRecursion FitsLine ls → AllByRecursion IsListed ls → split (ended_texts ls ++ rest) ≡ map text_of ls ++ split rest
+texts_ahead : (ls : List Line) (rest : List ℕ) → AllByRecursion FitsLine ls → AllByRecursion IsNeitherCommentNorCheck ls → split (ended_texts ls ++ rest) ≡ map text_of ls ++ split rest
 texts_ahead [] rest f i = refl
 texts_ahead (l ∷ ls) rest f i =
     ap split (append_assoc (text_of l ++ 10 ∷ []) (ended_texts ls) rest ∙ append_assoc (text_of l) (10 ∷ []) (ended_texts ls ++ rest)) ∙ split_line (text_of l) (ended_texts ls ++ rest) (line_free l f.0 i.0) ∙ ap (λ t. text_of l ∷ t) (texts_ahead ls rest f.1 i.1)
 
-bytes_after : (bytes : List ℕ) (ls : List Line) → AllByRecursion IsListed ls → fold with_line bytes ls ≡ bytes ++ flat_map (line_bytes 0) ls
+bytes_after : (bytes : List ℕ) (ls : List Line) → AllByRecursion IsNeitherCommentNorCheck ls → fold with_line bytes ls ≡ bytes ++ flat_map (line_bytes 0) ls
 bytes_after bytes [] i = sym (append-nil bytes)
 bytes_after bytes (l ∷ ls) i =
     bytes_after (with_line bytes l) ls i.1 ∙ append_assoc bytes (line_bytes (check_of_bytes bytes) l) (flat_map (line_bytes 0) ls) ∙ ap (λ b. bytes ++ (b ++ flat_map (line_bytes 0) ls)) (same_bytes (check_of_bytes bytes) l i.0)
@@ -34,7 +34,7 @@ dropped_twice (suc a) b [] = drop-nil b ∙ sym (drop-nil (suc a + b))
 dropped_twice (suc a) b (c ∷ cs) = let e : suc (a + b) ≡ suc a + b = omega arith in dropped_twice a b cs ∙ ap (λ (k : ℕ). drop k (c ∷ cs)) e
 
 -- a text begins with one line, of a word and a row
-pub takes_row : (l : Line) (word row text old new : List ℕ) (a b : ℕ) → FitsLine l → IsListed l → text_of l ≡ word ++ row → take a text ≡ word → take b (drop a text) ≡ row → get_or text (a + b) 0 ≡ 10 → a + b < length text → new ≡ old ++ line_bytes 0 l
+pub takes_row : (l : Line) (word row text old new : List ℕ) (a b : ℕ) → FitsLine l → IsNeitherCommentNorCheck l → text_of l ≡ word ++ row → take a text ≡ word → take b (drop a text) ≡ row → get_or text (a + b) 0 ≡ 10 → a + b < length text → new ≡ old ++ line_bytes 0 l
     → AppendsFirstLines text old new (a + b + 1) 1
 takes_row l word row text old new a b f i e w r end h n =
     let both : drop b (drop a text) ≡ drop (a + b) text = dropped_twice a b text in
@@ -52,7 +52,7 @@ pub takes_both : (text mid rest old out new : List ℕ) (j k : ℕ) → AppendsL
 takes_both text mid rest old out new j k s t = record {
   lines = s.lines ++ t.lines;
   fit = all_append FitsLine s.lines t.lines s.fit t.fit;
-  listed = all_append IsListed s.lines t.lines s.listed t.listed;
+  listed = all_append IsNeitherCommentNorCheck s.lines t.lines s.listed t.listed;
   text_is = s.text_is ∙ ap (λ r. ended_texts s.lines ++ r) t.text_is ∙ sym (append_assoc (ended_texts s.lines) (ended_texts t.lines) rest) ∙ ap (λ r. r ++ rest) (sym (flat_map-append ended_text s.lines t.lines));
   appended = t.appended ∙ ap (λ b. b ++ flat_map (line_bytes 0) t.lines) s.appended ∙ append_assoc old (flat_map (line_bytes 0) s.lines) (flat_map (line_bytes 0) t.lines) ∙ ap (λ b. old ++ b) (sym (flat_map-append (line_bytes 0) s.lines t.lines));
   count_is = omega (arith, s.count_is, t.count_is, length-append s.lines t.lines);
@@ -107,7 +107,7 @@ goes_quick all left text rest out new start k n c checker t limit e g =
     }
 
 -- a text begins with one line, of a word and a row, whose end stands at a given place
-pub takes_line : (l : Line) (word row text old new : List ℕ) (a b end size : ℕ) → FitsLine l → IsListed l → text_of l ≡ word ++ row → take a text ≡ word → take b (drop a text) ≡ row → end ≡ a + b → size ≡ a + b + 1 → get_or text end 0 ≡ 10 → a + b < length text → new ≡ old ++ line_bytes 0 l
+pub takes_line : (l : Line) (word row text old new : List ℕ) (a b end size : ℕ) → FitsLine l → IsNeitherCommentNorCheck l → text_of l ≡ word ++ row → take a text ≡ word → take b (drop a text) ≡ row → end ≡ a + b → size ≡ a + b + 1 → get_or text end 0 ≡ 10 → a + b < length text → new ≡ old ++ line_bytes 0 l
     → AppendsFirstLines text old new size 1
 takes_line l word row text old new a b end size f i e w r at whole is h n =
     subst (λ (k : ℕ). AppendsFirstLines text old new k 1) (sym whole) (takes_row l word row text old new a b f i e w r (ap (λ (k : ℕ). get_or text k 0) (sym at) ∙ is) h n)
