@@ -171,7 +171,7 @@ def others(bench):
     bench.refuses("frames", "touch", "made.part", "cut", what="DESYNC")
     bench.refuses("frames", "touch", "made.part", "bit", what="check fails")
     bench.refuses("frames", "touch", "other.part", "partial", what="IDCODE")
-    bench.refuses("frames", "touch", "small.part", "partial", what="no address")
+    bench.refuses("frames", "touch", "small.part", "partial", what="00000080, an address that the part made doesn't have")
     bench.refuses("frames", "touch", "made.part", "partial", "column=x", what="no region")
     bench.refuses("frames", "touch", "nowhere", "partial", what="nowhere")
     for name in ("empty", "cut", "bit", "made.part", "nowhere"):
@@ -202,8 +202,8 @@ def refused_frames(bench):
         "dropped by SBITS": ([sbits, command("WCFG"), far, frames], "SBITS"),
         "a copy under NULL": ([command("NULL"), far, copy], "another command than MFW"),
         "a copy of nothing": ([command("WCFG"), command("MFW"), far, copy], "none was written"),
-        "no address": ([command("WCFG"), x7.write_packet(x7.FAR, [0x7F]), frames], "0000007F, which is no address"),
-        "no place": ([command("WCFG"), x7.write_packet(x7.FAR, [0x00800004]), x7.write_packet(x7.FDRI, [1] * 1010)], "more frames after 00800004"),
+        "no address": ([command("WCFG"), x7.write_packet(x7.FAR, [0x7F]), frames], "0000007F, an address that the part made doesn't have"),
+        "no place": ([command("WCFG"), x7.write_packet(x7.FAR, [0x00800004]), x7.write_packet(x7.FDRI, [1] * 1010)], "more frames after 00800004 than the part made has places"),
     }
     for name, (packets, what) in refused.items():
         bench.put(name, stream_of(*packets))
