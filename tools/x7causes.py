@@ -7,9 +7,10 @@ from collections import namedtuple
 import x7formats as x7
 import x7kinds
 from x7device import MOST_READS, Device
+from x7frames import FRAME_FAULTS
+from x7layout import SECTOR, begins_with_slots
 from x7parts import DEVICE_BITS, family_of, idcode_of_name, is_7_series, name_of_idcode, SSI
 
-SECTOR = 65536
 # bits of STAT: MMCM_LOCK, the clocks are locked, and DCI_MATCH, the impedance is matched
 LOCKED, MATCHED = 1 << 2, 1 << 3
 # the first bytes of a file that are looked at before all of it
@@ -21,8 +22,6 @@ TAIL_BYTES = 64
 # how many bytes of packets `PACKETS` needs, of which all but the first may lie past the payload
 PACKET_BYTES = 9
 AGAIN = "take the file again; where it goes through a cable or a processor, compare the number of bytes that arrive"
-# What `x7 image` writes in a slot of the first sector after its switch word, around the address (docs/FORMATS.md).
-SLOT = (bytes.fromhex("2000000030020001"), bytes.fromhex("300080010000000F300080010000000D"))
 # The section of the page BOARD by which `why` tells whether nothing is wrong with a stream but that it starts nothing.
 PARTIAL_SECTION = "A partial stream on a device that isn't configured"
 
@@ -414,7 +413,7 @@ def of_watchdog(subject, source, words, after):
 def of_address(subject, source, words, after):
     """The cause of a fault Address."""
     return cause(
-        f"frames go to {words[0]}, an address that the part file doesn't have",
+        FRAME_FAULTS["Address"].format(far=words[0], part="the part file"),
         "the part file lacks a column or a row, or is another device's; or the address is damaged: compare with a good copy",
         "Further faults", after, source,
     )
@@ -423,7 +422,7 @@ def of_address(subject, source, words, after):
 def of_overrun(subject, source, words, after):
     """The cause of a fault Overrun."""
     return cause(
-        "there are more frames than the part file has places", "the part file lacks columns or rows, or is another device's",
+        FRAME_FAULTS["Overrun"].format(after="", part="the part file"), "the part file lacks columns or rows, or is another device's",
         "Further faults", after, source,
     )
 
@@ -438,8 +437,7 @@ def of_copy(subject, source, words, after):
         )
         return cause(text, "take the file again", "Further faults", commands[-1].after, source)
     return cause(
-        "a frame is to be copied, and none was written before", "words were lost before it, or it isn't a stream of this family",
-        "Further faults", after, source,
+        FRAME_FAULTS["Multi"], "words were lost before it, or it isn't a stream of this family", "Further faults", after, source,
     )
 
 
@@ -589,8 +587,8 @@ def of_play(subject):
 
 def of_iprog(subject):
     """The cause where a stream leads on."""
-    fate, beginning = subject.fate, subject.data[:40]
-    if all(part in beginning for part in SLOT):
+    fate = subject.fate
+    if begins_with_slots(subject.data):
         return cause(
             f"this is a flash image: its first sector leads on to flash address {fate.end[1]} (IPROG)",
             "x7 boot PART FLASH > REPORT, and then why STREAM REPORT", "It falls back",
@@ -668,8 +666,8 @@ def of_started_boot(subject, path, leads):
 def is_golden_alone(subject):
     """Whether the one attempt took the golden stream after a first sector: by the bytes taken, or by the first bytes of
     a listed flash."""
-    total, taken, beginning = len(subject.data), subject.report.taken, subject.data[:40]
-    return all(part in beginning for part in SLOT) or max(SECTOR, total) < taken <= SECTOR + total
+    total, taken = len(subject.data), subject.report.taken
+    return begins_with_slots(subject.data) or max(SECTOR, total) < taken <= SECTOR + total
 
 
 def of_svf(subject):
@@ -717,13 +715,13 @@ def cause_of(subject):
     runs = subject.fate.phase == 7 and subject.fate.end[0] == "searching" and (subject.report or subject.device.reads <= MOST_READS)
     if not found and not runs:
         found = of_swallowed(subject) or of_large_counts(subject) or of_early_end(subject)
-    return found or of_name(subject) or of_play(subject)
+    if not found and not subject.report:
+        found = of_two_devices(subject) or of_header_part(subject)
+    return found or of_play(subject)
 
 
-def of_name(subject):
-    """The cause where the header's part has another IDCODE than the stream writes, and no report says more, or none."""
-    if subject.report:
-        return None
+def of_two_devices(subject):
+    """The cause where the streams write IDCODEs of different devices, or none."""
     written = [(source, *it) for source in subject.sources for it in idcodes_of(source)]
     for source, after, word in written:
         if (word ^ written[0][2]) & DEVICE_BITS:
@@ -732,6 +730,11 @@ def of_name(subject):
                 f"{source.name} for {word:08X}{named(word)}"
             )
             return cause(text, "give the streams of one device", "A stream for another device", source.first + after, None)
+    return None
+
+
+def of_header_part(subject):
+    """The cause where the part that a header names has another IDCODE than its stream writes, or none."""
     for source in subject.sources:
         by_header, words = idcode_of_name(source.part), idcodes_of(source)
         if by_header is not None and words and (by_header ^ words[0][1]) & DEVICE_BITS:

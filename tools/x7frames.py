@@ -4,6 +4,12 @@ same of it."""
 from x7formats import CMD, CODES, FAR, words_of
 
 WCFG, MFW = CODES["WCFG"], CODES["MFW"]
+# What the faults of frames say: FAR, the part in words, and of an overrun after which address it comes, if that is known.
+FRAME_FAULTS = {
+    "Address": "frames go to {far}, an address that {part} doesn't have",
+    "Overrun": "there are more frames{after} than {part} has places",
+    "Multi": "a frame is to be copied, and none was written before",
+}
 
 
 class PartFrames:

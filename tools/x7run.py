@@ -11,6 +11,10 @@ TOP = os.path.dirname(HERE)
 CALLED = "tools/" if os.path.basename(HERE) == "tools" else "x7-"
 
 
+class Refused(Exception):
+    """What a tool can't take, as a sentence."""
+
+
 def program(given=None):
     """The path of x7, or none: the one given, or the one that X7 in the environment names; else the built one of this
     repository, or, where the tools were installed, the one on the path."""
@@ -19,8 +23,12 @@ def program(given=None):
     return os.path.realpath(path) if path and os.path.isfile(path) and os.access(path, os.X_OK) else None
 
 
-class Refused(Exception):
-    """What a tool can't take, as a sentence."""
+def wanted_program(given=None):
+    """The path of x7, of a tool that can do nothing without it: where there is none, a refusal that says what to do."""
+    named, path = given or os.environ.get("X7"), program(given)
+    if not path:
+        raise Refused(f"x7 isn't at {named}" if named else "there is no x7: ./build proves and builds it, or X7 in the environment names one")
+    return path
 
 
 def say(line):

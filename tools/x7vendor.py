@@ -1,6 +1,6 @@
 """A stream of `x7 plan`, step by step, and the same frames in the sequences of the vendor's streams (docs/FORMATS.md,
 planned streams)."""
-from x7bench import whole
+from x7asked import whole
 from x7formats import (
     CMD, COR0, CRC, CTL0, CTL1, CODES, FAR, FDRI, IDCODE, MASK, MFWR, NOP, SYNC, Refused, bytes_of, payload, steps, with_checks, write_packet,
 )  # fmt: skip

@@ -41,7 +41,7 @@ def texts(bench):
     same("region", lines_of(tool("frames", "region", "frames", "block=0,half=top,row=0")), text_of_frames(in_row).splitlines())
     two = {far: one[far] for far in ("00000080", "00000082", "00800004")}
     same("regions", lines_of(tool("frames", "region", "frames", "block=0,half=0,column=1-1", "far=00800001-00800010")), text_of_frames(two).splitlines())
-    for wrong in ("", "column", "column=", "column=3-1", "column=1,column=2", "minor=x", "far=xyz", "colour=1", "column=-1"):
+    for wrong in ("", "column", "column=", "column=3-1", "column=1,column=2", "minor=x", "far=xyz", "colour=1", "column=-1", "row=top", "far=bottom", "column=1_0", "half=left"):
         bench.refuses("frames", "region", "frames", wrong, what="no region")
     bench.put("row", text_of_frames(in_row))
     moved = {f"{int(far, 16) | 0x400000:08X}": frame for far, frame in in_row.items()}
@@ -171,7 +171,7 @@ def others(bench):
     bench.refuses("frames", "touch", "made.part", "cut", what="DESYNC")
     bench.refuses("frames", "touch", "made.part", "bit", what="check fails")
     bench.refuses("frames", "touch", "other.part", "partial", what="IDCODE")
-    bench.refuses("frames", "touch", "small.part", "partial", what="no address")
+    bench.refuses("frames", "touch", "small.part", "partial", what="00000080, an address that the part made doesn't have")
     bench.refuses("frames", "touch", "made.part", "partial", "column=x", what="no region")
     bench.refuses("frames", "touch", "nowhere", "partial", what="nowhere")
     for name in ("empty", "cut", "bit", "made.part", "nowhere"):
@@ -202,8 +202,8 @@ def refused_frames(bench):
         "dropped by SBITS": ([sbits, command("WCFG"), far, frames], "SBITS"),
         "a copy under NULL": ([command("NULL"), far, copy], "another command than MFW"),
         "a copy of nothing": ([command("WCFG"), command("MFW"), far, copy], "none was written"),
-        "no address": ([command("WCFG"), x7.write_packet(x7.FAR, [0x7F]), frames], "0000007F, which is no address"),
-        "no place": ([command("WCFG"), x7.write_packet(x7.FAR, [0x00800004]), x7.write_packet(x7.FDRI, [1] * 1010)], "more frames after 00800004"),
+        "no address": ([command("WCFG"), x7.write_packet(x7.FAR, [0x7F]), frames], "0000007F, an address that the part made doesn't have"),
+        "no place": ([command("WCFG"), x7.write_packet(x7.FAR, [0x00800004]), x7.write_packet(x7.FDRI, [1] * 1010)], "more frames after 00800004 than the part made has places"),
     }
     for name, (packets, what) in refused.items():
         bench.put(name, stream_of(*packets))

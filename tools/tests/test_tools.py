@@ -20,7 +20,7 @@ FORMS = [
     "frame_map F F", "frame_map F F F", "frame_map good.part F", "frames of F", "frames differ F F", "frames region F column=1",
     "frames move F half=0,row=0", "frames ecc F", "frames mend F", "frames touch F F", "frames touch good.part F", "frames touch F good",
     "frames vendor F", "part F new", "svf F", "svf --partial F", "svf --read F F F", "svf --read good.part F F", "turn F", "why F",
-    "why F F", "why F report", "why good F",
+    "why F F", "why F report", "why good F", "why --stat F", "why --stat 0000990C --cor0 F",
 ]  # fmt: skip
 
 # How many of the hostile files each form is tried with.
@@ -133,10 +133,12 @@ def on_terminal(bench):
 
 def usages(bench):
     """Words that a form can't take are answered by the form's own line; a part file that is made anew, by what it
-    is."""
+    is; and words of a board by the first one that is none, whatever stands before it."""
     bench.refuses("frames", "move", "a", "b", "c", what="usage: frames move FRAMES half=1,row=0 > FRAMES\n")
     bench.refuses("frames", "touch", "x", what="usage: frames touch PART STREAM [REGION..]\n")
     bench.refuses("part", "good.part", "new", what="good.part is a part file already\n")
+    for words, what in ((["--foo", "1"], "usage: why "), (["--cor0", "XYZ"], "XYZ is no word"), (["--cor0"], "usage: why ")):
+        bench.refuses("why", "--stat", "0000990C", *words, what=what)
 
 
 def helps(bench, names):

@@ -8,7 +8,7 @@ import re
 from casefiles import header
 from runs import DEVICE, frame_of, run_parts, text_of_frames
 import x7formats as x7
-from x7bench import SECTOR, slot_of
+from x7layout import SECTOR, slot_of
 
 SIZE = 5 * SECTOR
 # the texts of a header that has none

@@ -1,4 +1,4 @@
-//! The pages of a flash that were used last, so that none of them is read again.
+//! The pages of a flash that were read or used last, so that none of them is read again.
 ghost use Rattle.std.specs.Prelude.{◌≡◌, ◌+◌, ◌*◌, ◌/◌, ◌%◌, ◌<◌, ◌≤◌, ℕ, List, Option, None, [], length, true, nat_eq, IfOk, OnOk, IsSome};
 ghost use Rattle.std.specs.Map.{lookup};
 ghost use Rattle.x7_words.specs.FlashCalls.{CallOnlyReads};
@@ -25,7 +25,7 @@ pub(crate) enum Loaded {
     Read(u64),
 }
 
-/// The pages of a flash that were used last, by their numbers.
+/// The pages of a flash that were read or used last, by their numbers.
 #[derive(Drop)]
 pub(crate) struct PageCache {
     pages: LruCache<u64, Vec<u8>>,

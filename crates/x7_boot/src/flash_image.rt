@@ -75,7 +75,7 @@ fn put_first_sector(alloc: Global, out: &mut Vec<u8>, start: u32) -> Result<(), 
     Ok(())
 }
 
-/// Appends FF up to a place, so many bytes from the first.
+/// Appends FF until `out` has `place` bytes.
 fn fill(out: &mut Vec<u8>, place: u64) -> Result<(), NoMemory>
     requires { length out.old.items ≤ place }
     ensures items { OnOk result (out.new.items ≡ filled_to place out.old.items) }

@@ -1,4 +1,8 @@
 -- The state of a device as a function of all bytes since its reset (this project's choice where UG470 leaves it open).
+-- What ends in `_by` here is a function of the first stop, if there is one, or of why it came; what ends in `_of` or
+-- `_in`, of all bytes since the reset, with the part and what the reset kept (`memory_of` and `attempt_of`, of other
+-- files, take a history); what ends in `_taken`, of the bytes up to that stop. So `state_of` is `state_by` of the
+-- course up to the first stop in the bytes, and of why that came.
 use Rattle.std.specs.Prelude.{ℕ, ◌-◌, Bool, if◌then◌else◌, List, length, Option, None, Some}
 use Rattle.x7_packets.specs.ByHand.{reading_of}
 use Rattle.x7_packets.specs.History.{History, history_of, until}

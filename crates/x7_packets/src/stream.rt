@@ -25,7 +25,7 @@ pub enum Run<'b> {
     Sync,
     /// A word in a header's place, and its step.
     Head(u32, Step),
-    /// A payload word whose bytes came in two reads, with its register.
+    /// A payload word whose bytes came in two reads or more, with its register.
     Word(u8, u32),
     /// Payload words of one packet, with their register: a positive multiple of four bytes, four for CMD.
     Body(u8, &'b [u8]),

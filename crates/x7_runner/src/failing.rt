@@ -19,7 +19,7 @@ pub(crate) fn compare_alike(notes: &mut Notes, whole: &Ending, came: &Ending) {
     notes.compare_texts("flash", &whole.flash, &came.flash);
 }
 
-/// Notes where a failed call of `err` took more than an end of its line, or changed what is left beside it.
+/// Notes a failed call of `err` whose message is no prefix of the whole one, or that changed what is left beside it.
 fn compare_err_failed(notes: &mut Notes, whole: &Ending, came: &Ending) {
     notes.compare_numbers("status", u64::from(whole.status), u64::from(came.status));
     notes.compare_texts("out", &whole.out, &came.out);

@@ -1,4 +1,5 @@
-//! The texts of faults, and the number of the status that no case comes to.
+//! The texts of faults, and the number of one of the two statuses to which no worked case comes: 8, and 11, to which
+//! x7_tool_tests comes.
 use std::test::Fail;
 use x7_forms::Status;
 use x7_listing::AsmFault;
@@ -51,6 +52,7 @@ fn assembly_faults_name_the_line(rt: HostRuntime) -> Result<(), Fail> {
     Ok(())
 }
 
+/// By its clause it is 8 too: here the number is written out.
 #[test]
 fn want_of_memory_has_a_number(rt: HostRuntime) {
     assert!(rt; Status::NoMemory.number() == 8);

@@ -62,8 +62,8 @@ pub record CanTake (stream flash : List ℕ) : Type 0 where
 
 -- the cause of each refusal
 abbrev pub HasCause : List ℕ → FlashState → FlashState → UpdateFault → Type 0
--- a write failed: its count has risen, the flash's size is good, and known
--- bytes were written only where the stream fits
+-- a write failed: its count has risen, the flash's size is good, and known bytes were written only where the flash can
+-- be updated and the stream fits
 HasCause stream old new (Failed true) = WriteFails old new × IsUpdatableSize new.extent × IfKnown old.bytes (CanTake stream)
 -- a read failed: its count has risen, and the flash's size is good
 HasCause stream old new (Failed false) = FlashFails old new × IsUpdatableSize new.extent

@@ -1,4 +1,6 @@
-//! Lines of a listing that are read at once: rows of words, bytes, writes, and no-ops by eight.
+//! Lines of a listing that are read at once: rows of words, bytes, writes, and no-ops by eight. An answer `None` or
+//! `false` is always allowed here, since `asm/reading` then reads the line: how seldom it comes is a matter of time,
+//! which no clause bounds.
 ghost use Rattle.std.specs.Prelude.{◌≡◌, ℕ, List, ◌<◌, ◌≤◌, ◌+◌, ◌*◌, ◌++◌, codes, drop, length, slice_index, take, IsTrue};
 ghost use Rattle.std.specs.List.{flat_map};
 ghost use Rattle.std.specs.Simd.Lanes.{chunk};

@@ -160,7 +160,7 @@ fn put_in_row(sheet: &mut [u8; SHEET_SIZE], len: usize, bytes: &[u8; 32], count:
     }
 }
 
-/// Puts the first of sixteen words, one or more, in new `data` lines.
+/// Puts the first `count` of sixteen words in one or two new `data` lines.
 #[inline(always)]
 fn put_words(sheet: &mut [u8; SHEET_SIZE], len: usize, bytes: &[u8; 64], count: usize) -> TextEnd
     requires at_least_one { 0 < count }
