@@ -45,7 +45,7 @@ fn ask(part: &Part, kind: &str, addresses: &[u32], rank: u32, far: u32) -> u64 {
         "address" => u64::from(part.address(rank).unwrap_or(0)),
         "next" => u64::from(part.next(far).unwrap_or(0)),
         "slot_after" => slot_after(part, far, rank),
-        "slot_count_from" => slot_count_from(part, far),
+        "slots_from" => slots_from(part, far),
         // any other kind, as `none` of bench/asks, asks nothing: the bare loop
         _ => 0,
     }
@@ -64,9 +64,9 @@ fn slot_after(part: &Part, far: u32, slot_count: u32) -> u64 {
 }
 
 /// The number of slots from an address on; 0 where the part lacks the address.
-fn slot_count_from(part: &Part, far: u32) -> u64 {
+fn slots_from(part: &Part, far: u32) -> u64 {
     if part.is_address(far) {
-        part.slot_count_from(far)
+        part.slots_from(far)
     } else {
         0
     }

@@ -3,7 +3,7 @@
 use Rattle.std.specs.Prelude.{ℕ, List, [], ◌++◌, Option, None, Some, codes, decimal}
 use Rattle.x7_part.specs.declared.fault.PartFault.{PartFault}
 use Rattle.x7_part.specs.declared.fault.PartFault.TheVariants as part
-use Rattle.x7_part.specs.declared.fault.KeyPlace.{KeyPlace}
+use Rattle.x7_part.specs.declared.fault.Which.{Which}
 use Rattle.x7_part.specs.Keys.{name_of}
 use Rattle.x7_text.specs.Digits.{hex_byte, hex_word}
 use Rattle.x7_forms.specs.declared.bad_input.InputFault.{InputFault}
@@ -47,14 +47,14 @@ placed_key name None = name
 placed_key name (Some row) = name ++ codes " in row " ++ decimal row
 
 -- the key that a fault of a part file names, with its row where it is a row's
-abbrev pub key_place_text : KeyPlace → List ℕ
-key_place_text place = placed_key (name_of place.key) place.row
+abbrev pub which_text : Which → List ℕ
+which_text place = placed_key (name_of place.key) place.row
 
 -- why a part file was refused; want of memory comes as a reason of its own (`part_event` in `Known`)
 abbrev pub part_fault_text : PartFault → List ℕ
 part_fault_text part.Toml = codes "toml"
-part_fault_text (part.Key place) = codes "key " ++ key_place_text place
-part_fault_text (part.Range place) = codes "range " ++ key_place_text place
+part_fault_text (part.Key place) = codes "key " ++ which_text place
+part_fault_text (part.Range place) = codes "range " ++ which_text place
 part_fault_text (part.SameRow row) = codes "same row " ++ decimal row
 part_fault_text (part.TooMany frames) = codes "too many " ++ decimal frames
 part_fault_text part.NoMemory = codes "no memory"

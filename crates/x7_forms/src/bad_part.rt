@@ -1,10 +1,10 @@
 //! The line that says why a part file was refused. No memory is taken.
 ghost use Rattle.std.specs.Prelude.{◌++◌, codes, decimal};
 ghost use Rattle.x7_words.specs.Sink.{PutsOrFails};
-ghost use Rattle.x7_forms.specs.Event.{bad_part, event_line, key_place_text};
+ghost use Rattle.x7_forms.specs.Event.{bad_part, event_line, which_text};
 
 use itoa::Buffer;
-use x7_part::{KeyPlace, PartFault};
+use x7_part::{PartFault, Which};
 use x7_words::{Failed, Sink, write_pieces};
 
 /// The start of the line, before the name of the part file.
@@ -71,8 +71,8 @@ fn say_top_key<'x, E: Sink>(
 }
 
 /// Writes the line of a fault that names a key. `reason` stands between the name of the file and the key.
-fn say_key<E: Sink>(err: &mut E, name: &str, reason: &[u8], at: KeyPlace) -> Result<(), Failed>
-    ensures { PutsOrFails (E.state err.old) (codes "x7: bad part " ++ (name.now ++ (reason.now ++ (key_place_text at ++ codes "\n")))) (E.state err.new) }
+fn say_key<E: Sink>(err: &mut E, name: &str, reason: &[u8], at: Which) -> Result<(), Failed>
+    ensures { PutsOrFails (E.state err.old) (codes "x7: bad part " ++ (name.now ++ (reason.now ++ (which_text at ++ codes "\n")))) (E.state err.new) }
 {
     match at.row {
         Some(row) => say_key_in_row(err, name, reason, at.key.name(), row),

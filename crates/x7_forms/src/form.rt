@@ -61,7 +61,7 @@ pub enum Form<'w> {
         /// The frame address of the first slot.
         far: u32,
         /// The number of slots: frames, and the two pad frames after each row.
-        slot_count: u32,
+        count: u32,
     },
     /// `gen PART SEED`: the summary of a plan that is made from a number.
     Gen {
@@ -237,7 +237,7 @@ fn plan_read_form(names: &[String]) -> Option<Form<'_>>
     Some(Form::PlanRead {
         part: part.as_str(),
         far: word_in(far.as_str())?,
-        slot_count: number_in(slot_count.as_str())?,
+        count: number_in(slot_count.as_str())?,
     })
 }
 

@@ -3,7 +3,7 @@ use Rattle.std.specs.Prelude.{ℕ, List, [], ◌∷◌, Bool, true, false, ◌&&
 use Rattle.toml.specs.Data.{Members, no_members, member}
 use Rattle.x7_part.specs.declared.fault.PartKey.{PartKey}
 use Rattle.x7_part.specs.declared.fault.PartKey.TheVariants as key
-use Rattle.x7_part.specs.declared.fault.KeyPlace.{KeyPlace}
+use Rattle.x7_part.specs.declared.fault.Which.{Which}
 
 -- the key as a part file writes it, `other` for an unknown one
 abbrev pub name_of : PartKey → List ℕ
@@ -23,11 +23,11 @@ name_of key.Minors = codes "minors"
 name_of key.Other = codes "other"
 
 -- the place of a key in the top table
-abbrev pub top : PartKey → KeyPlace
+abbrev pub top : PartKey → Which
 top k = record { row = None; key = k }
 
 -- the place of a key in row n
-abbrev pub in_row : ℕ → PartKey → KeyPlace
+abbrev pub in_row : ℕ → PartKey → Which
 in_row n k = record { row = Some n; key = k }
 
 -- the keys of the top table

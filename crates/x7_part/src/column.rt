@@ -228,7 +228,7 @@ fn slot_count(columns: &[Column]) -> u64
 }
 
 /// The number of slots from an address on.
-pub(crate) fn slot_count_from(columns: &[Column], far: u32) -> u64
+pub(crate) fn slots_from(columns: &[Column], far: u32) -> u64
     requires columns { AreColumns columns.now }
     requires address { Contains (column_addresses columns.now) far }
     ensures { result ≡ length (from_address far (column_slots columns.now)) }

@@ -52,7 +52,7 @@ impl PartKey {
 
 /// The place of a key in a part file.
 #[derive(Clone, Copy, Debug, Drop)]
-pub struct KeyPlace {
+pub struct Which {
     /// The number of the row that the key belongs to, from 1, none for a key of the top table.
     pub row: Option<u32>,
     pub key: PartKey,
@@ -61,7 +61,7 @@ pub struct KeyPlace {
 /// The place of a key in the top table.
 macro_rules! top {
     ($key:ident) => {
-        KeyPlace {
+        Which {
             row: None,
             key: PartKey::$key,
         }
@@ -71,7 +71,7 @@ macro_rules! top {
 /// The place of a key in a row, whose number counts from 1.
 macro_rules! in_row {
     ($row:expr, $key:ident) => {
-        KeyPlace {
+        Which {
             row: Some($row),
             key: PartKey::$key,
         }
@@ -81,7 +81,7 @@ macro_rules! in_row {
 pub(crate) use in_row;
 pub(crate) use top;
 
-impl fmt::Display for KeyPlace {
+impl fmt::Display for Which {
     fn fmt<W: fmt::Write>(&self, f: &mut fmt::Formatter<W>) -> fmt::Result {
         match self.row {
             Some(row) => write!(f, "{} in row {row}", self.key.name()),
@@ -98,10 +98,10 @@ pub enum PartFault {
     Toml,
     /// The key is missing, has a value of another type, or is unknown.
     #[error("key {0}")]
-    Key(KeyPlace),
+    Key(Which),
     /// The key's value is out of range.
     #[error("range {0}")]
-    Range(KeyPlace),
+    Range(Which),
     /// The row of this number, from 1, has the block type, the half and the row of an earlier one.
     #[error("same row {0}")]
     SameRow(u32),

@@ -17,7 +17,7 @@ mod table;
 mod types;
 mod values;
 
-pub use fault::{KeyPlace, PartFault, PartKey};
+pub use fault::{PartFault, PartKey, Which};
 pub use laws::{rows_are_in_order, slots_follow_the_addresses};
 pub use limits::MOST_FRAME_WORDS;
 pub use part::Part;

@@ -225,10 +225,10 @@ impl Part {
     }
 
     /// The number of slots from an address on.
-    pub fn slot_count_from(&self, far: u32) -> u64
+    pub fn slots_from(&self, far: u32) -> u64
         requires address { Contains (addresses_in self.now) far }
         ensures { result ≡ length (slots_from self.now far) }
     {
-        column::slot_count_from(self.table(), far)
+        column::slots_from(self.table(), far)
     }
 }

@@ -5,7 +5,7 @@ ghost use Rattle.x7_part.specs.PartChecks.{fault_of_call, AnswersDue, unless, is
 ghost use Rattle.x7_part.specs.declared.fault.PartFault.TheVariants.{Range};
 
 use crate::address::Widths;
-use crate::fault::{KeyPlace, PartFault};
+use crate::fault::{PartFault, Which};
 use crate::limits::{
     FIRST_PRINTED, GREATEST_IDCODE, HALF_WIDTH, LAST_PRINTED, LEAST_BLOCK_WIDTH,
     LEAST_COLUMN_WIDTH, LEAST_MINOR_WIDTH, LEAST_ROW_WIDTH, MOST_BLOCK_WIDTH, MOST_COLUMN_WIDTH,
@@ -49,7 +49,7 @@ pub(crate) fn is_name(text: &str) -> bool
 
 /// The number, where it lies from `low` to `high`; else the fault `Range`.
 #[tactic(auto, unfolding(crate::specs::PartChecks::is_in))]
-pub(crate) fn within(number: i64, low: u32, high: u32, at: KeyPlace) -> Result<u32, PartFault>
+pub(crate) fn within(number: i64, low: u32, high: u32, at: Which) -> Result<u32, PartFault>
     ensures fault { fault_of_call result ≡ unless (is_in low high number) (Range at) }
     ensures value { IfOk result (λ n. n ≡ natural number) }
     ensures within { IfOk result (λ n. (low ≤ n) × (n ≤ high)) }
@@ -63,7 +63,7 @@ pub(crate) fn within(number: i64, low: u32, high: u32, at: KeyPlace) -> Result<u
 
 /// The number, where it is odd, positive and below 2^32; else the fault `Range`.
 #[tactic(auto, unfolding(crate::specs::PartChecks::is_odd))]
-pub(crate) fn odd_number(number: i64, at: KeyPlace) -> Result<u32, PartFault>
+pub(crate) fn odd_number(number: i64, at: Which) -> Result<u32, PartFault>
     ensures fault { fault_of_call result ≡ unless (is_odd number) (Range at) }
     ensures value { IfOk result (λ n. n ≡ natural number) }
 {
@@ -74,7 +74,7 @@ pub(crate) fn odd_number(number: i64, at: KeyPlace) -> Result<u32, PartFault>
 
 /// The start unit, where the number is 1 or 256; else the fault `Range`.
 #[tactic(auto, unfolding(crate::specs::PartChecks::is_start_unit, crate::specs::PartChecks::is_in))]
-pub(crate) fn start_unit_in(number: i64, at: KeyPlace) -> Result<u16, PartFault>
+pub(crate) fn start_unit_in(number: i64, at: Which) -> Result<u16, PartFault>
     ensures fault { fault_of_call result ≡ unless (is_start_unit number) (Range at) }
     ensures value { IfOk result (λ n. n ≡ natural number) }
 {
@@ -115,7 +115,7 @@ fn widths_of_fields(minor: i64, column: i64, row: i64, half: i64, block: i64) ->
 
 /// The widths of the fields of an address; the fault `Range` where there aren't five of them, where one is out of its
 /// range, or where they have more than 32 bits together.
-pub(crate) fn widths_in(numbers: &[i64], at: KeyPlace) -> Result<Widths, PartFault>
+pub(crate) fn widths_in(numbers: &[i64], at: Which) -> Result<Widths, PartFault>
     ensures fault { fault_of_call result ≡ unless (are_widths numbers.now) (Range at) }
     ensures value { IfOk result (λ widths. widths ≡ widths_of numbers.now) }
 {
@@ -131,7 +131,7 @@ pub(crate) fn widths_in(numbers: &[i64], at: KeyPlace) -> Result<Widths, PartFau
 /// The numbers of minors of a row's columns; the fault `Range` where there are too few or too many columns, or where a
 /// number is out of range.
 #[tactic(auto, unfolding(crate::specs::PartChecks::is_in))]
-pub(crate) fn minors_in(alloc: Global, numbers: &[i64], at: KeyPlace) -> Result<Vec<u8>, PartFault>
+pub(crate) fn minors_in(alloc: Global, numbers: &[i64], at: Which) -> Result<Vec<u8>, PartFault>
     ensures fault { AnswersDue (unless (are_minors numbers.now) (Range at)) result }
     ensures value { IfOk result (λ minors. minors.items ≡ map natural numbers.now) }
 {

@@ -9,7 +9,7 @@ ghost use Rattle.x7_part.specs.Values.{row_by_values};
 ghost use Rattle.x7_part.specs.Part.{RowData};
 
 use crate::address::Widths;
-use crate::fault::{KeyPlace, PartFault, PartKey, in_row};
+use crate::fault::{PartFault, PartKey, Which, in_row};
 use crate::limits::{GREATEST_BLOCK, GREATEST_HALF, GREATEST_ROW};
 use crate::ranges::{minors_in, require, within};
 use crate::values::RowValues;

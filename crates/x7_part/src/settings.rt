@@ -5,7 +5,7 @@ ghost use Rattle.x7_part.specs.PartChecks.{fault_of_call, unless, are_widths_or_
 ghost use Rattle.x7_part.specs.declared.fault.PartFault.TheVariants.{Range};
 
 use crate::address::Widths;
-use crate::fault::{KeyPlace, PartFault, PartKey, top};
+use crate::fault::{PartFault, PartKey, Which, top};
 use crate::limits::{
     GREATEST_BUS_WIDTH, GREATEST_MODE, LEAST_FRAME_WORDS, MOST_FRAME_WORDS, MOST_ROWS,
     MOST_WAIT_TICKS,
@@ -32,7 +32,7 @@ pub(crate) struct PartSettings {
 
 /// The given widths of the fields of an address, those of the 7 series where none are given.
 #[tactic(auto, unfolding(crate::specs::PartChecks::are_widths_or_none))]
-fn widths_or_usual(widths_given: &Option<Vec<i64>>, at: KeyPlace) -> Result<Widths, PartFault>
+fn widths_or_usual(widths_given: &Option<Vec<i64>>, at: Which) -> Result<Widths, PartFault>
     ensures fault { fault_of_call result ≡ unless (are_widths_or_none (option_map (λ zs. zs.items) widths_given.now)) (Range at) }
     ensures value { IfOk result (λ widths. widths ≡ widths_of (unwrap_or (option_map (λ zs. zs.items) widths_given.now) [])) }
 {

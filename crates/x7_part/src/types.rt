@@ -8,7 +8,7 @@ ghost use Rattle.x7_part.specs.declared.fault.PartFault.TheVariants.{Key};
 ghost use Rattle.x7_part.specs.declared.fault.PartKey.TheVariants as key;
 ghost use Rattle.x7_part.specs.Keys.{top};
 
-use crate::fault::{KeyPlace, PartFault, PartKey, top};
+use crate::fault::{PartFault, PartKey, Which, top};
 use std::alloc::{AllocError, Global};
 use toml::{Table, Value};
 
@@ -20,7 +20,7 @@ fn value_under(table: &Table, key: PartKey) -> Option<&Value>
 }
 
 /// The text under a key; the fault `Key` where the key is missing or its value is no text.
-pub(crate) fn text(alloc: Global, table: &Table, at: KeyPlace) -> Result<String, PartFault>
+pub(crate) fn text(alloc: Global, table: &Table, at: Which) -> Result<String, PartFault>
     ensures fault { AnswersDue (unless (has_value is_text (under at.key (table_view table.now))) (Key at)) result }
     ensures missing { under at.key (table_view table.now) ≡ None → IsErrOf result (Key at) }
     ensures mistyped { (d : Data) → under at.key (table_view table.now) ≡ Some d → is_text d ≡ false → IsErrOf result (Key at) }
@@ -36,7 +36,7 @@ pub(crate) fn text(alloc: Global, table: &Table, at: KeyPlace) -> Result<String,
 }
 
 /// The whole number under a key; the fault `Key` where the key is missing or its value is no whole number.
-pub(crate) fn number(table: &Table, at: KeyPlace) -> Result<i64, PartFault>
+pub(crate) fn number(table: &Table, at: Which) -> Result<i64, PartFault>
     ensures fault { fault_of_call result ≡ unless (has_value is_whole (under at.key (table_view table.now))) (Key at) }
     ensures value { IfOk result (λ z. z ≡ number_or 0 at.key (table_view table.now)) }
 {
@@ -50,7 +50,7 @@ pub(crate) fn number(table: &Table, at: KeyPlace) -> Result<i64, PartFault>
 }
 
 /// The whole number under a key, `usual` where the key is left out; the fault `Key` where its value is no whole number.
-pub(crate) fn number_or(usual: u32, table: &Table, at: KeyPlace) -> Result<i64, PartFault>
+pub(crate) fn number_or(usual: u32, table: &Table, at: Which) -> Result<i64, PartFault>
     ensures fault { fault_of_call result ≡ unless (may_have_value is_whole (under at.key (table_view table.now))) (Key at) }
     ensures value { IfOk result (λ z. z ≡ number_or usual at.key (table_view table.now)) }
 {
@@ -83,7 +83,7 @@ fn wholes(alloc: Global, items: &[Value]) -> Result<Option<Vec<i64>>, AllocError
 pub(crate) fn numbers_under(
     alloc: Global,
     table: &Table,
-    at: KeyPlace,
+    at: Which,
 ) -> Result<Option<Vec<i64>>, PartFault>
     ensures fault { AnswersDue (unless (may_have_value is_list_of_wholes (under at.key (table_view table.now))) (Key at)) result }
     ensures left_out { under at.key (table_view table.now) ≡ None → IsOk result }

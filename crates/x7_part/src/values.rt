@@ -7,7 +7,7 @@ ghost use Rattle.x7_part.specs.Keys.{top};
 ghost use Rattle.x7_part.specs.declared.fault.PartFault.TheVariants.{Key};
 ghost use Rattle.x7_part.specs.declared.fault.PartKey.TheVariants as key;
 
-use crate::fault::{KeyPlace, PartFault, PartKey, in_row, top};
+use crate::fault::{PartFault, PartKey, Which, in_row, top};
 use crate::keys::{ROW_KEYS, TOP_KEYS, has_only};
 use crate::limits::USUAL_FRAME_WORDS;
 use crate::ranges::require;

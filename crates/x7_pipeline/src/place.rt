@@ -21,7 +21,7 @@ pub(crate) fn slot_count(part: &Part, far: u32) -> u64
     // for the proof alone: the limit rests on the part's range
     let _frames = part.frames();
     if part.is_address(far) {
-        part.slot_count_from(far)
+        part.slots_from(far)
     } else {
         0
     }
@@ -56,7 +56,7 @@ pub(crate) fn far_at(part: &Part, base: u32, n: u64) -> u32
     if !part.is_address(base) {
         return base;
     }
-    for place in n..part.slot_count_from(base) {
+    for place in n..part.slots_from(base) {
         if let Slot::Frame(far) = part.slot_after(base, place) {
             return far;
         }

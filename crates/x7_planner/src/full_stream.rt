@@ -64,7 +64,7 @@ fn slot_count(part: &Part) -> u64
     ensures most { result ≤ most_slots }
     ensures most_words { frame_words part.now * result ≤ most_words }
 {
-    part.slot_count_from(first_address(part))
+    part.slots_from(first_address(part))
 }
 
 /// Writes what stands between the opening words and the frame data: SHUTDOWN, RCRC, the IDCODE, the settings of startup,

@@ -46,7 +46,7 @@ pub fn readback(alloc: Global, part: &Part, far: u32, slot_count: u32) -> Result
     if !part.is_address(far) {
         return Err(PlanFault::Foreign(far));
     }
-    if slot_count == 0 || u64::from(slot_count) > part.slot_count_from(far) {
+    if slot_count == 0 || u64::from(slot_count) > part.slots_from(far) {
         return Err(PlanFault::Range(slot_count));
     }
     // For the proof alone: the part is in range, and so the counts are.

@@ -3,16 +3,16 @@
 use std::test::Fail;
 use x7_forms::Status;
 use x7_listing::AsmFault;
-use x7_part::{KeyPlace, PartFault, PartKey};
+use x7_part::{PartFault, PartKey, Which};
 
 /// The key in the first row of a part file.
-fn in_first_row(key: PartKey) -> KeyPlace {
-    KeyPlace { row: Some(1), key }
+fn in_first_row(key: PartKey) -> Which {
+    Which { row: Some(1), key }
 }
 
 /// The key outside the rows.
-fn at_the_top(key: PartKey) -> KeyPlace {
-    KeyPlace { row: None, key }
+fn at_the_top(key: PartKey) -> Which {
+    Which { row: None, key }
 }
 
 #[test]

@@ -17,11 +17,11 @@ fn slot_from(part: &Part, far: u32, n: u64) -> Option<Slot> {
 }
 
 /// The number of slots from an address on; none where the part lacks the address.
-fn slot_count_from(part: &Part, far: u32) -> Option<u64> {
+fn slots_from(part: &Part, far: u32) -> Option<u64> {
     if !part.is_address(far) {
         return None;
     }
-    Some(part.slot_count_from(far))
+    Some(part.slots_from(far))
 }
 
 /// What the tiny part answers: the address after each of three, the ranks of two, and the addresses of two ranks.
@@ -69,7 +69,7 @@ fn two_rows_have_their_addresses_ranks_and_slots_in_order(rt: HostRuntime) -> Re
             ]
     );
     // all eight slots but that of the first address
-    assert!(rt; slot_count_from(&part, 0x0000_0001) == Some(7));
+    assert!(rt; slots_from(&part, 0x0000_0001) == Some(7));
     Ok(())
 }
 

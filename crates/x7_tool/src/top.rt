@@ -52,11 +52,9 @@ fn answer<'w, I: Inputs, O: Sink, F: Flash>(
         Form::PlanPartial { part, frames } => {
             put_whole(plan_partial(alloc, inputs, part, frames), out)
         }
-        Form::PlanRead {
-            part,
-            far,
-            slot_count,
-        } => put_whole(plan_read(alloc, inputs, part, far, slot_count), out),
+        Form::PlanRead { part, far, count } => {
+            put_whole(plan_read(alloc, inputs, part, far, count), out)
+        }
         Form::Gen { part, seed } => put_whole(generate(alloc, inputs, part, seed), out),
         Form::Image { golden, update } => put_whole(image(alloc, inputs, golden, update), out),
         Form::ImageFor {

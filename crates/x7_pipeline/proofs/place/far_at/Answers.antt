@@ -10,11 +10,11 @@ pub returns-in-Frame : goal.returns-in-Frame
 returns-in-Frame c =
     found_here c.args.part.now c.args.base c.args.n c.loop-place.place c.in-Frame.far
     (sym (rw c.if-not-is_address.false at (is_base_so c.args.part.now c.args.base c.is_address.result c.is_address.ensures.listed)))
-    (let count = c.slot_count_from-place-end.ensures in omega arith) c.loop-place.invariant c.in-Frame.ensures
+    (let count = c.slots_from-place-end.ensures in omega arith) c.loop-place.invariant c.in-Frame.ensures
 
 pub returns : goal.returns
 returns c =
     c.last_address.ensures
     ∙ far_past c.args.part.now c.args.base c.args.n c.loop-place.place
     (sym (rw c.if-not-is_address.false at (is_base_so c.args.part.now c.args.base c.is_address.result c.is_address.ensures.listed)))
-    (let count = c.slot_count_from-place-end.ensures in omega arith) c.loop-place.invariant
+    (let count = c.slots_from-place-end.ensures in omega arith) c.loop-place.invariant
