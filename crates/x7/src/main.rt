@@ -68,29 +68,33 @@ fn command<I: Inputs, O: Sink, E: Sink, F: Flash>(
     }
 }
 
-fn main(rt: HostRuntime) -> ExitCode {
-    // The system gives a new file the lowest number that is free: that of a standard file which the caller closed. So
-    // /dev/null takes these numbers before an input or the flash may: what is written there fails.
-    let _input = fs::open(&rt, NOTHING);
-    let _output = fs::open(&rt, NOTHING);
-    let _error = fs::open(&rt, NOTHING);
-    let words = match words(&rt) {
-        Ok(words) => words,
-        Err(error) if error.kind() == ErrorKind::OutOfMemory => {
-            return end_of(Status::NoMemory);
-        }
-        Err(_) => return ExitCode::from(NO_WORDS),
-    };
-    let mut inputs = FileInputs::new(&rt);
-    let mut flash = FileFlash::new(&rt);
+/// Does what the words ask for over the system's files, and answers the program's end.
+fn with_files(rt: &HostRuntime, words: &Vec<String>) -> ExitCode {
+    let mut inputs = FileInputs::new(rt);
+    let mut flash = FileFlash::new(rt);
     let mut out = StdSink::new(rt.stdout());
     let mut err = StdSink::new(rt.stderr());
     command(
         rt.alloc(),
-        &words,
+        words,
         &mut inputs,
         &mut flash,
         &mut out,
         &mut err,
     )
+}
+
+fn main(rt: HostRuntime) -> ExitCode {
+    // The system gives a new file the lowest number that is free: that of a standard file which the caller closed. So
+    // /dev/null takes these numbers before an input or the flash may: what is written there fails.
+    let _standard = [
+        fs::open(&rt, NOTHING),
+        fs::open(&rt, NOTHING),
+        fs::open(&rt, NOTHING),
+    ];
+    match words(&rt) {
+        Ok(words) => with_files(&rt, &words),
+        Err(error) if error.kind() == ErrorKind::OutOfMemory => end_of(Status::NoMemory),
+        Err(_) => ExitCode::from(NO_WORDS),
+    }
 }

@@ -2,7 +2,7 @@
 use Rattle.std.proofs.Common.{◌≡◌, ◌+◌, ◌≤◌, ◌⊎◌, inl, inr, ℕ, Bool, true, false, if◌then◌else◌, None, [], ◌∷◌, ◌++◌, refl, sym, ◌∙◌, arith}
 use Rattle.std.specs.Prelude.{nat_lt}
 use Rattle.x7_packets.specs.FlashSlot.{sector_size}
-use Rattle.x7_packets.specs.History.{History, Write, entry, until}
+use Rattle.x7_packets.specs.History.{Access, History, Write, entry, until}
 use Rattle.x7_packets.specs.Appended.{moved}
 use Rattle.x7_part.specs.Part.{PartData}
 use Rattle.x7_regs.specs.Command.{command_by}
@@ -26,32 +26,38 @@ use Rattle.x7_engine.proofs.PassesLemmas.{goes_past, went_past, why_passes}
 use Rattle.x7_engine.proofs.SameLemmas.{IsIdle, IsNear, IsSame, SameStartup, near_clear, near_null, near_shutdown, near_spi, near_write, ordered, same_more}
 use Rattle.x7_effects.proofs.GoingLemmas.{IsGoing, going_bytes, why_none}
 use Rattle.x7_effects.proofs.StillLemmas.{IsStill, never_armed}
-use Rattle.x7_recovery.specs.Clean.{BeginsClean, MayPrecedeRcrc, bspi, bspi_read, clear, later, nothing, null, shutdown, timer, wbstar}
+use Rattle.x7_recovery.specs.Clean.{AllPrecedeRcrc, BeginsClean, MayPrecedeRcrc, bspi, bspi_read, clear, later, next, nothing, null, shutdown, timer, wbstar}
 use Rattle.x7_recovery.proofs.OpenLemmas.{desync_at}
 
 module _ (part : PartData) (kept power : Kept) (low : ℕ) (fell : is_fallback kept.kind ≡ true) where
   module _ (c : History) (near : IsNear part low c []) (calm : (m : ℕ) → low ≤ m → first_stop_of_history part kept c m ≡ None) where
-    lead_near : (h : History) → MayPrecedeRcrc h → IsNear part low (moved low h ++ c) (moved low h)
+    near_after : (a : Access) (h : History) (n : ℕ) → low ≤ n → MayPrecedeRcrc a → IsNear part low (moved low h ++ c) (moved low h) → IsNear part low (entry a n ∷ moved low h ++ c) (entry a n ∷ moved low h)
+    near_after _ h n k (wbstar w) l = near_write part low (moved low h ++ c) (moved low h) l 16 w n (inl refl) k
+    near_after _ h n k (timer w) l = near_write part low (moved low h ++ c) (moved low h) l 17 w n (inr (inl refl)) k
+    near_after _ h n k (bspi w) l = near_write part low (moved low h ++ c) (moved low h) l 31 w n (inr (inr refl)) k
+    near_after _ h n k null l = near_null part low (moved low h ++ c) (moved low h) l n k
+    near_after _ h n k bspi_read l = near_spi part low (moved low h ++ c) (moved low h) l n k
+    near_after _ h n k shutdown l = near_shutdown part low (moved low h ++ c) (moved low h) l n k
+
+    lead_near : (h : History) → AllPrecedeRcrc h → IsNear part low (moved low h ++ c) (moved low h)
     lead_near _ nothing = near
-    lead_near _ (wbstar w place h l) = near_write part low (moved low h ++ c) (moved low h) (lead_near h l) 16 w (low + place) (inl refl) (omega arith)
-    lead_near _ (timer w place h l) = near_write part low (moved low h ++ c) (moved low h) (lead_near h l) 17 w (low + place) (inr (inl refl)) (omega arith)
-    lead_near _ (bspi w place h l) = near_write part low (moved low h ++ c) (moved low h) (lead_near h l) 31 w (low + place) (inr (inr refl)) (omega arith)
-    lead_near _ (null place h l) = near_null part low (moved low h ++ c) (moved low h) (lead_near h l) (low + place) (omega arith)
-    lead_near _ (bspi_read place h l) = near_spi part low (moved low h ++ c) (moved low h) (lead_near h l) (low + place) (omega arith)
-    lead_near _ (shutdown place h l) = near_shutdown part low (moved low h ++ c) (moved low h) (lead_near h l) (low + place) (omega arith)
+    lead_near _ (next a place h p l) = near_after a h (low + place) (omega arith) p (lead_near h l)
 
     clean_same : (h : History) → BeginsClean h → IsSame part low (moved low h ++ c) (moved low h)
     clean_same _ (clear place h l) = near_clear part low (moved low h ++ c) (moved low h) (lead_near h l) (low + place) (omega arith)
     clean_same _ (later e h b) = same_more part low (moved low h ++ c) (moved low h) (clean_same h b) (entry e.access (low + e.place)) (omega arith)
 
-    lead_stops : (h : History) (m : ℕ) → low ≤ m → MayPrecedeRcrc h → first_stop_of_history part kept (moved low h ++ c) m ≡ None
+    no_cause : (a : Access) (h : History) → MayPrecedeRcrc a → why_at_access part kept h a ≡ None
+    no_cause _ h (wbstar w) = why_none part kept h (Write 16 w) refl refl
+    no_cause _ h (timer w) = why_none part kept h (Write 17 w) refl refl
+    no_cause _ h (bspi w) = why_none part kept h (Write 31 w) refl refl
+    no_cause _ h null = why_none part kept h (Write 4 0) refl refl
+    no_cause _ h bspi_read = why_none part kept h (Write 4 18) refl refl
+    no_cause _ h shutdown = why_none part kept h (Write 4 11) refl refl
+
+    lead_stops : (h : History) (m : ℕ) → low ≤ m → AllPrecedeRcrc h → first_stop_of_history part kept (moved low h ++ c) m ≡ None
     lead_stops _ m k nothing = calm m k
-    lead_stops _ m k (wbstar w place h l) = goes_past part kept (moved low h ++ c) (Write 16 w) (low + place) m fell (lead_stops h (low + place) (omega arith) l) (why_none part kept (moved low h ++ c) (Write 16 w) refl refl)
-    lead_stops _ m k (timer w place h l) = goes_past part kept (moved low h ++ c) (Write 17 w) (low + place) m fell (lead_stops h (low + place) (omega arith) l) (why_none part kept (moved low h ++ c) (Write 17 w) refl refl)
-    lead_stops _ m k (bspi w place h l) = goes_past part kept (moved low h ++ c) (Write 31 w) (low + place) m fell (lead_stops h (low + place) (omega arith) l) (why_none part kept (moved low h ++ c) (Write 31 w) refl refl)
-    lead_stops _ m k (null place h l) = goes_past part kept (moved low h ++ c) (Write 4 0) (low + place) m fell (lead_stops h (low + place) (omega arith) l) (why_none part kept (moved low h ++ c) (Write 4 0) refl refl)
-    lead_stops _ m k (bspi_read place h l) = goes_past part kept (moved low h ++ c) (Write 4 18) (low + place) m fell (lead_stops h (low + place) (omega arith) l) (why_none part kept (moved low h ++ c) (Write 4 18) refl refl)
-    lead_stops _ m k (shutdown place h l) = goes_past part kept (moved low h ++ c) (Write 4 11) (low + place) m fell (lead_stops h (low + place) (omega arith) l) (why_none part kept (moved low h ++ c) (Write 4 11) refl refl)
+    lead_stops _ m k (next a place h p l) = goes_past part kept (moved low h ++ c) a (low + place) m fell (lead_stops h (low + place) (omega arith) l) (no_cause a (moved low h ++ c) p)
 
     clean_stops : (h : History) (m : ℕ) → low ≤ m → BeginsClean h → first_stop_of_history part power (moved low h) m ≡ None → first_stop_of_history part kept (moved low h ++ c) m ≡ None
     clean_stops _ m k (clear place h l) e = goes_past part kept (moved low h ++ c) (Write 4 7) (low + place) m fell (lead_stops h (low + place) (omega arith) l) (why_none part kept (moved low h ++ c) (Write 4 7) refl refl)
@@ -61,7 +67,7 @@ module _ (part : PartData) (kept power : Kept) (low : ℕ) (fell : is_fallback k
 
     -- a history that begins clean, or what may stand before
     abbrev pub IsClean : History → Type 0
-    IsClean h = MayPrecedeRcrc h ⊎ BeginsClean h
+    IsClean h = AllPrecedeRcrc h ⊎ BeginsClean h
 
     -- what a prefix comes to: no stop, startup as at power, and the same memory
     pub record ComesAlike (h : History) (m : ℕ) : Type 0 where
@@ -78,20 +84,15 @@ not_empty _ e (clear place h l) = absurd (cc)
 not_empty _ e (later x h b) = absurd (cc)
 
 abbrev pub AreClean : History → Type 0
-AreClean h = MayPrecedeRcrc h ⊎ BeginsClean h
+AreClean h = AllPrecedeRcrc h ⊎ BeginsClean h
 
 pick : (b : Bool) (x y : History) → AreClean x → AreClean y → AreClean (if b then x else y)
 pick true x y p q = p
 pick false x y p q = q
 
-lead_until : (n : ℕ) (h : History) → MayPrecedeRcrc h → AreClean (until n h)
+lead_until : (n : ℕ) (h : History) → AllPrecedeRcrc h → AreClean (until n h)
 lead_until n _ nothing = inl nothing
-lead_until n _ (wbstar w place h l) = pick (nat_lt n place) (until n h) (entry (Write 16 w) place ∷ h) (lead_until n h l) (inl (wbstar w place h l))
-lead_until n _ (timer w place h l) = pick (nat_lt n place) (until n h) (entry (Write 17 w) place ∷ h) (lead_until n h l) (inl (timer w place h l))
-lead_until n _ (bspi w place h l) = pick (nat_lt n place) (until n h) (entry (Write 31 w) place ∷ h) (lead_until n h l) (inl (bspi w place h l))
-lead_until n _ (null place h l) = pick (nat_lt n place) (until n h) (entry (Write 4 0) place ∷ h) (lead_until n h l) (inl (null place h l))
-lead_until n _ (bspi_read place h l) = pick (nat_lt n place) (until n h) (entry (Write 4 18) place ∷ h) (lead_until n h l) (inl (bspi_read place h l))
-lead_until n _ (shutdown place h l) = pick (nat_lt n place) (until n h) (entry (Write 4 11) place ∷ h) (lead_until n h l) (inl (shutdown place h l))
+lead_until n _ (next a place h p l) = pick (nat_lt n place) (until n h) (entry a place ∷ h) (lead_until n h l) (inl (next a place h p l))
 
 pub clean_until : (n : ℕ) (h : History) → BeginsClean h → AreClean (until n h)
 clean_until n _ (clear place h l) = pick (nat_lt n place) (until n h) (entry (Write 4 7) place ∷ h) (lead_until n h l) (inr (clear place h l))

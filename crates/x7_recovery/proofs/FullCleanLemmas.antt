@@ -38,7 +38,7 @@ use Rattle.x7_boot.specs.Attempt.{EndsFirst, AttemptCourse, ending_by, failed_by
 use Rattle.x7_boot.specs.Boot.{at_power}
 use Rattle.x7_boot.specs.declared.attempt.Ending.TheVariants as ending
 use Rattle.x7_boot.proofs.StartLemmas.{prefix_goes}
-use Rattle.x7_recovery.specs.Clean.{BeginsClean, StartsClean, clear, later, nothing, shutdown}
+use Rattle.x7_recovery.specs.Clean.{BeginsClean, StartsClean, clear, later, next, nothing, shutdown}
 use Rattle.x7_recovery.specs.Golden.{StartsAsPlanned, with_erased}
 use Rattle.x7_recovery.specs.Recovery.{IsPrepared, Updating}
 use Rattle.x7_recovery.proofs.CleanStopLemmas.{not_empty}
@@ -54,7 +54,7 @@ words_clean place (w ∷ ws) h b = words_clean (place + 4) ws (entry (access.Wri
 pieces_clean : (part : PartData) (plan : PlanData) (place : ℕ) → BeginsClean (written place (items.full_pieces part plan) [])
 pieces_clean part plan place =
     let ws : List ℕ = joined (frames_at part plan (slots_in part)) in
-    later _ _ (later _ _ (later _ _ (later _ _ (words_clean _ ws _ (later _ _ (later _ _ (later _ _ (later _ _ (later _ _ (later _ _ (clear _ _ (shutdown _ [] nothing))))))))))))
+    later _ _ (later _ _ (later _ _ (later _ _ (words_clean _ ws _ (later _ _ (later _ _ (later _ _ (later _ _ (later _ _ (later _ _ (clear _ _ (next _ _ [] shutdown nothing))))))))))))
 
 stream_clean : (part : PartData) (plan : PlanData) → IsPart part → IsPlanFor part plan → BeginsClean (history_of (full_stream part plan))
 stream_clean part plan is for =

@@ -3,7 +3,7 @@
 -- begin so, which is no promise.
 use Rattle.std.specs.Prelude.{◌≡◌, ℕ, List, [], ◌∷◌, None, drop}
 use Rattle.x7_words.specs.Word.{AreBytes}
-use Rattle.x7_packets.specs.History.{Entry, History, Write, entry, history_of}
+use Rattle.x7_packets.specs.History.{Access, Entry, History, Write, entry, history_of}
 use Rattle.x7_packets.specs.FlashSlot.{sector_size}
 use Rattle.x7_part.specs.Part.{PartData}
 use Rattle.x7_regs.specs.Command.{code_of}
@@ -14,21 +14,23 @@ use Rattle.x7_engine.specs.State.{first_stop_of_bytes}
 use Rattle.x7_boot.specs.Attempt.{AttemptCourse}
 use Rattle.x7_recovery.specs.Golden.{StartsAtPower, with_erased}
 
--- a history of accesses that may stand before RCRC: words for WBSTAR, TIMER and BSPI, and the commands NULL, BSPI_READ
--- and SHUTDOWN
-pub data MayPrecedeRcrc : History → Type 0 where
-  nothing : MayPrecedeRcrc []
-  wbstar : (w place : ℕ) (h : History) → MayPrecedeRcrc h → MayPrecedeRcrc (entry (Write (number_of reg.Wbstar) w) place ∷ h)
-  timer : (w place : ℕ) (h : History) → MayPrecedeRcrc h → MayPrecedeRcrc (entry (Write (number_of reg.Timer) w) place ∷ h)
-  bspi : (w place : ℕ) (h : History) → MayPrecedeRcrc h → MayPrecedeRcrc (entry (Write (number_of reg.Bspi) w) place ∷ h)
-  null : (place : ℕ) (h : History) → MayPrecedeRcrc h → MayPrecedeRcrc (entry (Write (number_of reg.Cmd) (code_of command.Null)) place ∷ h)
-  bspi_read : (place : ℕ) (h : History) → MayPrecedeRcrc h → MayPrecedeRcrc (entry (Write (number_of reg.Cmd) (code_of command.BspiRead)) place ∷ h)
-  shutdown : (place : ℕ) (h : History) → MayPrecedeRcrc h → MayPrecedeRcrc (entry (Write (number_of reg.Cmd) (code_of command.Shutdown)) place ∷ h)
+-- an access that may stand before RCRC: a word for WBSTAR, TIMER or BSPI, or the command NULL, BSPI_READ or SHUTDOWN
+pub data MayPrecedeRcrc : Access → Type 0 where
+  wbstar : (w : ℕ) → MayPrecedeRcrc (Write (number_of reg.Wbstar) w)
+  timer : (w : ℕ) → MayPrecedeRcrc (Write (number_of reg.Timer) w)
+  bspi : (w : ℕ) → MayPrecedeRcrc (Write (number_of reg.Bspi) w)
+  null : MayPrecedeRcrc (Write (number_of reg.Cmd) (code_of command.Null))
+  bspi_read : MayPrecedeRcrc (Write (number_of reg.Cmd) (code_of command.BspiRead))
+  shutdown : MayPrecedeRcrc (Write (number_of reg.Cmd) (code_of command.Shutdown))
 
--- a history with an RCRC before which stand only words for WBSTAR, TIMER and BSPI, and
--- the commands NULL, BSPI_READ and SHUTDOWN
+-- a history of such accesses alone
+pub data AllPrecedeRcrc : History → Type 0 where
+  nothing : AllPrecedeRcrc []
+  next : (access : Access) (place : ℕ) (h : History) → MayPrecedeRcrc access → AllPrecedeRcrc h → AllPrecedeRcrc (entry access place ∷ h)
+
+-- a history with an RCRC before which such accesses alone stand
 pub data BeginsClean : History → Type 0 where
-  clear : (place : ℕ) (h : History) → MayPrecedeRcrc h → BeginsClean (entry (Write (number_of reg.Cmd) (code_of command.Rcrc)) place ∷ h)
+  clear : (place : ℕ) (h : History) → AllPrecedeRcrc h → BeginsClean (entry (Write (number_of reg.Cmd) (code_of command.Rcrc)) place ∷ h)
   later : (e : Entry) (h : History) → BeginsClean h → BeginsClean (e ∷ h)
 
 -- With the first sector of the flash erased the attempt at power starts with the golden stream, which begins clean, and
