@@ -85,8 +85,8 @@ fn fill(out: &mut Vec<u8>, place: u64) -> Result<(), NoMemory>
     Ok(())
 }
 
-/// Makes `out`, which is empty, the image of `size` bytes, with the update at its place, to which the first sector leads
-/// by the start address `start`.
+/// Makes `out`, which is empty, the image of `size` bytes, with the update at its place, to which the first sector
+/// leads by the start address `start`.
 fn put_image(
     alloc: Global,
     out: &mut Vec<u8>,
