@@ -1,5 +1,5 @@
 //! A flash image with a golden and an update stream.
-ghost use Rattle.std.specs.Prelude.{◌≡◌, ◌+◌, ◌-◌, ◌*◌, ◌/◌, ◌<◌, ◌≤◌, ◌++◌, ◌↔◌, [], length, Err, IfOk, IfSome, OnOk, IfNone};
+ghost use Rattle.std.specs.Prelude.{◌≡◌, ◌+◌, ◌-◌, ◌*◌, ◌/◌, ◌<◌, ◌≤◌, ◌++◌, ◌↔◌, length, Err, IfOk, IfSome, OnOk, IfNone};
 ghost use Rattle.x7_packets.specs.FlashSlot.{sector_size, flash_slot_size};
 ghost use Rattle.x7_boot.specs.Image.{free_slots, filled_to, first_sector, flash_limit, image_of, image_size, sector_from, slot, place_after_golden};
 
@@ -69,8 +69,8 @@ fn put_first_sector(alloc: Global, out: &mut Vec<u8>, start: u32) -> Result<(), 
     ensures items { OnOk result (out.new.items ≡ out.old.items ++ first_sector start) }
     ensures length { OnOk result (length out.new.items ≡ length out.old.items + sector_size) }
 {
-    out.extend_from_slice(&slot(SYNC_WORD, start))?;
     let free = free_slots(alloc, start)?;
+    out.extend_from_slice(&slot(SYNC_WORD, start))?;
     out.extend_from_slice(&free)?;
     Ok(())
 }
@@ -85,31 +85,8 @@ fn fill(out: &mut Vec<u8>, place: u64) -> Result<(), NoMemory>
     Ok(())
 }
 
-/// Makes `out`, which is empty, the image of `size` bytes, with the update at its place, to which the first sector
-/// leads by the start address `start`.
-fn put_image(
-    alloc: Global,
-    out: &mut Vec<u8>,
-    start: u32,
-    golden: &[u8],
-    update_place: u64,
-    update: &[u8],
-    size: u64,
-) -> Result<(), NoMemory>
-    requires empty { out.old.items ≡ [] }
-    requires golden { length golden.now + sector_size ≤ update_place }
-    requires update { update_place + length update.now ≤ size }
-    ensures { OnOk result (out.new.items ≡ filled_to size (filled_to update_place (first_sector start ++ golden.now) ++ update.now)) }
-{
-    put_first_sector(alloc, out, start)?;
-    out.extend_from_slice(golden)?;
-    fill(out, update_place)?;
-    out.extend_from_slice(update)?;
-    fill(out, size)
-}
-
-/// The image of `size` bytes, with the update at its place, to which the first sector leads by the start address
-/// `start`.
+/// The image of `size` bytes, with the update at its place, to which the first
+/// sector leads by the start address `start`.
 fn image_of_size(
     alloc: Global,
     start: u32,
@@ -123,7 +100,11 @@ fn image_of_size(
     ensures { IfOk result (λ all. all.items ≡ filled_to size (filled_to update_place (first_sector start ++ golden.now) ++ update.now)) }
 {
     let mut all = Vec::with_capacity(alloc, size as usize)?;
-    put_image(alloc, &mut all, start, golden, update_place, update, size)?;
+    put_first_sector(alloc, &mut all, start)?;
+    all.extend_from_slice(golden)?;
+    fill(&mut all, update_place)?;
+    all.extend_from_slice(update)?;
+    fill(&mut all, size)?;
     Ok(all)
 }
 
