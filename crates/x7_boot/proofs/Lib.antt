@@ -9,5 +9,4 @@ pub mod OverLemmas
 pub mod PageLemmas
 pub mod StartLemmas
 pub mod TookLemmas
-pub mod FaultLemmas
 pub mod FlashAttemptLemmas

@@ -1,11 +1,12 @@
 //! The boot of a device from a flash.
-ghost use Rattle.std.specs.Prelude.{◌≡◌, ◌<◌, ◌↔◌, true, Err, IfOk, IsErrOf, OnOk};
+ghost use Rattle.std.specs.Prelude.{◌≡◌, ◌<◌, ◌≤◌, ◌↔◌, [], true, Err, IfOk, IsErrOf, OnOk};
 ghost use Rattle.x7_words.specs.Flash.{FlashFails, IfKnown};
 ghost use Rattle.x7_words.specs.Word.{AreBytes};
 ghost use Rattle.x7_words.specs.FlashCalls.{CallOnlyReads};
 ghost use Rattle.x7_engine.specs.Standing.{NoWordDue};
 ghost use Rattle.x7_boot.specs.Boot.{BootedState, IsBoot};
 ghost use Rattle.x7_boot.specs.Image.{flash_limit};
+ghost use Rattle.x7_boot.specs.Pages.{FaultsCounted};
 
 use crate::attempt::Ending;
 use crate::cache::PageCache;
@@ -96,6 +97,95 @@ const AT_POWER: Kept = Kept {
     before: None,
 };
 
+/// Tries attempt after attempt with a new device, and adds each to `attempts`, up to the end of the boot.
+fn try_all<F: Flash>(
+    device: &mut Device,
+    flash: &mut F,
+    pages: &mut PageCache,
+    attempts: &mut Vec<Tried>,
+) -> Result<BootEnd, BootFault>
+    requires attached { (F.state flash.old).attached ≡ true }
+    requires limit { (F.state flash.old).extent ≤ flash_limit }
+    requires no_pages { pages.old.pages.entries ≡ [] }
+    requires none_tried { attempts.old.items ≡ [] }
+    ensures booted { IfOk result (λ end. IfKnown (F.state flash.old).bytes (λ all. AreBytes all →
+        IsBoot device.old.part all (record { attempts = attempts.new.items; end = end; device = device.new }))) }
+    ensures part { IfOk result (λ end. device.new.part ≡ device.old.part) }
+    ensures no_word_due { IfOk result (λ end. NoWordDue device.new) }
+    ensures faults { FaultsCounted (F.state flash.old).faults (F.state flash.new).faults result }
+    ensures only_reads { CallOnlyReads F.Flash flash.old flash.new }
+{
+    let mut kept = AT_POWER;
+    let mut address = 0;
+    let mut number = 0;
+    'attempts: loop {
+        let ending = try_once(device, flash, pages, kept, address)?;
+        let Ok(()) = attempts.push(Tried {
+            kind: kept.kind,
+            address,
+            ending,
+        }) else {
+            return Err(BootFault::NoMemory);
+        };
+        number += 1;
+        match next_by(device, kept.kind, number, ending) {
+            Next::Again {
+                kept: next_kept,
+                address: next_address,
+            } => {
+                kept = next_kept;
+                address = next_address;
+            }
+            Next::Ends(end) => return Ok(end),
+        }
+    }
+}
+
+/// Boots a new device from a flash, and adds its attempts to `attempts`.
+fn boot_device<F: Flash>(
+    alloc: Global,
+    device: &mut Device,
+    flash: &mut F,
+    attempts: &mut Vec<Tried>,
+) -> Result<BootEnd, BootFault>
+    requires attached { (F.state flash.old).attached ≡ true }
+    requires limit { (F.state flash.old).extent ≤ flash_limit }
+    requires none_tried { attempts.old.items ≡ [] }
+    ensures booted { IfOk result (λ end. IfKnown (F.state flash.old).bytes (λ all. AreBytes all →
+        IsBoot device.old.part all (record { attempts = attempts.new.items; end = end; device = device.new }))) }
+    ensures part { IfOk result (λ end. device.new.part ≡ device.old.part) }
+    ensures no_word_due { IfOk result (λ end. NoWordDue device.new) }
+    ensures faults { FaultsCounted (F.state flash.old).faults (F.state flash.new).faults result }
+    ensures only_reads { CallOnlyReads F.Flash flash.old flash.new }
+{
+    let Ok(mut pages) = PageCache::new(alloc) else {
+        return Err(BootFault::NoMemory);
+    };
+    try_all(device, flash, &mut pages, attempts)
+}
+
+/// Boots a device of a part from a flash that isn't too large.
+fn boot_part<F: Flash>(alloc: Global, part: &Part, flash: &mut F) -> Result<Booted, BootFault>
+    requires attached { (F.state flash.old).attached ≡ true }
+    requires limit { (F.state flash.old).extent ≤ flash_limit }
+    ensures booted { IfOk result (λ booted. IfKnown (F.state flash.old).bytes (λ all. AreBytes all → IsBoot part.now all booted)) }
+    ensures part { IfOk result (λ booted. booted.device.part ≡ part.now) }
+    ensures no_word_due { IfOk result (λ booted. NoWordDue booted.device) }
+    ensures faults { FaultsCounted (F.state flash.old).faults (F.state flash.new).faults result }
+    ensures only_reads { CallOnlyReads F.Flash flash.old flash.new }
+{
+    let Ok(mut device) = Device::new(alloc, part) else {
+        return Err(BootFault::NoMemory);
+    };
+    let mut attempts = Vec::new(alloc);
+    let end = boot_device(alloc, &mut device, flash, &mut attempts)?;
+    Ok(Booted {
+        attempts,
+        end,
+        device,
+    })
+}
+
 /// Boots a device of a part from a flash: attempt after attempt, as the table of UG470, MultiBoot and fallback, leads
 /// from the end of one to the next. Nothing is read of a flash that is too large.
 pub fn boot<F: Flash>(alloc: Global, part: &Part, flash: &mut F) -> Result<Booted, BootFault>
@@ -113,39 +203,5 @@ pub fn boot<F: Flash>(alloc: Global, part: &Part, flash: &mut F) -> Result<Boote
     if flash.size() > FLASH_LIMIT {
         return Err(BootFault::TooLarge);
     }
-    let Ok(mut device) = Device::new(alloc, part) else {
-        return Err(BootFault::NoMemory);
-    };
-    let mut attempts = Vec::new(alloc);
-    let Ok(mut pages) = PageCache::new(alloc) else {
-        return Err(BootFault::NoMemory);
-    };
-    let mut kept = AT_POWER;
-    let mut address = 0;
-    let mut number = 0;
-    'attempts: loop {
-        let ending = try_once(&mut device, flash, &mut pages, kept, address)?;
-        let Ok(()) = attempts.push(Tried {
-            kind: kept.kind,
-            address,
-            ending,
-        }) else {
-            return Err(BootFault::NoMemory);
-        };
-        number += 1;
-        match next_by(&device, kept.kind, number, ending) {
-            Next::Again {
-                kept: next_kept,
-                address: next_address,
-            } => {
-                kept = next_kept;
-                address = next_address;
-            }
-            Next::Ends(end) => return Ok(Booted {
-                attempts,
-                end,
-                device,
-            }),
-        }
-    }
+    boot_part(alloc, part, flash)
 }

@@ -1,7 +1,8 @@
 -- The value of hexadecimal digits, and the least count of bits that it fits.
-use Rattle.std.proofs.Common.{◌≡◌, inl, inr, ℕ, zero, suc, ◌+◌, ◌-◌, ◌*◌, ◌^◌, ◌<◌, ◌≤◌, ◌&&◌, nat_le, nat_lt, Bool, true, false, List, [], ◌∷◌, length, take, drop, get_or, refl, sym, subst, ◌∙◌, arith}
+use Rattle.std.proofs.Common.{◌≡◌, inl, inr, ℕ, zero, suc, ◌+◌, ◌-◌, ◌*◌, ◌^◌, ◌<◌, ◌≤◌, ◌&&◌, nat_le, nat_lt, Bool, true, false, List, [], ◌∷◌, length, take, drop, get_or, refl, ap, sym, subst, ◌∙◌, arith}
 use Rattle.std.proofs.Math.Pow.{pow_mono}
 use Rattle.std.proofs.Math.Nat.{mul-le-mul_right}
+use Rattle.std.proofs.Math.Seq.{take_all}
 use Rattle.std.proofs.lemmas.Bool.{cases_lt}
 use Rattle.std.proofs.lemmas.List.{length-take-le}
 use Rattle.std.proofs.lemmas.Nat.{pow-add}
@@ -87,6 +88,20 @@ width_at (c ∷ cs) value w all n h d l e f =
     let long : length (take (length (c ∷ cs) - 1) cs) ≡ length (c ∷ cs) - 1 = length-take-le (length (c ∷ cs) - 1) cs (omega arith) in
     let bits : 4 * length cs + w ≡ all = omega (arith, f, long) in
     subst (λ v. IsWidth v all) (sym e) (subst (λ b. IsWidth (hex_value (c ∷ cs)) b) bits (first_width c cs w parts.1 d l))
+
+-- where the first digit is 0, the value is that of the others
+pub rest_on : (xs : List ℕ) (value w : ℕ) → 1 ≤ length xs → are_hex xs ≡ true → IsWidth (digit_number (get_or xs 0 0)) w → w ≤ 0 → value ≡ hex_value xs
+    → (value ≡ hex_value (take (length xs - 1) (drop 1 xs))) × (are_hex (take (length xs - 1) (drop 1 xs)) ≡ true)
+rest_on [] value w n h d l e = absurd (omega (arith, n))
+rest_on (c ∷ cs) value w n h d l e =
+    let parts : (is_hex_digit c ≡ true) × (are_hex cs ≡ true) = both (is_hex_digit c) (are_hex cs) h in
+    let all : take (length (c ∷ cs) - 1) cs ≡ cs = take_all (length (c ∷ cs) - 1) cs (omega arith) in
+    let none : w ≡ 0 = omega (arith, l) in
+    let below : digit_number c < 2 ^ 0 = subst (λ (k : ℕ). digit_number c < 2 ^ k) none d.above in
+    let zero : digit_number c ≡ 0 = omega (arith, below) in
+    let first : value ≡ 0 * 2 ^ (4 * length cs) + hex_value cs = e ∙ ap (λ (x : ℕ). x * 2 ^ (4 * length cs) + hex_value cs) zero in
+    let tail : value ≡ hex_value cs = omega (arith, first) in
+    (tail ∙ ap hex_value (sym all), ap are_hex all ∙ parts.1)
 
 pub width_test : (v w n : ℕ) → IsWidth v w → nat_le w n ≡ nat_lt v (2 ^ n)
 width_test v w n d = elim (cases_lt n w) [

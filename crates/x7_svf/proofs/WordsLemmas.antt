@@ -1,13 +1,21 @@
 -- The words of a statement, one by one; no statement has more than four.
-use Rattle.std.proofs.Common.{◌≡◌, ℕ, ◌||◌, ◌≤◌, Bool, true, false, if◌then◌else◌, List, [], ◌∷◌, ◌++◌, length, take, Option, Some, None, codes, refl, ap, sym, ◌∙◌, append_assoc, append-nil, arith}
+use Rattle.std.proofs.Common.{◌≡◌, ℕ, ◌&&◌, ◌||◌, ◌≤◌, Bool, true, false, if◌then◌else◌, List, [], ◌∷◌, ◌++◌, length, take, Option, Some, None, codes, refl, ap, sym, ◌∙◌, append_assoc, append-nil, arith}
+use Rattle.std.specs.Char.{to_ascii_lowercase}
 use Rattle.std.specs.List.{list_all}
+use Rattle.std.specs.Prelude.{nat_eq}
+use Rattle.std.proofs.lemmas.Grind.{common_steps}
 use Rattle.x7_svf.specs.Token.{Token, TokenOnLine, token_of}
 use Rattle.x7_svf.specs.Source.{SourceState, left_after}
-use Rattle.x7_svf.specs.Words.{is_free_token, is_keyword, statement_if_words, statement_of_words, word_before, words_of}
+use Rattle.x7_svf.specs.Span.{words_kept}
+use Rattle.x7_svf.specs.Words.{is_free_token, is_keyword, runtest_statement, statement_if_words, statement_of_words, word_before, words_of}
 use Rattle.x7_svf.specs.Svf.{tokens_before_end}
 use Rattle.x7_svf.specs.declared.token.NextToken.{NextToken}
 use Rattle.x7_svf.specs.declared.token.NextToken.TheVariants as next_token
+use Rattle.x7_svf.specs.declared.span.Span.{Span}
 use Rattle.x7_svf.specs.declared.statement.Statement.{Statement}
+use Rattle.x7_svf.specs.declared.words.KeptWords.{KeptWords}
+use Rattle.x7_svf.specs.declared.words.KeptWords.TheVariants as words
+use Rattle.x7_svf.proofs.ValueLemmas.{both}
 
 -- words after words
 abbrev pub after_words : List (List ℕ) → Option (List (List ℕ)) → Option (List (List ℕ))
@@ -60,3 +68,56 @@ all_said key ms ws tokens same e = ap (statement_if_words key) (same ∙ ap (λ 
 -- a token that may stand among any words
 pub free_on : (m : Token) (ms : List Token) → is_free_token m ≡ true → list_all is_free_token (m ∷ ms) ≡ list_all is_free_token ms
 free_on m ms e = rw e refl
+
+-- ---- words that are kept
+
+-- a keyword is one alone
+other_value : (n : ℕ) → nat_eq n 114 ≡ true → nat_eq n 115 ≡ false
+other_value n h = grind (arith, common_steps)
+
+first_false : (a b : Bool) → a ≡ false → (a && b) ≡ false
+first_false true b e = absurd cc
+first_false false b e = refl
+
+not_state : (k : List ℕ) → is_keyword k (codes "RUNTEST") ≡ true → is_keyword k (codes "STATE") ≡ false
+not_state [] h = refl
+not_state (c ∷ cs) h =
+    let parts = both (nat_eq (to_ascii_lowercase c) 114) _ h in
+    first_false (nat_eq (to_ascii_lowercase c) 115) _ (other_value (to_ascii_lowercase c) parts.0)
+
+second : (a b : Bool) (x y z : Option Statement) → a ≡ false → b ≡ true → (if a then x else (if b then y else z)) ≡ y
+second true b x y z e f = absurd cc
+second false true x y z e f = refl
+second false false x y z e f = absurd cc
+
+-- what RUNTEST and the words after it say
+pub run_said : (k : List ℕ) (ws : List (List ℕ)) → is_keyword k (codes "RUNTEST") ≡ true → statement_of_words k ws ≡ runtest_statement ws
+run_said k ws h = second (is_keyword k (codes "STATE")) (is_keyword k (codes "RUNTEST")) _ _ _ (not_state k h) h
+
+-- no run is said by fewer words than two
+pub no_run : (kept : List ℕ) (ws : KeptWords) → ((a b : Span) → ws ≡ words.Two a b → ⊥) → ((a b c : Span) → ws ≡ words.Three a b c → ⊥) → ((a b c d : Span) → ws ≡ words.Four a b c d → ⊥)
+    → None ≡ runtest_statement (words_kept kept ws)
+no_run kept words.None two three four = refl
+no_run kept (words.One a) two three four = refl
+no_run kept (words.Two a b) two three four = absurd (two a b refl)
+no_run kept (words.Three a b c) two three four = absurd (three a b c refl)
+no_run kept (words.Four a b c d) two three four = absurd (four a b c d refl)
+
+unless_run : (b : Bool) (x y : Option Statement) → b ≡ false → y ≡ None → (if b then x else y) ≡ None
+unless_run true x y e f = absurd cc
+unless_run false x y e f = f
+
+nothing_said : (k : List ℕ) (x : Option Statement) → is_keyword k (codes "RUNTEST") ≡ false
+    → (if is_keyword k (codes "STATE") then None else (if is_keyword k (codes "RUNTEST") then x else (if is_keyword k (codes "ENDIR") || is_keyword k (codes "ENDDR") then None
+        else (if is_keyword k (codes "HIR") || is_keyword k (codes "HDR") || is_keyword k (codes "TIR") || is_keyword k (codes "TDR") then None else (if is_keyword k (codes "TRST") then None else None))))) ≡ None
+nothing_said k x h =
+    none_if (is_keyword k (codes "STATE")) _ (unless_run (is_keyword k (codes "RUNTEST")) x _ h (none_if (is_keyword k (codes "ENDIR") || is_keyword k (codes "ENDDR")) _
+    (none_if (is_keyword k (codes "HIR") || is_keyword k (codes "HDR") || is_keyword k (codes "TIR") || is_keyword k (codes "TDR")) _ (none_if (is_keyword k (codes "TRST")) None refl))))
+
+-- another keyword says nothing but with one word
+pub not_one : (k kept : List ℕ) (ws : KeptWords) → is_keyword k (codes "RUNTEST") ≡ false → ((a : Span) → ws ≡ words.One a → ⊥) → None ≡ statement_of_words k (words_kept kept ws)
+not_one k kept words.None h one = sym (nothing_said k _ h)
+not_one k kept (words.One a) h one = absurd (one a refl)
+not_one k kept (words.Two a b) h one = sym (nothing_said k _ h)
+not_one k kept (words.Three a b c) h one = sym (nothing_said k _ h)
+not_one k kept (words.Four a b c d) h one = sym (nothing_said k _ h)

@@ -1,7 +1,6 @@
 -- What a statement of words alone says (this project's profile of SVF).
-use Rattle.std.specs.Prelude.{ℕ, ◌==◌, ◌||◌, ◌&&◌, not, nat_le, nat_lt, Bool, true, if◌then◌else◌, List, [], ◌∷◌, Option, Some, None, codes, map, length}
+use Rattle.std.specs.Prelude.{ℕ, ◌==◌, ◌||◌, ◌&&◌, not, nat_le, nat_lt, Bool, true, if◌then◌else◌, List, [], ◌∷◌, Option, Some, None, codes, length}
 use Rattle.std.specs.List.{list_all}
-use Rattle.std.specs.Borrow.{Bor}
 use Rattle.std.specs.Str.{str_eq_ignore_ascii_case}
 use Rattle.std.specs.Str.Parse.{digits_value}
 use Rattle.x7_words.specs.Characters.{exponent_byte, is_decimal_digit, minus_byte, plus_byte, point_byte, return_byte}
@@ -110,7 +109,3 @@ statement_if_words k (Some ws) = statement_of_words k ws
 abbrev pub is_free_token : Token → Bool
 is_free_token (Word w) = is_free_word w
 is_free_token _ = true
-
--- the bytes of each word
-abbrev pub word_list : List (Bor (List ℕ)) → List (List ℕ)
-word_list ws = map (λ w. w.now) ws

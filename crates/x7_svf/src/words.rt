@@ -1,7 +1,8 @@
 //! Statements of words alone.
-ghost use Rattle.std.specs.Prelude.{◌≡◌, ◌<◌, ◌&&◌, ◌≤◌, ◌∷◌, ◌++◌, ℕ, [], List, length, codes, IfSome, IfNone, Option, Some, None};
+ghost use Rattle.std.specs.Prelude.{◌≡◌, ◌<◌, ◌&&◌, ◌||◌, ◌≤◌, ◌∷◌, ◌++◌, ℕ, [], List, false, length, codes, IfSome, IfNone, Option, Some, None};
 ghost use Rattle.x7_words.specs.Characters.{is_decimal_digit};
-ghost use Rattle.x7_svf.specs.Words.{chain_statement, end_state_statement, is_free_byte, is_free_word, is_keyword, is_time, is_time_byte, most_clocks, number_within, run_by, runtest_statement, state_statement, statement_of_words, trst_statement, word_list};
+ghost use Rattle.x7_svf.specs.Words.{is_free_byte, is_free_word, is_keyword, is_time, is_time_byte, most_clocks, number_within, run_by, run_if, runtest_statement, some_if, state_statement, statement_of_words};
+ghost use Rattle.x7_svf.specs.declared.statement.Statement.{Statement as StatementData};
 ghost use Rattle.x7_svf.specs.Span.{AreWordsWithin, bytes_in, span_end, words_kept};
 ghost use Rattle.x7_svf.specs.Stored.{IsStored};
 ghost use Rattle.std.specs.List.{list_all};
@@ -94,21 +95,34 @@ fn run_for(digits: &[u8]) -> Option<StoredStatement>
     Some(StoredStatement::Run(count))
 }
 
-/// The statement of the words after STATE.
-fn state_statement(words: &[&[u8]]) -> Option<StoredStatement>
-    ensures { IsStored [] result (state_statement (word_list words.now)) }
+/// The run of as many clocks as the digits say, where the condition is met.
+fn run_if(is_met: bool, digits: &[u8]) -> Option<StoredStatement>
+    ensures { IsStored [] result (run_if is_met digits.now) }
 {
-    match words {
-        [word] => {
-            if is_keyword(word, b"RESET") {
-                Some(StoredStatement::Reset)
-            } else if is_keyword(word, b"IDLE") {
-                Some(StoredStatement::Idle)
-            } else {
-                None
-            }
-        }
-        _ => None,
+    if is_met { run_for(digits) } else { None }
+}
+
+/// The statement of no clock, where the condition is met.
+fn nothing_if(is_met: bool) -> Option<StoredStatement>
+    ensures { IsStored [] result (some_if is_met StatementData.Nothing) }
+{
+    if is_met {
+        Some(StoredStatement::Nothing)
+    } else {
+        None
+    }
+}
+
+/// The statement of the word after STATE.
+fn state_statement(word: &[u8]) -> Option<StoredStatement>
+    ensures { IsStored [] result (state_statement (word.now ∷ [])) }
+{
+    if is_keyword(word, b"RESET") {
+        Some(StoredStatement::Reset)
+    } else if is_keyword(word, b"IDLE") {
+        Some(StoredStatement::Idle)
+    } else {
+        None
     }
 }
 
@@ -126,111 +140,49 @@ fn are_timed_clocks(unit: &[u8], time: &[u8], second: &[u8]) -> bool
     is_keyword(unit, b"TCK") && is_time(time) && is_keyword(second, b"SEC")
 }
 
-/// The statement of the words after RUNTEST.
-fn runtest_statement(words: &[&[u8]]) -> Option<StoredStatement>
-    ensures { IsStored [] result (runtest_statement (word_list words.now)) }
+/// The statement of two words after RUNTEST: a count of clocks, or a time.
+fn run_or_time(count: &[u8], unit: &[u8]) -> Option<StoredStatement>
+    ensures { IsStored [] result (runtest_statement (count.now ∷ unit.now ∷ [])) }
 {
-    match words {
-        [count, unit] => {
-            if is_keyword(unit, b"TCK") {
-                run_for(count)
-            } else if is_keyword(unit, b"SEC") && is_time(count) {
-                Some(StoredStatement::Nothing)
-            } else {
-                None
-            }
-        }
-        [state, count, unit] => {
-            if are_idle_clocks(state, unit) {
-                run_for(count)
-            } else {
-                None
-            }
-        }
-        [count, unit, time, second] => {
-            if are_timed_clocks(unit, time, second) {
-                run_for(count)
-            } else {
-                None
-            }
-        }
-        _ => None,
+    if is_keyword(unit, b"TCK") {
+        run_for(count)
+    } else {
+        nothing_if(is_keyword(unit, b"SEC") && is_time(count))
     }
 }
 
-/// The statement of the words after ENDIR or ENDDR: IDLE alone.
-fn end_state_statement(words: &[&[u8]]) -> Option<StoredStatement>
-    ensures { IsStored [] result (end_state_statement (word_list words.now)) }
+/// Whether a word is ENDIR or ENDDR.
+fn is_end_state(key: &[u8]) -> bool
+    ensures { result ≡ (is_keyword key.now (codes "ENDIR") || is_keyword key.now (codes "ENDDR")) }
 {
-    match words {
-        [word] => {
-            if is_keyword(word, b"IDLE") {
-                Some(StoredStatement::Nothing)
-            } else {
-                None
-            }
-        }
-        _ => None,
-    }
+    is_keyword(key, b"ENDIR") || is_keyword(key, b"ENDDR")
 }
 
-/// The statement of the words after HIR, HDR, TIR or TDR, the bits of other devices in the chain: 0 alone, as none
-/// stands in it.
-fn chain_statement(words: &[&[u8]]) -> Option<StoredStatement>
-    ensures { IsStored [] result (chain_statement (word_list words.now)) }
+/// Whether a word is HIR, HDR, TIR or TDR: what comes after it are bits of other devices in the chain.
+fn is_chain(key: &[u8]) -> bool
+    ensures { result ≡ (is_keyword key.now (codes "HIR") || is_keyword key.now (codes "HDR") || is_keyword key.now (codes "TIR") || is_keyword key.now (codes "TDR")) }
 {
-    match words {
-        [word] => {
-            if is_keyword(word, b"0") {
-                Some(StoredStatement::Nothing)
-            } else {
-                None
-            }
-        }
-        _ => None,
-    }
-}
-
-/// The statement of the words after TRST.
-fn trst_statement(words: &[&[u8]]) -> Option<StoredStatement>
-    ensures { IsStored [] result (trst_statement (word_list words.now)) }
-{
-    match words {
-        [word] => {
-            if is_free_word(word) {
-                Some(StoredStatement::Nothing)
-            } else {
-                None
-            }
-        }
-        _ => None,
-    }
-}
-
-/// The statement of a keyword and the words after it.
-fn statement_of_words(key: &[u8], words: &[&[u8]]) -> Option<StoredStatement>
-    ensures { IsStored [] result (statement_of_words key.now (word_list words.now)) }
-{
-    if is_keyword(key, b"STATE") {
-        return state_statement(words);
-    }
-    if is_keyword(key, b"RUNTEST") {
-        return runtest_statement(words);
-    }
-    if is_keyword(key, b"ENDIR") || is_keyword(key, b"ENDDR") {
-        return end_state_statement(words);
-    }
-    if is_keyword(key, b"HIR")
+    is_keyword(key, b"HIR")
         || is_keyword(key, b"HDR")
         || is_keyword(key, b"TIR")
         || is_keyword(key, b"TDR")
-    {
-        return chain_statement(words);
+}
+
+/// The statement of a keyword, which isn't RUNTEST, and the word after it. ENDIR and ENDDR take IDLE alone, and HIR,
+/// HDR, TIR and TDR 0, as no other device stands in the chain.
+fn statement_of_word(key: &[u8], word: &[u8]) -> Option<StoredStatement>
+    requires { is_keyword key.now (codes "RUNTEST") ≡ false }
+    ensures { IsStored [] result (statement_of_words key.now (word.now ∷ [])) }
+{
+    if is_keyword(key, b"STATE") {
+        state_statement(word)
+    } else if is_end_state(key) {
+        nothing_if(is_keyword(word, b"IDLE"))
+    } else if is_chain(key) {
+        nothing_if(is_keyword(word, b"0"))
+    } else {
+        nothing_if(is_keyword(key, b"TRST") && is_free_word(word))
     }
-    if is_keyword(key, b"TRST") {
-        return trst_statement(words);
-    }
-    None
 }
 
 /// The words after a keyword by where they are kept. No statement has more than four.
@@ -258,6 +210,26 @@ pub(crate) fn with_word(words: KeptWords, word: Span) -> Option<KeptWords>
     }
 }
 
+/// The statement of the words after RUNTEST, which are kept.
+fn runtest_statement(kept: &[u8], words: KeptWords) -> Option<StoredStatement>
+    requires { AreWordsWithin (length kept.now) words }
+    ensures { IsStored [] result (runtest_statement (words_kept kept.now words)) }
+{
+    match words {
+        KeptWords::Two(count, unit) => run_or_time(count.bytes_in(kept), unit.bytes_in(kept)),
+        KeptWords::Three(state, count, unit) => {
+            let is_run = are_idle_clocks(state.bytes_in(kept), unit.bytes_in(kept));
+            run_if(is_run, count.bytes_in(kept))
+        }
+        KeptWords::Four(count, unit, time, second) => {
+            let time = time.bytes_in(kept);
+            let is_run = are_timed_clocks(unit.bytes_in(kept), time, second.bytes_in(kept));
+            run_if(is_run, count.bytes_in(kept))
+        }
+        _ => None,
+    }
+}
+
 /// The statement of a keyword and the words after it, which are kept.
 pub(crate) fn statement_of_kept(kept: &[u8], key: Span, words: KeptWords) -> Option<StoredStatement>
     requires key { span_end key ≤ length kept.now }
@@ -265,28 +237,11 @@ pub(crate) fn statement_of_kept(kept: &[u8], key: Span, words: KeptWords) -> Opt
     ensures { IsStored [] result (statement_of_words (bytes_in kept.now key) (words_kept kept.now words)) }
 {
     let key = key.bytes_in(kept);
+    if is_keyword(key, b"RUNTEST") {
+        return runtest_statement(kept, words);
+    }
     match words {
-        KeptWords::None => None,
-        KeptWords::One(first) => statement_of_words(key, &[first.bytes_in(kept)]),
-        KeptWords::Two(first, second) => {
-            statement_of_words(key, &[first.bytes_in(kept), second.bytes_in(kept)])
-        }
-        KeptWords::Three(first, second, third) => statement_of_words(
-            key,
-            &[
-                first.bytes_in(kept),
-                second.bytes_in(kept),
-                third.bytes_in(kept),
-            ],
-        ),
-        KeptWords::Four(first, second, third, fourth) => statement_of_words(
-            key,
-            &[
-                first.bytes_in(kept),
-                second.bytes_in(kept),
-                third.bytes_in(kept),
-                fourth.bytes_in(kept),
-            ],
-        ),
+        KeptWords::One(word) => statement_of_word(key, word.bytes_in(kept)),
+        _ => None,
     }
 }

@@ -6,20 +6,18 @@ use Rattle.x7_regs.specs.declared.boot_status.Kind.TheVariants.{Bench}
 use Rattle.x7_engine.specs.Kept.{is_fallback}
 use Rattle.x7_boot.specs.Attempt.{attempt_at}
 use Rattle.x7_boot.specs.Boot.{HasLedTo, most_iprogs}
-use Rattle.x7_boot.specs.Image.{flash_limit}
 use Rattle.x7_boot.specs.Pages.{ArePages}
-use Rattle.x7_boot.proofs.boots.boot.Given as goal
+use Rattle.x7_boot.proofs.boots.try_all.Given as goal
 
 abbrev pub invariant-attempts : goal.invariant-attempts
 invariant-attempts g l =
     let f = g.F.Flash in
     record {
-      led : IfKnown (f.state l.fn.flash).bytes (λ all. AreBytes all → HasLedTo (attempt_at l.fn.part l.kept l.address) all l.attempts.items l.number);
-      part : l.device.part ≡ l.fn.part;
+      led : IfKnown (f.state l.fn.flash).bytes (λ all. AreBytes all → HasLedTo (attempt_at l.fn.device.part l.kept l.address) all l.attempts.items l.number);
+      part : l.device.part ≡ l.fn.device.part;
       not_on_bench : l.kept.kind ≡ Bench → ⊥;
       number : l.number ≤ most_iprogs;
       room : is_fallback l.kept.kind ≡ false → l.number < most_iprogs;
-      limit : (f.state l.fn.flash).extent ≤ flash_limit;
       pages : ArePages (f.state l.fn.flash).bytes (f.state l.fn.flash).extent l.pages.pages.entries;
       no_fault : (f.state l.flash).faults ≡ (f.state l.fn.flash).faults;
       flash : CallOnlyReads f l.fn.flash l.flash;
