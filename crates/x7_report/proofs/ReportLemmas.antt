@@ -68,6 +68,7 @@ item_more text items default i was now most start old new h sum o n = record {
   where
     last : List ℕ
     last = text (get_or items i default)
+
     more : flat_map text (take (i + 1) items) ≡ flat_map text (take i items) ++ last
     more = ap (flat_map text) (take_more items i default h) ∙ flat_map-append text (take i items) (get_or items i default ∷ []) ∙ ap (λ (t : List ℕ). flat_map text (take i items) ++ t) (append-nil last)
 

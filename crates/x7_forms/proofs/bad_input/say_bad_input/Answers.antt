@@ -30,5 +30,7 @@ returns-in-Word g c =
 pub returns-in-Sum : goal.returns-in-Sum
 returns-in-Sum g c =
     let text = told_text (told.Sum c.in-Sum.line c.in-Sum.want c.in-Sum.got) in
-    rw (← line_is c.args.name.now c.told_of-told.result.0.now text c.args.fault (rw c.in-Sum.is at c.told_of-told.ensures),
-    ← sixth (decimal c.in-Sum.line) (codes " want ") (hex_byte c.in-Sum.want) (codes " got ") (hex_byte c.in-Sum.got) (codes "\n")) c.say_sum.ensures
+    rw (
+      ← line_is c.args.name.now c.told_of-told.result.0.now text c.args.fault (rw c.in-Sum.is at c.told_of-told.ensures),
+      ← sixth (decimal c.in-Sum.line) (codes " want ") (hex_byte c.in-Sum.want) (codes " got ") (hex_byte c.in-Sum.got) (codes "\n"),
+    ) c.say_sum.ensures

@@ -192,17 +192,19 @@ slice_bounds-put_text-end g c =
     omega (arith, length-take-le count (buf ++ drop n c.loop-bytes.piece) (omega (arith, length-append buf (drop n c.loop-bytes.piece), within)))
 
 pub judge-requires : goal.judge-requires
-judge-requires g c = record { long = λ more.
-    let count = c.in_ok-turn.turn.count in
-    let buf = c.next_turn.new.buffer in
-    let old = c.loop-bytes.bytes.items in
-    let piece = take count buf in
-    let asked = asked_for c.loop-bytes.piece c.min-count.result c.wanted.result c.loop-bytes.invariant.piece c.min-count.ensures in
-    let within : count ≤ length buf = omega (arith, c.in_ok-turn.ensures.within.1, c.next_turn.ensures.length) in
-    let joined = joined_by old c.put_text.new.text.items buf (drop c.min-count.result c.loop-bytes.piece) count within c.in_ok-put_text.ensures.appends in
-    fixed_there (length old) c.wanted.result c.min-count.result count (length c.deref-in-loop-bytes.result.now)
-    (subst (λ (o : List ℕ). length o < 13 → length o + c.wanted.result ≡ 13) c.deref.ensures.value c.wanted.ensures.fixed) c.min-count.ensures (c.in_ok-turn.ensures.fills more ∙ asked)
-    (ap length c.deref-in-loop-bytes.ensures.value ∙ ap length joined ∙ length-append old piece ∙ ap (λ (n : ℕ). length old + n) (length-take-le count buf within)) }
+judge-requires g c = record {
+  long = λ more.
+      let count = c.in_ok-turn.turn.count in
+      let buf = c.next_turn.new.buffer in
+      let old = c.loop-bytes.bytes.items in
+      let piece = take count buf in
+      let asked = asked_for c.loop-bytes.piece c.min-count.result c.wanted.result c.loop-bytes.invariant.piece c.min-count.ensures in
+      let within : count ≤ length buf = omega (arith, c.in_ok-turn.ensures.within.1, c.next_turn.ensures.length) in
+      let joined = joined_by old c.put_text.new.text.items buf (drop c.min-count.result c.loop-bytes.piece) count within c.in_ok-put_text.ensures.appends in
+      fixed_there (length old) c.wanted.result c.min-count.result count (length c.deref-in-loop-bytes.result.now)
+      (subst (λ (o : List ℕ). length o < 13 → length o + c.wanted.result ≡ 13) c.deref.ensures.value c.wanted.ensures.fixed) c.min-count.ensures (c.in_ok-turn.ensures.fills more ∙ asked)
+      (ap length c.deref-in-loop-bytes.ensures.value ∙ ap length joined ∙ length-append old piece ∙ ap (λ (n : ℕ). length old + n) (length-take-le count buf within));
+}
 
 pub loop-bytes-smaller : goal.loop-bytes-smaller
 loop-bytes-smaller g c =

@@ -22,12 +22,12 @@ returns c =
     let reads = c.args.reads.now in
     let count : c.len.result ≡ length fars = omega (arith, c.in_ok-fars.fars.ok.0, c.len.ensures) in
     let shows : (part : PartData) (kept : Kept) (wrapped : Bool) (bytes : List ℕ) (state : Regs) → DeviceStandsFor part kept wrapped d bytes
-        → head ≡ state_text part.name state ++ reads_text reads ++ codes "frames " ++ decimal c.len.result ++ codes "\n" → text_begun d head fars ≡ report_text part state reads (memory_in part kept bytes)
+    → head ≡ state_text part.name state ++ reads_text reads ++ codes "frames " ++ decimal c.len.result ++ codes "\n" → text_begun d head fars ≡ report_text part state reads (memory_in part kept bytes)
     = λ part kept wrapped bytes state s is.
-        ap (λ (x : PartData). head ++ frame_lines_text (frame_at x d.registers.frames.memory) fars) (sym c.part.ensures.stored)
-        ∙ ap (λ (x : List (List ℕ)). head ++ frame_lines_text (frame_at p x) fars) (sym c.memory.ensures.stored)
-        ∙ play_is p part state reads m (memory_in part kept bytes) head fars (c.part.ensures.value part kept wrapped bytes s) (c.memory.ensures.shows part kept wrapped bytes s) c.in_ok-fars.ensures
-        (is ∙ ap (λ (n : ℕ). state_text part.name state ++ reads_text reads ++ codes "frames " ++ decimal n ++ codes "\n") count) in
+    ap (λ (x : PartData). head ++ frame_lines_text (frame_at x d.registers.frames.memory) fars) (sym c.part.ensures.stored)
+    ∙ ap (λ (x : List (List ℕ)). head ++ frame_lines_text (frame_at p x) fars) (sym c.memory.ensures.stored)
+    ∙ play_is p part state reads m (memory_in part kept bytes) head fars (c.part.ensures.value part kept wrapped bytes s) (c.memory.ensures.shows part kept wrapped bytes s) c.in_ok-fars.ensures
+    (is ∙ ap (λ (n : ℕ). state_text part.name state ++ reads_text reads ++ codes "frames " ++ decimal n ++ codes "\n") count) in
     record {
       value = λ part kept wrapped bytes s none. shows part kept wrapped bytes (state_of part kept wrapped bytes) s (c.in_ok-head.ensures.value part kept wrapped bytes s none);
       owing = λ part kept wrapped bytes s. shows part kept wrapped bytes (state_owing part kept wrapped bytes (frames_due d.registers.due)) s (c.in_ok-head.ensures.owing part kept wrapped bytes s);
