@@ -1,8 +1,8 @@
 //! The line of a bad input: the words for each fault. No memory is taken.
-ghost use Rattle.std.specs.Prelude.{◌++◌, codes, decimal};
+ghost use Rattle.std.specs.Prelude.{◌≡◌, ◌++◌, codes, decimal};
 ghost use Rattle.x7_words.specs.Sink.{PutsOrFails};
-ghost use Rattle.x7_forms.specs.Event.{bad_input, event_line};
-ghost use Rattle.x7_forms.specs.declared.bad_input.InputFault.TheVariants as input;
+ghost use Rattle.x7_text.specs.Digits.{hex_byte};
+ghost use Rattle.x7_forms.specs.Event.{bad_input, event_line, input_fault_text, told_text};
 
 use itoa::Buffer;
 use x7_text::{hex_of_byte, hex_of_word};
@@ -76,8 +76,16 @@ fn say_number<E: Sink>(err: &mut E, name: &str, label: &[u8], number: u64) -> Re
 }
 
 /// Writes the line of a record whose last byte isn't the one that makes the sum 0.
-fn say_sum<E: Sink>(err: &mut E, name: &str, line: u64, want: u8, got: u8) -> Result<(), Failed>
-    ensures { PutsOrFails (E.state err.old) (event_line (bad_input name.now (input.Sum line want got))) (E.state err.new) }
+fn say_sum<'x, E: Sink>(
+    err: &mut E,
+    name: &'x str,
+    label: &'x [u8],
+    line: u64,
+    want: u8,
+    got: u8,
+) -> Result<(), Failed>
+    ensures { PutsOrFails (E.state err.old) (codes "x7: bad input " ++ (name.now ++ (label.now
+        ++ (decimal line ++ (codes " want " ++ (hex_byte want ++ (codes " got " ++ (hex_byte got ++ codes "\n")))))))) (E.state err.new) }
 {
     let mut buffer = Buffer::new();
     let line = buffer.format(line).as_bytes();
@@ -86,7 +94,7 @@ fn say_sum<E: Sink>(err: &mut E, name: &str, line: u64, want: u8, got: u8) -> Re
         &[
             START,
             name.as_bytes(),
-            b": sum line ",
+            label,
             line,
             b" want ",
             &hex_of_byte(want),
@@ -97,6 +105,49 @@ fn say_sum<E: Sink>(err: &mut E, name: &str, line: u64, want: u8, got: u8) -> Re
     )
 }
 
+/// What the line of a fault says after its label.
+#[derive(Clone, Copy, Drop)]
+enum Told {
+    /// Nothing.
+    Nothing,
+    /// A number: that of a line, or of a byte of the input.
+    Number(u64),
+    /// A word.
+    Word(u32),
+    /// A line, the byte that would make the sum of its bytes 0, and the one that stands there.
+    Sum {
+        /// The line.
+        line: u64,
+        /// The byte that makes the sum 0.
+        want: u8,
+        /// The byte that stands there.
+        got: u8,
+    },
+}
+
+/// What the line of a fault says after the name of the input: its label, and what comes after that.
+fn told_of(fault: InputFault) -> (&'static [u8], Told)
+    ensures { codes ": " ++ input_fault_text fault ≡ result.0.now ++ told_text result.1 }
+{
+    match fault {
+        InputFault::Byte(place) => (b": byte ", Told::Number(place)),
+        InputFault::Line(line) => (b": line ", Told::Number(line)),
+        InputFault::LongLine(line) => (b": long line ", Told::Number(line)),
+        InputFault::Sum { line, want, got } => (b": sum line ", Told::Sum { line, want, got }),
+        InputFault::LargeLine(line) => (b": large line ", Told::Number(line)),
+        InputFault::Overlap(place) => (b": overlap ", Told::Word(place)),
+        InputFault::NoEnd => (b": no end", Told::Nothing),
+        InputFault::AddressLine(line) => (b": address line ", Told::Number(line)),
+        InputFault::TwiceLine(line) => (b": twice line ", Told::Number(line)),
+        InputFault::Empty => (b": empty", Told::Nothing),
+        InputFault::Foreign => (b": foreign", Told::Nothing),
+        InputFault::Range => (b": range", Told::Nothing),
+        InputFault::Image => (b": image", Told::Nothing),
+        InputFault::Long => (b": long", Told::Nothing),
+        InputFault::Layout(place) => (b": layout byte ", Told::Number(place)),
+    }
+}
+
 /// Writes the line of an input that was refused.
 pub(crate) fn say_bad_input<E: Sink>(
     err: &mut E,
@@ -105,21 +156,11 @@ pub(crate) fn say_bad_input<E: Sink>(
 ) -> Result<(), Failed>
     ensures { PutsOrFails (E.state err.old) (event_line (bad_input name.now fault)) (E.state err.new) }
 {
-    match fault {
-        InputFault::Byte(place) => say_number(err, name, b": byte ", place),
-        InputFault::Line(line) => say_number(err, name, b": line ", line),
-        InputFault::LongLine(line) => say_number(err, name, b": long line ", line),
-        InputFault::Sum { line, want, got } => say_sum(err, name, line, want, got),
-        InputFault::LargeLine(line) => say_number(err, name, b": large line ", line),
-        InputFault::Overlap(place) => say_fault(err, name, b": overlap ", &hex_of_word(place)),
-        InputFault::NoEnd => say_fault(err, name, b": no end", b""),
-        InputFault::AddressLine(line) => say_number(err, name, b": address line ", line),
-        InputFault::TwiceLine(line) => say_number(err, name, b": twice line ", line),
-        InputFault::Empty => say_fault(err, name, b": empty", b""),
-        InputFault::Foreign => say_fault(err, name, b": foreign", b""),
-        InputFault::Range => say_fault(err, name, b": range", b""),
-        InputFault::Image => say_fault(err, name, b": image", b""),
-        InputFault::Long => say_fault(err, name, b": long", b""),
-        InputFault::Layout(place) => say_number(err, name, b": layout byte ", place),
+    let (label, told) = told_of(fault);
+    match told {
+        Told::Nothing => say_fault(err, name, label, b""),
+        Told::Number(number) => say_number(err, name, label, number),
+        Told::Word(word) => say_fault(err, name, label, &hex_of_word(word)),
+        Told::Sum { line, want, got } => say_sum(err, name, label, line, want, got),
     }
 }

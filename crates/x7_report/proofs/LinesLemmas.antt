@@ -52,12 +52,10 @@ lines_failed first mid new head lines e p = rw (ap (λ t. head ++ t) (sym (appen
 
 -- ---- the whole report
 
-pub head_is : (name part_name : List ℕ) (regs state : Regs) (reads none first second third fourth : List ℕ) (count : ℕ) → name ≡ part_name → regs ≡ state → none ≡ [] →
-    first ≡ none ++ state_text name regs → second ≡ first ++ reads_text reads → third ≡ second ++ codes "frames " → fourth ≡ third ++ decimal count ++ codes "\n" →
-    fourth ≡ state_text part_name state ++ reads_text reads ++ codes "frames " ++ decimal count ++ codes "\n"
-head_is name part_name regs state reads none first second third fourth count a b z e f g h =
-    h ∙ ap (λ (t : List ℕ). t ++ decimal count ++ codes "\n") (g ∙ ap (λ (t : List ℕ). t ++ codes "frames ") (f ∙ ap (λ (t : List ℕ). t ++ reads_text reads)
-    (e ∙ ap (λ (t : List ℕ). t ++ state_text name regs) z ∙ ap (λ (x : List ℕ). state_text x regs) a ∙ ap (λ (x : Regs). state_text part_name x) b)))
+pub head_is : (name : List ℕ) (state : Regs) (reads none first second : List ℕ) (count : ℕ) → none ≡ [] → first ≡ none ++ state_text name state ++ reads_text reads
+    → second ≡ first ++ codes "frames " ++ decimal count ++ codes "\n" → second ≡ state_text name state ++ reads_text reads ++ codes "frames " ++ decimal count ++ codes "\n"
+head_is name state reads none first second count z e f =
+    f ∙ ap (λ (t : List ℕ). t ++ codes "frames " ++ decimal count ++ codes "\n") (e ∙ ap (λ (t : List ℕ). t ++ state_text name state ++ reads_text reads) z)
 
 after : (prefix a b c d : List ℕ) → prefix ++ a ++ b ++ c ++ d ≡ prefix ++ (a ++ b ++ c ++ d)
 after prefix a b c d =

@@ -1,8 +1,10 @@
 -- Lemmas on the frames of a report.
-use Rattle.std.proofs.Common.{◌≡◌, ◌<◌, ◌+◌, ℕ, Bool, true, false, if◌then◌else◌, Option, codes, decimal, List, [], ◌∷◌, ◌++◌, length, take, get_or, refl, ap, sym, ◌∙◌, append_assoc, append-nil}
+use Rattle.std.proofs.Common.{◌≡◌, ◌<◌, ◌≤◌, ◌+◌, ℕ, Bool, true, false, if◌then◌else◌, Option, codes, decimal, List, [], ◌∷◌, ◌++◌, length, take, get_or, refl, ap, sym, ◌∙◌, append_assoc, append-nil, arith, Vec}
 use Rattle.std.specs.List.{flat_map}
 use Rattle.std.proofs.lemmas.Grind.{flat_map-append}
-use Rattle.std.proofs.lemmas.List.{take_more}
+use Rattle.std.proofs.lemmas.List.{take_all, take_more}
+use Rattle.std.specs.declared.alloc.Global.{Global}
+use Rattle.x7_text.specs.Appends.{Appends}
 use Rattle.x7_part.specs.AddressOrder.{addresses_in}
 use Rattle.x7_part.specs.Part.{PartData}
 use Rattle.x7_memory.specs.FrameMap.{AreSame, FrameMap}
@@ -41,15 +43,46 @@ frames_same m n fars same =
     ap (λ (xs : List ℕ). codes "frames " ++ decimal (length xs) ++ codes "\n" ++ flat_map (λ far. frame_text_if far (m far)) xs) (shown_same m n fars same)
     ∙ ap (λ (t : List ℕ). codes "frames " ++ decimal (length (addresses_shown n fars)) ++ codes "\n" ++ t) (lines_same m n (addresses_shown n fars) same)
 
-pub report_is : (p q : PartData) (name : List ℕ) (regs state : Regs) (reads : List ℕ) (frames : List (List ℕ)) (n : FrameMap) (none first second third : List ℕ) → name ≡ p.name → regs ≡ state → p ≡ q → AreSame (frame_at q frames) n → none ≡ []
-    → first ≡ none ++ state_text name regs → second ≡ first ++ reads_text reads → third ≡ second ++ frames_text (frame_at p frames) (addresses_in p) → third ≡ report_text q state reads n
+-- a state and words read out that were put are those of a part and a state
+pub before_frames : (name part_name : List ℕ) (regs state : Regs) (reads old first second : List ℕ) → name ≡ part_name → regs ≡ state → first ≡ old ++ state_text name regs → second ≡ first ++ reads_text reads
+    → second ≡ old ++ state_text part_name state ++ reads_text reads
+before_frames name part_name regs state reads old first second a b e f =
+    f ∙ ap (λ (t : List ℕ). t ++ reads_text reads) (e ∙ ap (λ (x : List ℕ). old ++ state_text x regs) a ∙ ap (λ (x : Regs). old ++ state_text part_name x) b)
+
+pub report_is : (p q : PartData) (state : Regs) (reads : List ℕ) (frames : List (List ℕ)) (n : FrameMap) (none first second : List ℕ) → p ≡ q → AreSame (frame_at q frames) n → none ≡ []
+    → first ≡ none ++ state_text q.name state ++ reads_text reads → second ≡ first ++ frames_text (frame_at p frames) (addresses_in p) → second ≡ report_text q state reads n
 unfolding report_text
-report_is p q name regs state reads frames n none first second third a b d same z e f g =
-    g ∙ ap (λ (x : PartData). second ++ frames_text (frame_at x frames) (addresses_in x)) d
-    ∙ ap (λ (t : List ℕ). second ++ t) (frames_same (frame_at q frames) n (addresses_in q) same)
-    ∙ ap (λ (t : List ℕ). t ++ frames_text n (addresses_in q)) (f ∙ ap (λ (t : List ℕ). t ++ reads_text reads) (e ∙ ap (λ (t : List ℕ). t ++ state_text name regs) z))
-    ∙ ap (λ (x : List ℕ). (state_text x regs ++ reads_text reads) ++ frames_text n (addresses_in q)) (a ∙ ap (λ (x : PartData). x.name) d)
-    ∙ ap (λ (x : Regs). (state_text q.name x ++ reads_text reads) ++ frames_text n (addresses_in q)) b
+report_is p q state reads frames n none first second d same z e f =
+    f ∙ ap (λ (x : PartData). first ++ frames_text (frame_at x frames) (addresses_in x)) d
+    ∙ ap (λ (t : List ℕ). first ++ t) (frames_same (frame_at q frames) n (addresses_in q) same)
+    ∙ ap (λ (t : List ℕ). t ++ frames_text n (addresses_in q)) (e ∙ ap (λ (t : List ℕ). t ++ state_text q.name state ++ reads_text reads) z)
+
+-- one item more is appended, in a loop over all items
+pub item_more : {A : Type 0} (text : A → List ℕ) (items : List A) (default : A) (i was now most : ℕ) (start old new : Vec ℕ Global) → i < length items → now ≡ was + most
+    → Appends start old (flat_map text (take i items)) was → Appends old new (text (get_or items i default)) most → Appends start new (flat_map text (take (i + 1) items)) now
+item_more text items default i was now most start old new h sum o n = record {
+  items = n.items ∙ ap (λ (t : List ℕ). t ++ last) o.items ∙ append_assoc start.items (flat_map text (take i items)) last ∙ ap (λ (t : List ℕ). start.items ++ t) (sym more);
+  within = omega (arith, n.within, o.within, sum);
+  room = omega (arith, n.room, o.room);
+}
+  where
+    last : List ℕ
+    last = text (get_or items i default)
+
+    more : flat_map text (take (i + 1) items) ≡ flat_map text (take i items) ++ last
+    more = ap (flat_map text) (take_more items i default h) ∙ flat_map-append text (take i items) (get_or items i default ∷ []) ∙ ap (λ (t : List ℕ). flat_map text (take i items) ++ t) (append-nil last)
+
+-- no item was appended yet
+pub none_appended : (text : Vec ℕ Global) → Appends text text [] 0
+none_appended text = record { items = sym (append-nil text.items); within = omega arith; room = omega arith }
+
+-- all items were appended
+pub all_appended : {A : Type 0} (text : A → List ℕ) (items : List A) (i n most : ℕ) (start new : Vec ℕ Global) → length items ≤ i → n ≤ most → Appends start new (flat_map text (take i items)) n → Appends start new (flat_map text items) most
+all_appended text items i n most start new h l o = record {
+  items = o.items ∙ ap (λ xs. start.items ++ flat_map text xs) (take_all i items h);
+  within = omega (arith, o.within, l);
+  room = o.room;
+}
 
 -- one line more of a list of lines
 pub lines_on : (f : ℕ → List ℕ) (fars : List ℕ) (i : ℕ) (first mid new : List ℕ) → i < length fars → mid ≡ first ++ flat_map f (take i fars) → new ≡ mid ++ f (get_or fars i 0) → new ≡ first ++ flat_map f (take (i + 1) fars)

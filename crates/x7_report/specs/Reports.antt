@@ -3,11 +3,12 @@ use Rattle.std.specs.Prelude.{ℕ, Bool, List, ◌++◌, codes, decimal}
 use Rattle.x7_part.specs.AddressOrder.{addresses_in}
 use Rattle.x7_part.specs.Part.{PartData}
 use Rattle.x7_memory.specs.FrameMap.{FrameMap}
+use Rattle.x7_memory.specs.PartFrames.{frame_at}
 use Rattle.x7_engine.specs.declared.regs.Regs.{Regs}
 use Rattle.x7_engine.specs.Past.{Past}
 use Rattle.x7_engine.specs.Standing.{DeviceState, frames_due}
 use Rattle.x7_engine.specs.State.{state_owing}
-use Rattle.x7_report.specs.Frames.{frames_text}
+use Rattle.x7_report.specs.Frames.{frame_lines_text, frames_text}
 use Rattle.x7_report.specs.Reads.{reads_text}
 use Rattle.x7_report.specs.State.{state_text}
 
@@ -22,6 +23,10 @@ report_head part regs reads count = state_text part.name regs ++ reads_text read
 -- the whole report of a device of the part, by its state, the words that it read out and its memory
 unfoldable pub report_text : PartData → Regs → List ℕ → FrameMap → List ℕ
 report_text part regs reads memory = state_text part.name regs ++ reads_text reads ++ frames_text memory (addresses_in part)
+
+-- a text that begins so, and goes on with the lines of the device's frames at these addresses
+abbrev pub text_begun : DeviceState → List ℕ → List ℕ → List ℕ
+text_begun d head fars = head ++ frame_lines_text (frame_at d.part d.registers.frames.memory) fars
 
 -- a report that is ready to be written, and whether what it reports stopped, as its caller says
 pub record PlayTextState : Type 0 where

@@ -1,5 +1,5 @@
 //! The lines of frames, and which frames a report shows.
-ghost use Rattle.std.specs.Prelude.{◌≡◌, ◌∷◌, ◌++◌, ◌<◌, ◌+◌, ◌*◌, [], slice_index, length, IfOk, OnOk, OnErr};
+ghost use Rattle.std.specs.Prelude.{◌≡◌, ◌∷◌, ◌++◌, ◌<◌, ◌+◌, ◌*◌, [], codes, decimal, slice_index, length, IfOk, OnOk, OnErr};
 ghost use Rattle.std.specs.List.{flat_map};
 ghost use Rattle.x7_text.specs.Appends.{Appends, HasSpareRoom};
 ghost use Rattle.x7_text.specs.Digits.{hex_word};
@@ -187,6 +187,14 @@ fn put_frame_lines(
     Ok(())
 }
 
+/// Appends the line of the number of frames that a report shows.
+pub(crate) fn put_frame_count(text: &mut Vec<u8>, count: usize) -> Result<(), NoMemory>
+    ensures { OnOk result (text.new.items ≡ text.old.items ++ codes "frames " ++ decimal count ++ codes "\n") }
+{
+    put_text(text, b"frames ")?;
+    put_number(text, count as u64)
+}
+
 /// Appends the lines of the frames that have a word other than 0.
 #[tactic(auto, unfolding(crate::specs::Frames::frames_text))]
 pub(crate) fn put_frames(
@@ -199,7 +207,6 @@ pub(crate) fn put_frames(
     ensures { OnOk result (text.new.items ≡ text.old.items ++ frames_text (frame_at part.now memory.now) (addresses_in part.now)) }
 {
     let fars = shown_frames(alloc, part, memory)?;
-    put_text(text, b"frames ")?;
-    put_number(text, fars.len() as u64)?;
+    put_frame_count(text, fars.len())?;
     put_frame_lines(text, part, memory, &fars)
 }

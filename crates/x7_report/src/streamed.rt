@@ -6,7 +6,7 @@ ghost use Rattle.x7_memory.specs.PartFrames.{AreFramesOf, frame_at};
 ghost use Rattle.x7_engine.specs.Past.{OfPast, memory_at, state_at};
 ghost use Rattle.x7_engine.specs.Standing.{NoWordDue};
 ghost use Rattle.x7_report.specs.Frames.{frame_line_room, frame_text_if, room_at_once, frame_lines_text};
-ghost use Rattle.x7_report.specs.Reports.{report_text, state_reported};
+ghost use Rattle.x7_report.specs.Reports.{report_text, state_reported, text_begun};
 
 use crate::frames::{DIGITS_PER_WORD, LINE_SIZE_WITHOUT_WORDS, put_frame, shown_frames};
 use crate::reports::report_head;
@@ -80,6 +80,32 @@ fn write_lines<S: Sink>(
     Ok(())
 }
 
+/// Room for the lines that are written at once.
+fn line_buffer(alloc: Global) -> Result<Vec<u8>, NoMemory>
+    ensures { IfOk result (λ buffer. room_at_once ≤ vec_capacity buffer) }
+{
+    match Vec::with_capacity(alloc, ROOM_AT_ONCE) {
+        Ok(buffer) => Ok(buffer),
+        Err(_) => Err(NoMemory),
+    }
+}
+
+/// What a report has before the lines of its frames, and the addresses of the frames that it shows.
+fn head_and_frames(
+    alloc: Global,
+    device: &Device,
+    reads: &[u32],
+) -> Result<(Vec<u8>, Vec<u32>), NoMemory>
+    ensures value { IfOk result (λ begun. OfPast device.now (λ p. NoWordDue device.now
+        → text_begun device.now begun.0.items begun.1.items ≡ report_text p.part (state_at p) reads.now (memory_at p))) }
+    ensures owing { IfOk result (λ begun. OfPast device.now (λ p.
+        text_begun device.now begun.0.items begun.1.items ≡ report_text p.part (state_reported device.now p) reads.now (memory_at p))) }
+{
+    let fars = shown_frames(alloc, device.part(), device.memory())?;
+    let head = report_head(alloc, device, reads, fars.len())?;
+    Ok((head, fars))
+}
+
 /// The report of a device, ready to be written: what comes before the lines of its frames, the addresses of the frames
 /// that it shows, and room for the lines that are written at once.
 #[derive(Drop)]
@@ -119,33 +145,25 @@ impl PlayText {
         ensures owing { IfOk result (λ text. OfPast device (λ p.
             text ≡ record { stopped = stopped; text = report_text p.part (state_reported device p) reads.now (memory_at p) })) }
     {
-        let fars = shown_frames(alloc, device.part(), device.memory())?;
-        let head = report_head(alloc, &device, reads, fars.len())?;
-        let Ok(buffer) = Vec::with_capacity(alloc, ROOM_AT_ONCE) else {
-            return Err(NoMemory);
-        };
+        let buffer = line_buffer(alloc)?;
+        let begun = head_and_frames(alloc, &device, reads)?;
         Ok(PlayText {
             stopped,
             device,
-            head,
-            fars,
+            head: begun.0,
+            fars: begun.1,
             buffer,
         })
     }
 
     /// The report with other lines before it.
-    pub fn after(self, lines: Vec<u8>) -> Result<PlayText, NoMemory>
+    pub fn after(mut self, lines: Vec<u8>) -> Result<PlayText, NoMemory>
         ensures { IfOk result (λ text. text ≡ record { stopped = self.stopped; text = lines.items ++ self.text }) }
     {
         let mut head = lines;
         head.extend_from_slice(&self.head)?;
-        Ok(PlayText {
-            stopped: self.stopped,
-            device: self.device,
-            head,
-            fars: self.fars,
-            buffer: self.buffer,
-        })
+        self.head = head;
+        Ok(self)
     }
 
     /// Whether what it reports stopped, as it was made with.

@@ -1,46 +1,36 @@
+use Rattle.std.proofs.Common.{◌≡◌, ◌++◌, List, ℕ, [], ap, append_assoc, codes, decimal, sym, ◌∙◌}
+use Rattle.x7_text.specs.Digits.{hex_byte, hex_word}
+use Rattle.x7_forms.specs.Event.{bad_input, event_line, input_fault_text, told_text}
+use Rattle.x7_forms.specs.declared.bad_input.InputFault.{InputFault}
+use Rattle.x7_forms.specs.declared.bad_input.Told.TheVariants as told
 use Rattle.x7_forms.proofs.bad_input.say_bad_input.Goals as goal
 
-pub returns-in-Line : goal.returns-in-Line
-returns-in-Line g c = rw c.in-Line.is c.say_number-in-Line.ensures
+-- a label and what is told after it are the words of a fault
+line_is : (name label told : List ℕ) (fault : InputFault) → codes ": " ++ input_fault_text fault ≡ label ++ told
+    → codes "x7: bad input " ++ (name ++ (label ++ (told ++ codes "\n"))) ≡ event_line (bad_input name fault)
+line_is name label told fault e =
+    ap (λ (t : List ℕ). codes "x7: bad input " ++ (name ++ t)) (sym (append_assoc label told (codes "\n")) ∙ ap (λ (t : List ℕ). t ++ codes "\n") (sym e))
 
-pub returns-in-LongLine : goal.returns-in-LongLine
-returns-in-LongLine g c = rw c.in-LongLine.is c.say_number-in-LongLine.ensures
+-- five texts and then a sixth
+sixth : (a b c d e f : List ℕ) → a ++ (b ++ (c ++ (d ++ (e ++ f)))) ≡ (a ++ (b ++ (c ++ (d ++ e)))) ++ f
+sixth a b c d e f =
+    sym (append_assoc a (b ++ (c ++ (d ++ e))) f
+    ∙ ap (λ t. a ++ t) (append_assoc b (c ++ (d ++ e)) f ∙ ap (λ t. b ++ t) (append_assoc c (d ++ e) f ∙ ap (λ t. c ++ t) (append_assoc d e f))))
 
-pub returns-in-LargeLine : goal.returns-in-LargeLine
-returns-in-LargeLine g c = rw c.in-LargeLine.is c.say_number-in-LargeLine.ensures
+pub returns-in-Nothing : goal.returns-in-Nothing
+returns-in-Nothing g c = rw (← line_is c.args.name.now c.told_of-told.result.0.now [] c.args.fault (rw c.in-Nothing.is at c.told_of-told.ensures)) c.say_fault.ensures
 
-pub returns-in-Overlap : goal.returns-in-Overlap
-returns-in-Overlap g c =
-    let said = rw c.hex_of_word.ensures at c.say_fault.ensures in
-    rw c.in-Overlap.is said
+pub returns-in-Number : goal.returns-in-Number
+returns-in-Number g c = rw (← line_is c.args.name.now c.told_of-told.result.0.now (decimal c.in-Number.number) c.args.fault (rw c.in-Number.is at c.told_of-told.ensures)) c.say_number.ensures
 
-pub returns-in-NoEnd : goal.returns-in-NoEnd
-returns-in-NoEnd g c = rw c.in-NoEnd.is c.say_fault-in-NoEnd.ensures
+pub returns-in-Word : goal.returns-in-Word
+returns-in-Word g c =
+    rw (← line_is c.args.name.now c.told_of-told.result.0.now (hex_word c.in-Word.word) c.args.fault (rw c.in-Word.is at c.told_of-told.ensures)) (rw c.hex_of_word.ensures at c.say_fault-in-Word.ensures)
 
 pub returns-in-Sum : goal.returns-in-Sum
 returns-in-Sum g c =
-    rw c.in-Sum.is c.say_sum.ensures
-
-pub returns-in-AddressLine : goal.returns-in-AddressLine
-returns-in-AddressLine g c = rw c.in-AddressLine.is c.say_number-in-AddressLine.ensures
-
-pub returns-in-TwiceLine : goal.returns-in-TwiceLine
-returns-in-TwiceLine g c = rw c.in-TwiceLine.is c.say_number-in-TwiceLine.ensures
-
-pub returns-in-Empty : goal.returns-in-Empty
-returns-in-Empty g c = rw c.in-Empty.is c.say_fault-in-Empty.ensures
-
-pub returns-in-Foreign : goal.returns-in-Foreign
-returns-in-Foreign g c = rw c.in-Foreign.is c.say_fault-in-Foreign.ensures
-
-pub returns-in-Range : goal.returns-in-Range
-returns-in-Range g c = rw c.in-Range.is c.say_fault-in-Range.ensures
-
-pub returns-in-Image : goal.returns-in-Image
-returns-in-Image g c = rw c.in-Image.is c.say_fault-in-Image.ensures
-
-pub returns-in-Long : goal.returns-in-Long
-returns-in-Long g c = rw c.in-Long.is c.say_fault-in-Long.ensures
-
-pub returns-in-Layout : goal.returns-in-Layout
-returns-in-Layout g c = rw c.in-Layout.is c.say_number-in-Layout.ensures
+    let text = told_text (told.Sum c.in-Sum.line c.in-Sum.want c.in-Sum.got) in
+    rw (
+      ← line_is c.args.name.now c.told_of-told.result.0.now text c.args.fault (rw c.in-Sum.is at c.told_of-told.ensures),
+      ← sixth (decimal c.in-Sum.line) (codes " want ") (hex_byte c.in-Sum.want) (codes " got ") (hex_byte c.in-Sum.got) (codes "\n"),
+    ) c.say_sum.ensures

@@ -1,7 +1,5 @@
-use Rattle.std.proofs.Common.{append_assoc}
 use Rattle.x7_forms.proofs.bad_input.say_sum.Goals as goal
 
 pub returns : goal.returns
 returns g c =
-    let said = rw (c.hex_of_byte.ensures, c.hex_of_byte-2.ensures, c.as_bytes-line.ensures.value, c.format.ensures.text, c.as_bytes.ensures.value) at c.write_pieces.ensures.puts in
-    simp append_assoc said
+    rw (c.hex_of_byte.ensures, c.hex_of_byte-2.ensures, c.as_bytes-line.ensures.value, c.format.ensures.text, c.as_bytes.ensures.value) at c.write_pieces.ensures.puts

@@ -1,15 +1,19 @@
-use Rattle.std.proofs.Common.{◌≤◌, ◌++◌, ◌-◌, ◌≡◌, ◌∙◌, ap, arith, drop, false, inl, inr, length, length-append, length-drop, length-take-le, refl, subst, take}
+use Rattle.std.proofs.Common.{◌≤◌, ◌<◌, ◌+◌, ◌++◌, ◌-◌, ◌≡◌, ◌∙◌, ℕ, List, min, ap, arith, drop, false, inl, inr, length, length-append, length-drop, length-take-le, refl, subst, take}
 use Rattle.x7_header.specs.Header.{EndsInHeader, longest_header}
 use Rattle.x7_words.proofs.InputLemmas.{stays_on}
 use Rattle.x7_forms.specs.declared.beginning.Judged.{Judged}
 use Rattle.x7_forms.specs.Event.{event_of}
 use Rattle.x7_forms.specs.Known.{stream_limit}
-use Rattle.x7_forms.specs.Turn.{DataBeginAt, IsBeginning}
+use Rattle.x7_forms.specs.Turn.{DataBeginAt, IsBeginning, turn_size}
 use Rattle.std.proofs.lemmas.List.{take-append-le}
 use Rattle.x7_forms.proofs.BeginningLemmas.{found_none, found_some, beginning_read, joined_taken, none_given, piece_of, reads_by, refused_soon, unread_turn}
 use Rattle.x7_forms.proofs.AskedLemmas.{gives_on}
 use Rattle.x7_forms.proofs.ResultLemmas.{handed_on}
 use Rattle.x7_forms.proofs.beginning.read_beginning.Goals as goal
+
+-- what a turn read is appended
+joined_by : (old mid buffer rest : List ℕ) (count : ℕ) → count ≤ length buffer → mid ≡ old ++ take count (buffer ++ rest) → mid ≡ old ++ take count buffer
+joined_by old mid buffer rest count within e = e ∙ ap (λ t. old ++ t) (take-append-le count buffer rest within)
 
 pub returns-in-Some-clause-begins : goal.returns-in-Some-clause-begins
 returns-in-Some-clause-begins g c =
@@ -21,7 +25,7 @@ returns-in-Some-clause-begins g c =
     let mid = c.put_text.new.text.items in
     let bytes = c.deref-in-loop-bytes.result.now in
     let within : count ≤ length c.next_turn.new.buffer = omega (arith, c.in_ok-turn.ensures.within.1, c.next_turn.ensures.length) in
-    let joined = c.in_ok-put_text.ensures.appends ∙ ap (λ t. old ++ t) (take-append-le count c.next_turn.new.buffer _ within) in
+    let joined = joined_by old c.put_text.new.text.items c.next_turn.new.buffer (drop c.min-count.result c.loop-bytes.piece) count within c.in_ok-put_text.ensures.appends in
     let long = length-take-le count c.next_turn.new.buffer within in
     let p = piece_of old mid piece c.deref.result.now bytes c.wanted.result joined c.deref-in-loop-bytes.ensures.value
     (omega (arith, long, c.in_ok-turn.ensures.within.1, c.min-count.ensures, length-take-le c.min-count.result c.loop-bytes.piece (omega (arith, c.min-count.ensures, v.piece))))
@@ -43,7 +47,7 @@ returns-in_err-judged-clause-refused g c = rw (handed_on c.from_residual-in_err-
     let mid = c.put_text.new.text.items in
     let bytes = c.deref-in-loop-bytes.result.now in
     let within : count ≤ length c.next_turn.new.buffer = omega (arith, c.in_ok-turn.ensures.within.1, c.next_turn.ensures.length) in
-    let joined = c.in_ok-put_text.ensures.appends ∙ ap (λ t. old ++ t) (take-append-le count c.next_turn.new.buffer _ within) in
+    let joined = joined_by old c.put_text.new.text.items c.next_turn.new.buffer (drop c.min-count.result c.loop-bytes.piece) count within c.in_ok-put_text.ensures.appends in
     let long = length-take-le count c.next_turn.new.buffer within in
     let p = piece_of old mid piece c.deref.result.now bytes c.wanted.result joined c.deref-in-loop-bytes.ensures.value
     (omega (arith, long, c.in_ok-turn.ensures.within.1, c.min-count.ensures, length-take-le c.min-count.result c.loop-bytes.piece (omega (arith, c.min-count.ensures, v.piece))))
@@ -85,7 +89,7 @@ loop-bytes-preserved g c =
     let bytes = c.deref-in-loop-bytes.result.now in
     let asked_for : length (take c.min-count.result c.loop-bytes.piece) ≡ c.min-count.result = length-take-le c.min-count.result c.loop-bytes.piece (omega (arith, c.min-count.ensures, v.piece)) in
     let within : count ≤ length buf = omega (arith, c.in_ok-turn.ensures.within.1, c.next_turn.ensures.length) in
-    let joined = c.in_ok-put_text.ensures.appends ∙ ap (λ t. old ++ t) (take-append-le count buf _ within) in
+    let joined = joined_by old c.put_text.new.text.items buf (drop c.min-count.result c.loop-bytes.piece) count within c.in_ok-put_text.ensures.appends in
     let none = found_none c.in_ok-judged.field-0 ((c.in_ok-turn.turn.last ≡ false) × (length bytes ≤ longest_header) × EndsInHeader bytes) (λ (j : Judged). (j.start ≤ length bytes) × IsBeginning bytes c.in_ok-turn.turn.last j.line.items j.start) c.in_default.is c.in_ok-judged.ensures.judged in
     record {
       selected = c.in_ok-turn.ensures.takes.selected;
@@ -159,3 +163,67 @@ returns-in_err-judged-clause-short g c =
 
 pub returns-in_err-judged-clause-inputs : goal.returns-in_err-judged-clause-inputs
 returns-in_err-judged-clause-inputs g c = stays_on _ _ _ c.loop-bytes.invariant.inputs c.next_turn.ensures.inputs
+
+-- the buffer of a turn has as many bytes as are asked for
+asked_for : (piece : List ℕ) (n wanted : ℕ) → length piece ≡ turn_size → n ≡ min wanted 65536 → length (take n piece) ≡ n
+asked_for piece n wanted long is = length-take-le n piece (omega (arith, long, is))
+
+-- a turn that is not the last leaves no fewer bytes than the fixed ones
+fixed_there : (was n asked count now : ℕ) → (was < 13 → was + n ≡ 13) → asked ≡ min n 65536 → count ≡ asked → now ≡ was + count → 13 ≤ now
+fixed_there was n asked count now fixed is all sum = grind arith
+
+pub overflow_sub-left : goal.overflow_sub-left
+overflow_sub-left g c = omega (arith, c.loop-bytes.invariant.few, c.len-left.ensures)
+
+pub slice_bounds-next_turn-end : goal.slice_bounds-next_turn-end
+slice_bounds-next_turn-end g c = omega (arith, asked_for c.loop-bytes.piece c.min-count.result c.wanted.result c.loop-bytes.invariant.piece c.min-count.ensures)
+
+pub next_turn-requires-clause-not_empty : goal.next_turn-requires-clause-not_empty
+next_turn-requires-clause-not_empty g c =
+    omega (arith, asked_for c.loop-bytes.piece c.min-count.result c.wanted.result c.loop-bytes.invariant.piece c.min-count.ensures, c.min-count.ensures, c.wanted.ensures.not_zero)
+
+pub slice_bounds-put_text-end : goal.slice_bounds-put_text-end
+slice_bounds-put_text-end g c =
+    let n = c.min-count.result in
+    let count = c.in_ok-turn.turn.count in
+    let buf = c.next_turn.new.buffer in
+    let asked = asked_for c.loop-bytes.piece n c.wanted.result c.loop-bytes.invariant.piece c.min-count.ensures in
+    let within : count ≤ length buf = omega (arith, c.in_ok-turn.ensures.within.1, c.next_turn.ensures.length) in
+    omega (arith, length-take-le count (buf ++ drop n c.loop-bytes.piece) (omega (arith, length-append buf (drop n c.loop-bytes.piece), within)))
+
+pub judge-requires : goal.judge-requires
+judge-requires g c = record {
+  long = λ more.
+      let count = c.in_ok-turn.turn.count in
+      let buf = c.next_turn.new.buffer in
+      let old = c.loop-bytes.bytes.items in
+      let piece = take count buf in
+      let asked = asked_for c.loop-bytes.piece c.min-count.result c.wanted.result c.loop-bytes.invariant.piece c.min-count.ensures in
+      let within : count ≤ length buf = omega (arith, c.in_ok-turn.ensures.within.1, c.next_turn.ensures.length) in
+      let joined = joined_by old c.put_text.new.text.items buf (drop c.min-count.result c.loop-bytes.piece) count within c.in_ok-put_text.ensures.appends in
+      fixed_there (length old) c.wanted.result c.min-count.result count (length c.deref-in-loop-bytes.result.now)
+      (subst (λ (o : List ℕ). length o < 13 → length o + c.wanted.result ≡ 13) c.deref.ensures.value c.wanted.ensures.fixed) c.min-count.ensures (c.in_ok-turn.ensures.fills more ∙ asked)
+      (ap length c.deref-in-loop-bytes.ensures.value ∙ ap length joined ∙ length-append old piece ∙ ap (λ (n : ℕ). length old + n) (length-take-le count buf within));
+}
+
+pub loop-bytes-smaller : goal.loop-bytes-smaller
+loop-bytes-smaller g c =
+    let count = c.in_ok-turn.turn.count in
+    let old = c.loop-bytes.bytes.items in
+    let buf = c.next_turn.new.buffer in
+    let bytes = c.deref-in-loop-bytes.result.now in
+    let asked = asked_for c.loop-bytes.piece c.min-count.result c.wanted.result c.loop-bytes.invariant.piece c.min-count.ensures in
+    let within : count ≤ length buf = omega (arith, c.in_ok-turn.ensures.within.1, c.next_turn.ensures.length) in
+    let joined = joined_by old c.put_text.new.text.items buf (drop c.min-count.result c.loop-bytes.piece) count within c.in_ok-put_text.ensures.appends in
+    let none = found_none c.in_ok-judged.field-0 ((c.in_ok-turn.turn.last ≡ false) × (length bytes ≤ longest_header) × EndsInHeader bytes) (λ (j : Judged). (j.start ≤ length bytes) × IsBeginning bytes c.in_ok-turn.turn.last j.line.items j.start) c.in_default.is c.in_ok-judged.ensures.judged in
+    omega (
+      arith,
+      c.loop-bytes.invariant.few,
+      ap length joined,
+      length-append old (take count buf),
+      length-take-le count buf within,
+      c.in_ok-turn.ensures.fills none.0,
+      asked,
+      c.min-count.ensures,
+      c.wanted.ensures.not_zero,
+    )

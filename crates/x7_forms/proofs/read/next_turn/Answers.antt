@@ -1,6 +1,8 @@
-use Rattle.std.proofs.Common.{ℕ, List, arith, inl, inr, length-take-le, refl, subst, sym, take}
+use Rattle.std.proofs.Common.{◌≡◌, ◌≤◌, ◌++◌, ◌∙◌, ℕ, List, ap, arith, drop, inl, inr, length, length-append, length-drop, length-take-le, refl, subst, sym, take}
 use Rattle.std.proofs.lemmas.List.{take-append-le}
 use Rattle.x7_words.specs.Input.{TakesInput}
+use Rattle.x7_forms.specs.Event.{Event, reading_failed, too_large}
+use Rattle.x7_forms.specs.declared.refusal.Why.TheVariants as why
 use Rattle.x7_forms.proofs.ResultLemmas.{handed_on}
 use Rattle.x7_forms.proofs.read.next_turn.Goals as goal
 
@@ -45,3 +47,46 @@ returns-then-count-left-clause-refused g c =
     let size = length-take-le c.asked_count-most.result c.args.buffer.now (omega (arith, c.asked_count-most.ensures.within)) in
     let taken = length-take-le count c.fill.new.buffer (omega (arith, c.in_ok-count.ensures.within, c.fill.ensures.length)) in
     inr (refl, (take count c.fill.new.buffer, (c.in_ok-count.ensures.takes.taken, omega (arith, taken, size, c.in_ok-count.ensures.within, c.asked_count-most.ensures.within_left, c.if-count-left.true))))
+
+-- an input that failed is not one over its limit
+failed_not_over : (name : List ℕ) → reading_failed name ≡ too_large name → ⊥
+failed_not_over name e = let reason : why.ReadFault ≡ why.TooLarge = ap (λ (event : Event). event.reason) e in absurd cc
+
+-- a buffer keeps its length where its front was filled
+filled_length : (old new : List ℕ) (n : ℕ) → n ≤ length old → length new ≡ length (take n old) → length (new ++ drop n old) ≡ length old
+filled_length old new n h e = omega (arith, length-append new (drop n old), length-drop n old, length-take-le n old h, e)
+
+pub returns-in_err-count-clause-length : goal.returns-in_err-count-clause-length
+returns-in_err-count-clause-length g c = filled_length c.args.buffer.now c.fill.new.buffer c.asked_count-most.result (omega (arith, c.asked_count-most.ensures.within)) c.fill.ensures.length
+
+pub returns-then-count-left-clause-length : goal.returns-then-count-left-clause-length
+returns-then-count-left-clause-length g c = filled_length c.args.buffer.now c.fill.new.buffer c.asked_count-most.result (omega (arith, c.asked_count-most.ensures.within)) c.fill.ensures.length
+
+pub returns-clause-length : goal.returns-clause-length
+returns-clause-length g c = filled_length c.args.buffer.now c.fill.new.buffer c.asked_count-most.result (omega (arith, c.asked_count-most.ensures.within)) c.fill.ensures.length
+
+pub returns-then-count-left-clause-gives_a_turn : goal.returns-then-count-left-clause-gives_a_turn
+returns-then-count-left-clause-gives_a_turn g c =
+    omega (arith, c.fill.ensures.gives_a_turn, length-take-le c.asked_count-most.result c.args.buffer.now (omega (arith, c.asked_count-most.ensures.within)), c.asked_count-most.ensures.within)
+
+pub returns-clause-gives_a_turn : goal.returns-clause-gives_a_turn
+returns-clause-gives_a_turn g c =
+    omega (arith, c.fill.ensures.gives_a_turn, length-take-le c.asked_count-most.result c.args.buffer.now (omega (arith, c.asked_count-most.ensures.within)), c.asked_count-most.ensures.within)
+
+pub returns-in_err-count-clause-inputs : goal.returns-in_err-count-clause-inputs
+returns-in_err-count-clause-inputs g c = c.fill.ensures.inputs
+
+pub returns-then-count-left-clause-inputs : goal.returns-then-count-left-clause-inputs
+returns-then-count-left-clause-inputs g c = c.fill.ensures.inputs
+
+pub returns-clause-inputs : goal.returns-clause-inputs
+returns-clause-inputs g c = c.fill.ensures.inputs
+
+pub returns-in_err-count-clause-over : goal.returns-in_err-count-clause-over
+returns-in_err-count-clause-over g c = rw (handed_on c.from_residual.result c.in_err-count.field-0.0 c.from_residual.ensures) (λ e. absurd (failed_not_over c.args.name.now (sym c.in_err-count.ensures.failed.0 ∙ e)))
+
+pub returns-then-count-left-clause-fails_early : goal.returns-then-count-left-clause-fails_early
+returns-then-count-left-clause-fails_early g c = λ e. absurd (failed_not_over c.args.name.now (sym e))
+
+pub returns-then-count-left-clause-over : goal.returns-then-count-left-clause-over
+returns-then-count-left-clause-over g c = λ e. omega (arith, c.if-count-left.true, c.in_ok-count.ensures.within, length-take-le c.asked_count-most.result c.args.buffer.now (omega (arith, c.asked_count-most.ensures.within)), c.asked_count-most.ensures.within)
