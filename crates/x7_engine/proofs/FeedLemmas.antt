@@ -1,8 +1,9 @@
 -- Lemmas on a feed: words given to a buffer, and the bytes taken of a piece.
-use Rattle.std.proofs.Common.{◌≡◌, ◌+◌, ◌-◌, ◌≤◌, ◌<◌, ℕ, suc, Option, None, Some, List, [], ◌∷◌, ◌++◌, length, take, drop, refl, ap, sym, subst, ◌∙◌, append_assoc, append-nil, arith, Bool, true, false, if◌then◌else◌}
+use Rattle.std.proofs.Common.{◌≡◌, ◌+◌, ◌-◌, ◌≤◌, ◌<◌, ℕ, zero, suc, ◌↔◌, Option, None, Some, List, [], ◌∷◌, ◌++◌, length, take, drop, refl, ap, sym, subst, ◌∙◌, append_assoc, append-nil, arith, Bool, true, false, if◌then◌else◌}
 use Rattle.std.proofs.Math.Seq.{take-length}
 use Rattle.std.proofs.lemmas.List.{drop-take, length-take, take-append-drop, take-take}
 use Rattle.std.proofs.lemmas.Option.{none-some}
+use Rattle.std.specs.Option.{is_some}
 use Rattle.x7_packets.specs.Cutter.{between}
 use Rattle.x7_packets.specs.History.{History}
 use Rattle.x7_part.specs.Part.{PartData}
@@ -18,8 +19,8 @@ use Rattle.x7_engine.specs.ReadBuffer.{ReadBufState, gathered, with_words}
 use Rattle.x7_engine.specs.Readout.{RegistersGaveWords, GotAllBut, DeviceGaveWords}
 use Rattle.x7_engine.specs.Past.{AnswersAt, past_of}
 use Rattle.x7_engine.specs.Standing.{DeviceStandsFor, DeviceState, NoWordDue, RegistersStandFor, RegistersState, due_count, answer_at_stop, frames_among, frames_due, taken_in, reads_given, words_still_due}
-use Rattle.x7_engine.specs.State.{history_taken, reads_of}
-use Rattle.x7_engine.specs.Stop.{stop_at_place}
+use Rattle.x7_engine.specs.State.{first_stop_of_bytes, history_taken, reads_of}
+use Rattle.x7_engine.specs.Stop.{Stopped, stop_at_place}
 use Rattle.x7_engine.proofs.DeviceLemmas.{given_by}
 use Rattle.x7_engine.proofs.FrameLemmas.{frames_at, frames_of, goes_on}
 
@@ -114,6 +115,32 @@ pub answers_stop : (part : PartData) (kept : Kept) (wrapped : Bool) (d : DeviceS
     → DeviceStandsFor part kept wrapped d bytes → Some why ≡ d.registers.stop → AnswersAt (past_of part kept wrapped bytes) d read (answer_at_stop why at)
 answers_stop part kept wrapped d bytes read (stop.Fault f) at s e = (f, s.stop_is ∙ ap (stop_at_place (length bytes)) (sym e), s.none_due_at_stop (stop.Fault f) (sym e))
 answers_stop part kept wrapped d bytes read stop.Iprog at s e = (s.stop_is ∙ ap (stop_at_place (length bytes)) (sym e), s.none_due_at_stop stop.Iprog (sym e))
+
+-- a device stopped where its bytes have a stop
+pub stopped_here : (part : PartData) (kept : Kept) (wrapped : Bool) (d : DeviceState) (bytes : List ℕ) → DeviceStandsFor part kept wrapped d bytes
+    → is_some (first_stop_of_bytes part kept bytes) ≡ true → is_some d.registers.stop ≡ true
+stopped_here part kept wrapped d bytes s e = sym (same (length bytes) d.registers.stop) ∙ ap (λ (o : Option Stopped). is_some o) (sym s.stop_is) ∙ e
+  where
+    same : (n : ℕ) (o : Option StopCause) → is_some (stop_at_place n o) ≡ is_some o
+    same n None = refl
+    same n (Some why) = refl
+
+-- a device that goes on hadn't stopped before
+pub none_before : (old now : DeviceState) → (is_some old.registers.stop ≡ true → now ≡ old) → None ≡ now.registers.stop → is_some old.registers.stop ≡ true → ⊥
+none_before old now same going e =
+    let both : true ≡ false = sym e ∙ ap (λ (d : DeviceState). is_some d.registers.stop) (sym (same e)) ∙ sym (ap (λ (o : Option StopCause). is_some o) going) in cc
+
+-- words are due where a call doesn't say that none is
+pub some_due : (n : ℕ) (none_left : Bool) → (none_left ≡ true) ↔ (n ≡ 0) → none_left ≡ false → 0 < n
+some_due zero none_left same e = absurd (let both : true ≡ false = sym (same.1 refl) ∙ e in cc)
+some_due (suc n) none_left same e = omega arith
+
+-- fewer calls are left, or none after a stop
+pub fewer_left : (now next : Option StopCause) (before after : ℕ) → is_some now ≡ false → (next ≡ None → after < before)
+    → (if is_some next then 0 else after + 1) < (if is_some now then 0 else before + 1)
+fewer_left None None before after going fewer = let less = fewer refl in omega arith
+fewer_left None (Some why) before after going fewer = omega arith
+fewer_left (Some why) next before after going fewer = absurd cc
 
 -- ---- named facts for the crates above
 

@@ -42,17 +42,16 @@ stands_wrapped part kept wrapped d bytes s = record {
   none_due_at_stop = s.none_due_at_stop;
 }
 
-past_equal : (d e : DeviceState) → AreEqual d e → HasSomePast e → HasSomePast d
+pub past_equal : (d e : DeviceState) → AreEqual d e → HasSomePast e → HasSomePast d
 past_equal d e same s =
     let p : Past = s.past in
     subst HasSomePast (sym same) (record { past = p; has = stands_fed p.part p.kept p.wrapped e p.bytes d.fed s.has })
 
 -- a device that has the stored values of an old one
-pub past_back : (d e : DeviceState) → d.part ≡ e.part → d.cutter ≡ e.cutter → d.registers ≡ e.registers → d.wrapped ≡ e.wrapped → d.taken ≡ e.taken → HasSomePast e → HasSomePast d
-past_back d e part cutter registers wrapped taken =
-    past_equal d e
-    (ap (λ x. record d { part = x }) part
+pub equal_back : (d e : DeviceState) → d.part ≡ e.part → d.cutter ≡ e.cutter → d.registers ≡ e.registers → d.wrapped ≡ e.wrapped → d.taken ≡ e.taken → AreEqual d e
+equal_back d e part cutter registers wrapped taken =
+    ap (λ x. record d { part = x }) part
     ∙ ap (λ x. record d { part = e.part; cutter = x }) cutter
     ∙ ap (λ x. record d { part = e.part; cutter = e.cutter; registers = x }) registers
     ∙ ap (λ x. record d { part = e.part; cutter = e.cutter; registers = e.registers; wrapped = x }) wrapped
-    ∙ ap (λ x. record d { part = e.part; cutter = e.cutter; registers = e.registers; wrapped = e.wrapped; taken = x }) taken)
+    ∙ ap (λ x. record d { part = e.part; cutter = e.cutter; registers = e.registers; wrapped = e.wrapped; taken = x }) taken

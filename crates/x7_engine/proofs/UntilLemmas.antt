@@ -149,7 +149,7 @@ run_commands c n bytes cut sessions place run left s w r i = λ k l.
     let count : m ≡ length bytes + k = omega (arith, length-append bytes (take k cut), few) in
     let q : IsQuieter (history_of bytes) (until m all) =
     quieter_run run from (length bytes) (length cut) m (history_of bytes) (placed_of bytes here) (omega (arith, count)) (omega (arith, count, l)) r (ends_words c n bytes cut sessions place run left s w r i) in
-    (q.0, prefix ∙ q.1, q.2)
+    (q.0, ◌∙◌ {c = q.0 ++ history_of bytes} prefix q.1, q.2)
 
 -- the prefix of such bytes
 pub prefix_commands : (bytes cut more rest : List ℕ) → cut ≡ more ++ rest → CommandsLast bytes cut → CommandsLast bytes more

@@ -1,7 +1,7 @@
 //! Why a device stops.
 
 /// A fault that stops a device (UG470, configuration registers).
-#[derive(Clone, Copy, PartialEq, Eq)]
+#[derive(Clone, Copy)]
 pub enum Fault {
     /// A word in a header's place is no header.
     Packet(u32),

@@ -4,7 +4,7 @@ use crate::fault::Fault;
 use x7_startup::Lines;
 
 /// Where the bytes taken end.
-#[derive(Clone, Copy, PartialEq, Eq)]
+#[derive(Clone, Copy)]
 pub enum End {
     /// In a gap: the sync word is searched.
     Searching,
@@ -17,7 +17,7 @@ pub enum End {
 }
 
 /// The state of a device but its memory (UG470, configuration registers).
-#[derive(Clone, Copy, PartialEq, Eq)]
+#[derive(Clone, Copy)]
 pub struct Regs {
     /// How many bytes were taken since the reset.
     pub taken: u64,

@@ -117,11 +117,8 @@ impl Rows {
         ensures width { IfSome result (λ row. length row.1.now ≡ self.now.width) }
         ensures past_end { IfNone result (length self.now.rows ≤ i) }
     {
-        let row = self.rows.get(i)?;
-        Some((
-            row.far,
-            &self.words[row.start..row.start + self.width as usize],
-        ))
+        let far = self.rows.get(i)?.far;
+        Some((far, self.words(i)))
     }
 
     /// The words of the i-th row, from 0 on.

@@ -1,7 +1,7 @@
 //! Why a word of a run, a copy or a readback is refused.
 
 /// Why the pipeline takes no word, puts no copy or gives no word.
-#[derive(Clone, Copy, Drop, PartialEq, Eq)]
+#[derive(Clone, Copy, Drop)]
 pub enum RunFault {
     /// The part has no frame at FAR, whose word this is.
     Address(u32),

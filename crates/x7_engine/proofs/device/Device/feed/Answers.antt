@@ -1,13 +1,14 @@
-use Rattle.std.proofs.Common.{◌≡◌, ◌++◌, ℕ, true, false, Option, List, length, take, sym, ap, subst, ◌∙◌, append-nil, refl, [], arith}
+use Rattle.std.proofs.Common.{◌≡◌, ◌+◌, ◌-◌, ◌<◌, ◌++◌, Some, ℕ, true, false, Option, List, length, take, sym, ap, subst, ◌∙◌, append-nil, refl, [], arith}
 use Rattle.std.specs.Option.{is_some}
+use Rattle.x7_packets.specs.Cutter.{CutterState, calls_left}
 use Rattle.x7_engine.specs.UntilRead.{RoomBefore}
 use Rattle.x7_engine.specs.declared.fed.Fed.{Fed}
 use Rattle.x7_engine.specs.declared.stop.StopCause.{StopCause}
 use Rattle.x7_engine.specs.ReadBuffer.{with_words}
 use Rattle.x7_engine.specs.Past.{AnswersAt, past_of}
-use Rattle.x7_engine.specs.Standing.{DeviceStandsFor, DeviceState, NoWordDue, answer_at_stop, taken_in, reads_given}
+use Rattle.x7_engine.specs.Standing.{DeviceStandsFor, DeviceState, NoWordDue, answer_at_stop, due_count, fed_more, taken_in, reads_given}
 use Rattle.x7_engine.specs.Stop.{stop_at_place}
-use Rattle.x7_engine.proofs.FeedLemmas.{answers_stop, now_given, read_here, stands_on, taken_by_stop, words_none}
+use Rattle.x7_engine.proofs.FeedLemmas.{answers_stop, fewer_left, none_before, now_given, read_here, some_due, stands_on, stopped_here, taken_by_stop, words_none}
 use Rattle.x7_engine.proofs.UntilReadLemmas.{room_read_on}
 use Rattle.x7_engine.proofs.device.Device.feed.Goals as goal
 
@@ -24,6 +25,47 @@ runs-init c = record {
   few = c.holds_within_most.ensures;
   stopped = λ e. (refl, refl, refl);
 }
+
+pub returns-in-Some-clause-within : goal.returns-in-Some-clause-within
+returns-in-Some-clause-within c =
+    let piece : List ℕ = c.args.piece.now in
+    let count : taken_in (length piece) c.answer_at_stop.result ≡ c.runs.at = ap (taken_in (length piece)) c.answer_at_stop.ensures ∙ taken_by_stop c.in-Some.stop (length piece) c.runs.at in
+    omega (arith, count, c.runs.invariant.within)
+
+pub returns-in-Some-clause-part : goal.returns-in-Some-clause-part
+returns-in-Some-clause-part c = c.runs.invariant.part
+
+pub returns-in-Some-clause-taken : goal.returns-in-Some-clause-taken
+returns-in-Some-clause-taken c =
+    let piece : List ℕ = c.args.piece.now in
+    let count : taken_in (length piece) c.answer_at_stop.result ≡ c.runs.at = ap (taken_in (length piece)) c.answer_at_stop.ensures ∙ taken_by_stop c.in-Some.stop (length piece) c.runs.at in
+    c.runs.invariant.taken ∙ ap (λ (k : ℕ). c.args.self.now.taken + k) (sym count)
+
+pub returns-in-Some-clause-fed : goal.returns-in-Some-clause-fed
+returns-in-Some-clause-fed c =
+    let piece : List ℕ = c.args.piece.now in
+    let count : taken_in (length piece) c.answer_at_stop.result ≡ c.runs.at = ap (taken_in (length piece)) c.answer_at_stop.ensures ∙ taken_by_stop c.in-Some.stop (length piece) c.runs.at in
+    c.runs.invariant.fed ∙ ap (fed_more c.args.self.now) (sym count)
+
+pub returns-in-Some-clause-within_most : goal.returns-in-Some-clause-within_most
+returns-in-Some-clause-within_most c = c.runs.invariant.few
+
+pub returns-in-Some-clause-stays : goal.returns-in-Some-clause-stays
+returns-in-Some-clause-stays c = λ e.
+    let piece : List ℕ = c.args.piece.now in
+    let count : taken_in (length piece) c.answer_at_stop.result ≡ c.runs.at = ap (taken_in (length piece)) c.answer_at_stop.ensures ∙ taken_by_stop c.in-Some.stop (length piece) c.runs.at in
+    let same = c.runs.invariant.stopped e in
+    (same.0, same.1, count ∙ same.2)
+
+pub returns-in-Some-clause-stopped : goal.returns-in-Some-clause-stopped
+returns-in-Some-clause-stopped c = λ part kept wrapped bytes s e. returns-in-Some-clause-stays c (stopped_here part kept wrapped c.args.self.now bytes s e)
+
+pub returns-in-Some-clause-answers_stop : goal.returns-in-Some-clause-answers_stop
+returns-in-Some-clause-answers_stop c = λ why e.
+    let same = c.runs.invariant.stopped (ap (λ (o : Option StopCause). is_some o) e) in
+    let stop : Some c.in-Some.stop ≡ Some why = c.in-Some.ensures ∙ ap (λ (d : DeviceState). d.registers.stop) same.0 ∙ e in
+    let cause : c.in-Some.stop ≡ why = cc in
+    c.answer_at_stop.ensures ∙ ap (λ (s : StopCause). answer_at_stop s c.runs.at) cause ∙ ap (answer_at_stop why) same.2
 
 pub returns-in-Some-clause-answer : goal.returns-in-Some-clause-answer
 returns-in-Some-clause-answer c = λ part kept wrapped bytes s.
@@ -51,6 +93,40 @@ returns-in-Some-clause-room c = λ part kept wrapped bytes s.
     let count : taken_in (length piece) c.answer_at_stop.result ≡ c.runs.at = ap (taken_in (length piece)) c.answer_at_stop.ensures ∙ taken_by_stop c.in-Some.stop (length piece) c.runs.at in
     subst (λ (k : ℕ). RoomBefore (record { part = part; kept = kept; wrapped = wrapped; bytes = bytes }) piece k (reads_given part kept c.args.self.now bytes) c.args.read.now) (sym count) (c.runs.invariant.room part kept wrapped bytes s)
 
+pub returns-then-not-give-clause-within : goal.returns-then-not-give-clause-within
+returns-then-not-give-clause-within c = c.runs.invariant.within
+
+pub returns-then-not-give-clause-part : goal.returns-then-not-give-clause-part
+returns-then-not-give-clause-part c = c.give.ensures.part ∙ c.runs.invariant.part
+
+pub returns-then-not-give-clause-taken : goal.returns-then-not-give-clause-taken
+returns-then-not-give-clause-taken c = c.give.ensures.taken ∙ c.runs.invariant.taken
+
+pub returns-then-not-give-clause-fed : goal.returns-then-not-give-clause-fed
+returns-then-not-give-clause-fed c = omega (arith, c.give.ensures.fed, c.runs.invariant.fed)
+
+pub returns-then-not-give-clause-answer : goal.returns-then-not-give-clause-answer
+returns-then-not-give-clause-answer c = λ part kept wrapped bytes s.
+    let taken : List ℕ = bytes ++ take c.runs.at c.args.piece.now in
+    let stands = (c.give.ensures.given part kept wrapped taken (c.runs.invariant.stands part kept wrapped bytes s)).stands in
+    let due : 0 < due_count c.give.new.self.registers.due = some_due (due_count c.give.new.self.registers.due) c.give.result c.give.ensures.none_left c.if-not-give.true in
+    (stands.stop_is ∙ ap (stop_at_place (length taken)) c.give.ensures.going, due, c.give.ensures.full due)
+
+pub returns-then-not-give-clause-within_most : goal.returns-then-not-give-clause-within_most
+returns-then-not-give-clause-within_most c = c.give.ensures.within_most
+
+pub returns-then-not-give-clause-room : goal.returns-then-not-give-clause-room
+returns-then-not-give-clause-room c = c.runs.invariant.room
+
+pub returns-then-not-give-clause-stays : goal.returns-then-not-give-clause-stays
+returns-then-not-give-clause-stays c = λ e. absurd (none_before c.args.self.now c.runs.self (λ e. (c.runs.invariant.stopped e).0) c.in_default.ensures e)
+
+pub returns-then-not-give-clause-stopped : goal.returns-then-not-give-clause-stopped
+returns-then-not-give-clause-stopped c = λ part kept wrapped bytes s e. absurd (none_before c.args.self.now c.runs.self (λ e. (c.runs.invariant.stopped e).0) c.in_default.ensures (stopped_here part kept wrapped c.args.self.now bytes s e))
+
+pub returns-then-not-give-clause-answers_stop : goal.returns-then-not-give-clause-answers_stop
+returns-then-not-give-clause-answers_stop c = λ why e. absurd (none_before c.args.self.now c.runs.self (λ e. (c.runs.invariant.stopped e).0) c.in_default.ensures (ap (λ (o : Option StopCause). is_some o) e))
+
 pub returns-then-not-give-clause-takes : goal.returns-then-not-give-clause-takes
 returns-then-not-give-clause-takes c = λ part kept wrapped bytes s.
     (c.give.ensures.given part kept wrapped (bytes ++ take c.runs.at c.args.piece.now) (c.runs.invariant.stands part kept wrapped bytes s)).stands
@@ -60,6 +136,30 @@ returns-then-not-give-clause-reads c = λ part kept wrapped bytes s.
     let taken : List ℕ = bytes ++ take c.runs.at c.args.piece.now in
     now_given part kept wrapped c.runs.self c.give.new.self c.args.read.now c.runs.read c.give.new.read taken (reads_given part kept c.args.self.now bytes)
     (c.give.ensures.given part kept wrapped taken (c.runs.invariant.stands part kept wrapped bytes s)) (c.runs.invariant.reads part kept wrapped bytes s)
+
+pub returns-then-turn-clause-within : goal.returns-then-turn-clause-within
+returns-then-turn-clause-within c = omega arith
+
+pub returns-then-turn-clause-part : goal.returns-then-turn-clause-part
+returns-then-turn-clause-part c = c.turn.ensures.turned.turn.part ∙ c.give.ensures.part ∙ c.runs.invariant.part
+
+pub returns-then-turn-clause-taken : goal.returns-then-turn-clause-taken
+returns-then-turn-clause-taken c = omega (arith, c.give.ensures.taken, c.turn.ensures.turned.taken, c.turn.ensures.turned.forward, c.runs.invariant.taken, (c.turn.ensures.used_up c.if-turn.true).all)
+
+pub returns-then-turn-clause-fed : goal.returns-then-turn-clause-fed
+returns-then-turn-clause-fed c = omega (arith, c.give.ensures.fed, c.turn.ensures.turned.fed, c.turn.ensures.turned.forward, c.runs.invariant.fed, (c.turn.ensures.used_up c.if-turn.true).all)
+
+pub returns-then-turn-clause-within_most : goal.returns-then-turn-clause-within_most
+returns-then-turn-clause-within_most c = c.give.ensures.within_most
+
+pub returns-then-turn-clause-stays : goal.returns-then-turn-clause-stays
+returns-then-turn-clause-stays c = λ e. absurd (none_before c.args.self.now c.runs.self (λ e. (c.runs.invariant.stopped e).0) c.in_default.ensures e)
+
+pub returns-then-turn-clause-stopped : goal.returns-then-turn-clause-stopped
+returns-then-turn-clause-stopped c = λ part kept wrapped bytes s e. absurd (none_before c.args.self.now c.runs.self (λ e. (c.runs.invariant.stopped e).0) c.in_default.ensures (stopped_here part kept wrapped c.args.self.now bytes s e))
+
+pub returns-then-turn-clause-answers_stop : goal.returns-then-turn-clause-answers_stop
+returns-then-turn-clause-answers_stop c = λ why e. absurd (none_before c.args.self.now c.runs.self (λ e. (c.runs.invariant.stopped e).0) c.in_default.ensures (ap (λ (o : Option StopCause). is_some o) e))
 
 pub returns-then-turn-clause-room : goal.returns-then-turn-clause-room
 returns-then-turn-clause-room c = λ part kept wrapped bytes s.
@@ -95,6 +195,12 @@ returns-then-turn-clause-reads c = λ part kept wrapped bytes s.
     read_here part kept wrapped c.runs.self c.give.new.self c.turn.new.self c.args.read.now c.runs.read c.give.new.read bytes piece (reads_given part kept c.args.self.now bytes) c.runs.at c.turn.new.at
     (c.give.ensures.given part kept wrapped (bytes ++ take c.runs.at piece) (c.runs.invariant.stands part kept wrapped bytes s)) c.turn.ensures.turned.forward (c.turn.ensures.turned.turn.silent part kept wrapped) (c.runs.invariant.reads part kept wrapped bytes s) in
     (known.0, known.1, ap (λ (k : ℕ). reads_given part kept c.turn.new.self (bytes ++ take k piece)) (sym used.all) ∙ known.2)
+
+pub runs-smaller : goal.runs-smaller
+runs-smaller c =
+    let left : ℕ = length c.args.piece.now - c.runs.at in
+    fewer_left c.runs.self.registers.stop c.turn.new.self.registers.stop (calls_left c.runs.self.cutter left) (calls_left c.turn.new.self.cutter (length c.args.piece.now - c.turn.new.at)) (sym (ap (λ (o : Option StopCause). is_some o) c.in_default.ensures))
+    (λ going. let nearer = c.turn.ensures.goes_on c.if-turn.false going in let same = ap (λ (k : CutterState). calls_left k left) c.give.ensures.cutter in omega (arith, nearer, same))
 
 pub runs-preserved : goal.runs-preserved
 runs-preserved c =

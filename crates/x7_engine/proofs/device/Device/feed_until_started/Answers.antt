@@ -1,14 +1,15 @@
-use Rattle.std.proofs.Common.{◌≡◌, ◌++◌, ℕ, true, false, Option, List, length, take, sym, ap, subst, ◌∙◌, append-nil, refl, [], arith}
+use Rattle.std.proofs.Common.{◌≡◌, ◌+◌, ◌-◌, ◌<◌, ◌++◌, ℕ, true, false, Option, List, length, take, sym, ap, subst, ◌∙◌, append-nil, refl, [], arith}
 use Rattle.std.specs.Option.{is_some}
+use Rattle.x7_packets.specs.Cutter.{CutterState, calls_left}
 use Rattle.x7_engine.specs.UntilRead.{RoomBefore}
 use Rattle.x7_engine.specs.declared.fed.Fed.TheVariants as fed
 use Rattle.x7_engine.specs.declared.stop.StopCause.{StopCause}
 use Rattle.x7_engine.specs.ReadBuffer.{with_words}
 use Rattle.x7_engine.specs.Past.{AnswersAt, AnswersUntilAt, past_of}
-use Rattle.x7_engine.specs.Standing.{DeviceStandsFor, DeviceState, NoWordDue, taken_in, reads_given}
+use Rattle.x7_engine.specs.Standing.{DeviceStandsFor, DeviceState, NoWordDue, due_count, fed_more, taken_in, reads_given}
 use Rattle.x7_engine.specs.Stop.{stop_at_place}
 use Rattle.x7_engine.specs.UntilStarted.{NoneStarted, has_started, says_started, taken_until}
-use Rattle.x7_engine.proofs.FeedLemmas.{answers_stop, now_given, read_here, stands_on, taken_by_stop, words_none}
+use Rattle.x7_engine.proofs.FeedLemmas.{answers_stop, fewer_left, none_before, now_given, read_here, some_due, stands_on, stopped_here, taken_by_stop, words_none}
 use Rattle.x7_engine.proofs.UntilLemmas.{answers_until, count_is, none_on, says_answer}
 use Rattle.x7_engine.proofs.UntilReadLemmas.{room_read_on}
 use Rattle.x7_engine.proofs.device.Device.feed_until_started.Goals as goal
@@ -33,6 +34,24 @@ stop_count : (c : goal.After-answer) → taken_until (length c.args.piece.now) c
 stop_count c =
     count_is c.answer.result c.started.result c.answer_at_stop.result (length c.args.piece.now) c.runs.at c.answer.ensures
     (ap (taken_in (length c.args.piece.now)) c.answer_at_stop.ensures ∙ taken_by_stop c.in-Some.stop (length c.args.piece.now) c.runs.at)
+
+pub returns-in-Some-clause-within : goal.returns-in-Some-clause-within
+returns-in-Some-clause-within c = omega (arith, stop_count c, c.runs.invariant.within)
+
+pub returns-in-Some-clause-part : goal.returns-in-Some-clause-part
+returns-in-Some-clause-part c = c.runs.invariant.part
+
+pub returns-in-Some-clause-taken : goal.returns-in-Some-clause-taken
+returns-in-Some-clause-taken c = c.runs.invariant.taken ∙ ap (λ (k : ℕ). c.args.self.now.taken + k) (sym (stop_count c))
+
+pub returns-in-Some-clause-fed : goal.returns-in-Some-clause-fed
+returns-in-Some-clause-fed c = c.runs.invariant.fed ∙ ap (fed_more c.args.self.now) (sym (stop_count c))
+
+pub returns-in-Some-clause-stays : goal.returns-in-Some-clause-stays
+returns-in-Some-clause-stays c = λ e. (let same = c.runs.invariant.stopped e in (same.0, same.1, stop_count c ∙ same.2))
+
+pub returns-in-Some-clause-stopped : goal.returns-in-Some-clause-stopped
+returns-in-Some-clause-stopped c = λ part kept wrapped bytes s e. returns-in-Some-clause-stays c (stopped_here part kept wrapped c.args.self.now bytes s e)
 
 pub returns-in-Some-clause-takes : goal.returns-in-Some-clause-takes
 returns-in-Some-clause-takes c = λ part kept wrapped bytes s.
@@ -68,6 +87,40 @@ returns-in-Some-clause-room c = λ part kept wrapped bytes s.
 
 -- ---- words due
 
+pub returns-then-not-give-clause-within : goal.returns-then-not-give-clause-within
+returns-then-not-give-clause-within c = c.runs.invariant.within
+
+pub returns-then-not-give-clause-part : goal.returns-then-not-give-clause-part
+returns-then-not-give-clause-part c = c.give.ensures.part ∙ c.runs.invariant.part
+
+pub returns-then-not-give-clause-taken : goal.returns-then-not-give-clause-taken
+returns-then-not-give-clause-taken c = c.give.ensures.taken ∙ c.runs.invariant.taken
+
+pub returns-then-not-give-clause-fed : goal.returns-then-not-give-clause-fed
+returns-then-not-give-clause-fed c = omega (arith, c.give.ensures.fed, c.runs.invariant.fed)
+
+pub returns-then-not-give-clause-first : goal.returns-then-not-give-clause-first
+returns-then-not-give-clause-first c = c.runs.invariant.first
+
+pub returns-then-not-give-clause-started : goal.returns-then-not-give-clause-started
+returns-then-not-give-clause-started c = λ part kept wrapped bytes s none. absurd (omega (arith, none, some_due (due_count c.give.new.self.registers.due) c.give.result c.give.ensures.none_left c.if-not-give.true))
+
+pub returns-then-not-give-clause-answer : goal.returns-then-not-give-clause-answer
+returns-then-not-give-clause-answer c = λ part kept wrapped bytes s.
+    let taken : List ℕ = bytes ++ take c.runs.at c.args.piece.now in
+    let stands = (c.give.ensures.given part kept wrapped taken (c.runs.invariant.stands part kept wrapped bytes s)).stands in
+    let due : 0 < due_count c.give.new.self.registers.due = some_due (due_count c.give.new.self.registers.due) c.give.result c.give.ensures.none_left c.if-not-give.true in
+    (stands.stop_is ∙ ap (stop_at_place (length taken)) c.give.ensures.going, due, c.give.ensures.full due)
+
+pub returns-then-not-give-clause-room : goal.returns-then-not-give-clause-room
+returns-then-not-give-clause-room c = c.runs.invariant.room
+
+pub returns-then-not-give-clause-stays : goal.returns-then-not-give-clause-stays
+returns-then-not-give-clause-stays c = λ e. absurd (none_before c.args.self.now c.runs.self (λ e. (c.runs.invariant.stopped e).0) c.in_default.ensures e)
+
+pub returns-then-not-give-clause-stopped : goal.returns-then-not-give-clause-stopped
+returns-then-not-give-clause-stopped c = λ part kept wrapped bytes s e. absurd (none_before c.args.self.now c.runs.self (λ e. (c.runs.invariant.stopped e).0) c.in_default.ensures (stopped_here part kept wrapped c.args.self.now bytes s e))
+
 pub returns-then-not-give-clause-takes : goal.returns-then-not-give-clause-takes
 returns-then-not-give-clause-takes c = λ part kept wrapped bytes s.
     (c.give.ensures.given part kept wrapped (bytes ++ take c.runs.at c.args.piece.now) (c.runs.invariant.stands part kept wrapped bytes s)).stands
@@ -79,6 +132,33 @@ returns-then-not-give-clause-reads c = λ part kept wrapped bytes s.
     (c.give.ensures.given part kept wrapped taken (c.runs.invariant.stands part kept wrapped bytes s)) (c.runs.invariant.reads part kept wrapped bytes s)
 
 -- ---- startup has ended
+
+pub returns-then-started-clause-within : goal.returns-then-started-clause-within
+returns-then-started-clause-within c = c.runs.invariant.within
+
+pub returns-then-started-clause-part : goal.returns-then-started-clause-part
+returns-then-started-clause-part c = c.give.ensures.part ∙ c.runs.invariant.part
+
+pub returns-then-started-clause-taken : goal.returns-then-started-clause-taken
+returns-then-started-clause-taken c = c.give.ensures.taken ∙ c.runs.invariant.taken
+
+pub returns-then-started-clause-fed : goal.returns-then-started-clause-fed
+returns-then-started-clause-fed c = omega (arith, c.give.ensures.fed, c.runs.invariant.fed)
+
+pub returns-then-started-clause-first : goal.returns-then-started-clause-first
+returns-then-started-clause-first c = c.runs.invariant.first
+
+pub returns-then-started-clause-answer : goal.returns-then-started-clause-answer
+returns-then-started-clause-answer c = λ part kept wrapped bytes s. c.give.ensures.none_left.0 c.if-not-give.false
+
+pub returns-then-started-clause-room : goal.returns-then-started-clause-room
+returns-then-started-clause-room c = c.runs.invariant.room
+
+pub returns-then-started-clause-stays : goal.returns-then-started-clause-stays
+returns-then-started-clause-stays c = λ e. absurd (none_before c.args.self.now c.runs.self (λ e. (c.runs.invariant.stopped e).0) c.in_default.ensures e)
+
+pub returns-then-started-clause-stopped : goal.returns-then-started-clause-stopped
+returns-then-started-clause-stopped c = λ part kept wrapped bytes s e. absurd (none_before c.args.self.now c.runs.self (λ e. (c.runs.invariant.stopped e).0) c.in_default.ensures (stopped_here part kept wrapped c.args.self.now bytes s e))
 
 pub returns-then-started-clause-takes : goal.returns-then-started-clause-takes
 returns-then-started-clause-takes c = λ part kept wrapped bytes s.
@@ -96,6 +176,36 @@ returns-then-started-clause-reads c = λ part kept wrapped bytes s.
     (c.give.ensures.given part kept wrapped taken (c.runs.invariant.stands part kept wrapped bytes s)) (c.runs.invariant.reads part kept wrapped bytes s)
 
 -- ---- the piece is used up
+
+pub returns-then-turn_until_started-clause-within : goal.returns-then-turn_until_started-clause-within
+returns-then-turn_until_started-clause-within c =
+    let used = c.turn_until_started.ensures.took.used_up c.if-turn_until_started.true in
+    let count : taken_until (length c.args.piece.now) c.answer-then-turn_until_started.result ≡ c.turn_until_started.new.at =
+    count_is c.answer-then-turn_until_started.result c.started-then-turn_until_started.result fed.All (length c.args.piece.now) c.turn_until_started.new.at c.answer-then-turn_until_started.ensures (sym used.all) in
+    omega (arith, count, used.all)
+
+pub returns-then-turn_until_started-clause-part : goal.returns-then-turn_until_started-clause-part
+returns-then-turn_until_started-clause-part c = c.turn_until_started.ensures.took.turned.turn.part ∙ c.give.ensures.part ∙ c.runs.invariant.part
+
+pub returns-then-turn_until_started-clause-taken : goal.returns-then-turn_until_started-clause-taken
+returns-then-turn_until_started-clause-taken c =
+    let used = c.turn_until_started.ensures.took.used_up c.if-turn_until_started.true in
+    let count : taken_until (length c.args.piece.now) c.answer-then-turn_until_started.result ≡ c.turn_until_started.new.at =
+    count_is c.answer-then-turn_until_started.result c.started-then-turn_until_started.result fed.All (length c.args.piece.now) c.turn_until_started.new.at c.answer-then-turn_until_started.ensures (sym used.all) in
+    omega (arith, count, c.give.ensures.taken, c.turn_until_started.ensures.took.turned.taken, c.turn_until_started.ensures.took.turned.forward, c.runs.invariant.taken)
+
+pub returns-then-turn_until_started-clause-fed : goal.returns-then-turn_until_started-clause-fed
+returns-then-turn_until_started-clause-fed c =
+    let used = c.turn_until_started.ensures.took.used_up c.if-turn_until_started.true in
+    let count : taken_until (length c.args.piece.now) c.answer-then-turn_until_started.result ≡ c.turn_until_started.new.at =
+    count_is c.answer-then-turn_until_started.result c.started-then-turn_until_started.result fed.All (length c.args.piece.now) c.turn_until_started.new.at c.answer-then-turn_until_started.ensures (sym used.all) in
+    omega (arith, count, c.give.ensures.fed, c.turn_until_started.ensures.took.turned.fed, c.turn_until_started.ensures.took.turned.forward, c.runs.invariant.fed)
+
+pub returns-then-turn_until_started-clause-stays : goal.returns-then-turn_until_started-clause-stays
+returns-then-turn_until_started-clause-stays c = λ e. absurd (none_before c.args.self.now c.runs.self (λ e. (c.runs.invariant.stopped e).0) c.in_default.ensures e)
+
+pub returns-then-turn_until_started-clause-stopped : goal.returns-then-turn_until_started-clause-stopped
+returns-then-turn_until_started-clause-stopped c = λ part kept wrapped bytes s e. absurd (none_before c.args.self.now c.runs.self (λ e. (c.runs.invariant.stopped e).0) c.in_default.ensures (stopped_here part kept wrapped c.args.self.now bytes s e))
 
 pub returns-then-turn_until_started-clause-takes : goal.returns-then-turn_until_started-clause-takes
 returns-then-turn_until_started-clause-takes c = λ part kept wrapped bytes s.
@@ -177,6 +287,13 @@ returns-then-turn_until_started-clause-room c = λ part kept wrapped bytes s.
     (c.runs.invariant.room part kept wrapped bytes s))
 
 -- ---- a turn more
+
+pub runs-smaller : goal.runs-smaller
+runs-smaller c =
+    let left : ℕ = length c.args.piece.now - c.runs.at in
+    fewer_left c.runs.self.registers.stop c.turn_until_started.new.self.registers.stop (calls_left c.runs.self.cutter left)
+    (calls_left c.turn_until_started.new.self.cutter (length c.args.piece.now - c.turn_until_started.new.at)) (sym (ap (λ (o : Option StopCause). is_some o) c.in_default.ensures))
+    (λ going. let nearer = c.turn_until_started.ensures.took.goes_on c.if-turn_until_started.false going in let same = ap (λ (k : CutterState). calls_left k left) c.give.ensures.cutter in omega (arith, nearer, same))
 
 pub runs-preserved : goal.runs-preserved
 runs-preserved c =

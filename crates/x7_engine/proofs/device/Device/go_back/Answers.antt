@@ -3,9 +3,9 @@ use Rattle.x7_part.specs.Part.{PartData}
 use Rattle.x7_pipeline.specs.Saved.{SavedState}
 use Rattle.x7_flow.specs.Saved.{FramesBack}
 use Rattle.x7_flow.specs.Standing.{FramesFit, FramesState}
-use Rattle.x7_engine.specs.Standing.{DeviceState, registers_in}
+use Rattle.x7_engine.specs.Standing.{DeviceState, fed_of, registers_in}
 use Rattle.x7_engine.specs.Undo.{UndoLeadsBack, UndoState}
-use Rattle.x7_engine.proofs.PastLemmas.{past_back}
+use Rattle.x7_engine.proofs.PastLemmas.{equal_back, past_equal}
 use Rattle.x7_engine.proofs.UndoLemmas.{leads_back}
 use Rattle.x7_engine.proofs.device.Device.go_back.Goals as goal
 
@@ -32,6 +32,32 @@ invariant_of-self c =
     } in
     record {
       frames = c.restore.ensures.frames;
-      past = past_back new b.old here (c.copy-self-inside.ensures ∙ ap (λ (v : UndoState). v.cutter) c.undo.view_is ∙ back.values.cutter) registers
-          (ap (λ (v : UndoState). v.wrapped) c.undo.view_is ∙ back.values.wrapped) (ap (λ (v : UndoState). v.taken) c.undo.view_is ∙ back.values.taken) (record { past = b.past; has = b.had });
+      past = past_equal new b.old
+          (equal_back new b.old here (c.copy-self-inside.ensures ∙ ap (λ (v : UndoState). v.cutter) c.undo.view_is ∙ back.values.cutter) registers
+          (ap (λ (v : UndoState). v.wrapped) c.undo.view_is ∙ back.values.wrapped) (ap (λ (v : UndoState). v.taken) c.undo.view_is ∙ back.values.taken)) (record { past = b.past; has = b.had });
     }
+
+pub returns-clause-back : goal.returns-clause-back
+returns-clause-back c = λ old back.
+    let here : c.self.inside.part ≡ old.part = ap (λ (d : DeviceState). d.part) c.self.view_is ∙ back.part in
+    let frames : FramesBack c.self.inside.part c.undo.inside.frames c.self.inside.registers.frames old.registers.frames =
+    subst (λ (q : PartData). FramesBack q c.undo.inside.frames c.self.inside.registers.frames old.registers.frames) (sym here)
+    (subst (λ (s : SavedState). FramesBack old.part s c.self.inside.registers.frames old.registers.frames) (sym (ap (λ (v : UndoState). v.frames) c.undo.view_is))
+    (subst (λ (f : FramesState). FramesBack old.part c.args.undo.now.frames f old.registers.frames) (sym (ap (λ (d : DeviceState). d.registers.frames) c.self.view_is)) back.frames)) in
+    let registers : registers_in c.restore.new.self ≡ old.registers = c.restore.ensures.back old.registers (ap (λ (v : UndoState). v.values) c.undo.view_is ∙ back.values.values) frames in
+    let new : DeviceState = record {
+      part = c.self.inside.part;
+      cutter = c.copy-self-inside.result;
+      registers = registers_in c.restore.new.self;
+      wrapped = c.undo.inside.wrapped;
+      taken = c.undo.inside.taken;
+      fed = c.self.inside.fed;
+    } in
+    equal_back new old here (c.copy-self-inside.ensures ∙ ap (λ (v : UndoState). v.cutter) c.undo.view_is ∙ back.values.cutter) registers
+    (ap (λ (v : UndoState). v.wrapped) c.undo.view_is ∙ back.values.wrapped) (ap (λ (v : UndoState). v.taken) c.undo.view_is ∙ back.values.taken)
+
+pub returns-clause-part : goal.returns-clause-part
+returns-clause-part c = ap (λ (d : DeviceState). d.part) c.self.view_is
+
+pub returns-clause-fed : goal.returns-clause-fed
+returns-clause-fed c = ap (λ (d : DeviceState). fed_of d) c.self.view_is

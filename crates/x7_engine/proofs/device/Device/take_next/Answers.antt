@@ -1,4 +1,4 @@
-use Rattle.std.proofs.Common.{◌≡◌, ◌-◌, ◌++◌, ℕ, true, false, List, length, Option, sym, ap, subst, ◌∙◌, append_assoc, arith, rules}
+use Rattle.std.proofs.Common.{◌≡◌, ◌-◌, ◌++◌, ℕ, true, false, List, length, Option, sym, ap, subst, ◌∙◌, append_assoc, arith}
 use Rattle.std.specs.Option.{is_some}
 use Rattle.x7_packets.specs.Cutter.{CutterState, between, calls_left}
 use Rattle.x7_engine.specs.declared.stop.StopCause.{StopCause}
@@ -43,11 +43,11 @@ returns-then-has_stopped c = record {
 
 pub returns : goal.returns
 returns c = record {
-  turned = record {
-    forward = search rules;
-    within = search rules;
-    taken = search rules;
-    fed = search rules;
+  turned = let nops = c.pass_nops.ensures.turned in let run = c.take_run.ensures.turned in record {
+    forward = omega (arith, nops.forward, run.forward);
+    within = run.within;
+    taken = omega (arith, nops.forward, run.forward, nops.taken, run.taken);
+    fed = omega (arith, nops.forward, run.forward, nops.fed, run.fed);
     turn = turn_taken c;
   };
   used_up = c.take_run.ensures.used_up;

@@ -121,9 +121,9 @@ comes_nearer (Body register bytes) left before after n g = g
 pub returns : goal.returns
 returns c = record {
   turned = record {
-    forward = search rules;
-    within = search rules;
-    taken = search rules;
+    forward = omega (arith, c.cut-run.ensures.forward, c.take_run-left.ensures.left.within);
+    within = omega (arith, c.cut-run.ensures.within);
+    taken = ap (λ (d : DeviceState). d.taken + (c.cut-run.new.at - c.take_run-left.result - c.args.at.now)) c.self.view_is;
     fed = search rules;
     turn = turn_taken c;
   };
