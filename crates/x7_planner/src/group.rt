@@ -56,10 +56,13 @@ fn put_copies(
         if by_content.firsts[k] != start {
             return Ok(());
         }
-        put_packets(out, &[
-            write_one(Reg::Far, by_content.frames[k].far),
-            write_one(Reg::Mfwr, 0),
-        ])?;
+        put_packets(
+            out,
+            &[
+                write_one(Reg::Far, by_content.frames[k].far),
+                write_one(Reg::Mfwr, 0),
+            ],
+        )?;
     }
     Ok(())
 }
@@ -76,11 +79,14 @@ fn put_group(
     ensures { OnOk result (out.new.items ≡ with_piece out.old.items (Words (section_words part.now (Copies words.now (addresses_with words.now (rows_by_content by_content.now)))))) }
 {
     let far = by_content.frames[start].far;
-    put_packets(out, &[
-        command(Command::Wcfg),
-        write_one(Reg::Far, far),
-        frame_data_headers(part.words()),
-    ])?;
+    put_packets(
+        out,
+        &[
+            command(Command::Wcfg),
+            write_one(Reg::Far, far),
+            frame_data_headers(part.words()),
+        ],
+    )?;
     put_words(out, words)?;
     put_words(out, &command(Command::Mfw))?;
     put_copies(out, by_content, start, words)

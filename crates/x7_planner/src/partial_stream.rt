@@ -78,12 +78,7 @@ fn put_by_content(
 }
 
 /// Writes the groups and the runs of a plan.
-fn put_sections(
-    alloc: Global,
-    out: &mut Vec<u8>,
-    part: &Part,
-    plan: &Plan,
-) -> Result<(), NoMemory>
+fn put_sections(alloc: Global, out: &mut Vec<u8>, part: &Part, plan: &Plan) -> Result<(), NoMemory>
     requires addresses { AreAddressed part.now plan.now.rows }
     ensures { OnOk result (out.new.items ≡ with_piece out.old.items (Words (flat_map (section_words part.now) (sections_of part.now plan.now.rows)))) }
 {
@@ -92,12 +87,7 @@ fn put_sections(
 }
 
 /// Writes a partial stream, of which nothing is written yet.
-fn put_partial(
-    alloc: Global,
-    out: &mut Vec<u8>,
-    part: &Part,
-    plan: &Plan,
-) -> Result<(), NoMemory>
+fn put_partial(alloc: Global, out: &mut Vec<u8>, part: &Part, plan: &Plan) -> Result<(), NoMemory>
     requires none { out.old.items ≡ [] }
     requires addresses { AreAddressed part.now plan.now.rows }
     ensures { OnOk result (out.new.items ≡ partial_stream part.now plan.now.rows) }

@@ -56,11 +56,14 @@ fn put_run(out: &mut Vec<u8>, part: &Part, run: &[PlannedFrame]) -> Result<(), N
     ensures { OnOk result (out.new.items ≡ with_piece out.old.items (Words (section_words part.now (Rows (planned_rows run.now))))) }
 {
     let word_count = part.words() * (run.len() as u32 + 1);
-    put_packets(out, &[
-        command(Command::Wcfg),
-        write_one(Reg::Far, run[0].far),
-        frame_data_headers(word_count),
-    ])?;
+    put_packets(
+        out,
+        &[
+            command(Command::Wcfg),
+            write_one(Reg::Far, run[0].far),
+            frame_data_headers(word_count),
+        ],
+    )?;
     put_frames(out, run)?;
     put_words(out, zeros(part.words()))
 }
