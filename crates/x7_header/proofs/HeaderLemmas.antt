@@ -25,6 +25,10 @@ test_ok : {A : Type 0} (b : Bool) (d : HeaderFault) (x y : A) → cond b (Ok x) 
 test_ok true d x y e = (refl, cc)
 test_ok false d x y e = absurd cc
 
+-- bytes written after others, and some before those
+pub before : (old mid new xs ys : List ℕ) → mid ≡ old ++ xs → new ≡ mid ++ ys → new ≡ old ++ (xs ++ ys)
+before old mid new xs ys e f = f ∙ ap (λ (t : List ℕ). t ++ ys) e ∙ append_assoc old xs ys
+
 -- ---- what is written is read again
 
 -- a letter that is there
@@ -363,6 +367,22 @@ other_first total place field fields (first ∷ bytes) h e =
       record { done = []; contents = []; next = field; later = fields; other = first; rest = bytes; fields_are = refl; hold = tt; bytes_are = refl; left_is = omega (arith, at, h); differs = t.0 },
     )
 
+-- a whole field before them
+other_later : (field : Field) (fields : List Field) (bytes content rest : List ℕ) (left : ℕ) → bytes ≡ field_bytes field content ++ rest → FitsFieldKind field.kind content → HasOtherLetter fields rest left → HasOtherLetter (field ∷ fields) bytes left
+other_later field fields bytes content rest left e h w = record {
+  done = field ∷ w.done;
+  contents = content ∷ w.contents;
+  next = w.next;
+  later = w.later;
+  other = w.other;
+  rest = w.rest;
+  fields_are = ap (λ fs. field ∷ fs) w.fields_are;
+  hold = (h, w.hold);
+  bytes_are = e ∙ ap (λ r. field_bytes field content ++ r) w.bytes_are ∙ sym (append_assoc (field_bytes field content) (fields_bytes w.done w.contents) (w.other ∷ w.rest));
+  left_is = w.left_is;
+  differs = w.differs;
+}
+
 other_letter : (total place : ℕ) (fields : List Field) (bytes : List ℕ) → AreBytes bytes → length bytes ≤ total → fields_at total fields bytes ≡ Err (fault.Field place) →
     (place ≤ total) × HasOtherLetter fields bytes (total - place)
 unfolding fields_at field_at
@@ -381,19 +401,7 @@ other_letter total place (field ∷ fields) bytes f h e =
             | inl later ↦
                 let w = other_letter total place fields there.0.1 (all_back (λ c. c < 256) (field_bytes field there.0.0) there.0.1 fits) (omega (arith, h, ap length t.0, long)) later in (
                   w.0,
-                  record {
-                    done = field ∷ w.1.done;
-                    contents = there.0.0 ∷ w.1.contents;
-                    next = w.1.next;
-                    later = w.1.later;
-                    other = w.1.other;
-                    rest = w.1.rest;
-                    fields_are = ap (λ fs. field ∷ fs) w.1.fields_are;
-                    hold = (t.1, w.1.hold);
-                    bytes_are = t.0 ∙ ap (λ r. field_bytes field there.0.0 ++ r) w.1.bytes_are ∙ sym (append_assoc (field_bytes field there.0.0) (fields_bytes w.1.done w.1.contents) (w.1.other ∷ w.1.rest));
-                    left_is = w.1.left_is;
-                    differs = w.1.differs;
-                  },
+                  other_later field fields bytes there.0.0 there.0.1 (total - place) t.0 t.1 w.1,
                 )
             | inr good ↦ absurd (ok_not_err (there.0.0 ∷ good.0.0, good.0.1) (fault.Field place) good.2)
           ]

@@ -8,7 +8,6 @@ use crate::field::{after_fixed_bytes, number_field, text_field};
 use crate::header::Head;
 
 /// What a header holds, read from the bytes after its fixed ones, of an input of `total` bytes.
-#[tactic(auto, unfolding(crate::specs::Reading::header_fields_at, crate::specs::Reading::fields_at))]
 fn read_fields(bytes: &[u8], total: usize) -> Result<Head<'_>, HeaderFault>
     requires { length bytes.now ≤ total }
     ensures { ReturnsAs (λ head. (contents_of head, head.size)) result (header_fields_at total bytes.now) }

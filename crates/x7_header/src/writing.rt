@@ -38,18 +38,26 @@ fn append_number(out: &mut Vec<u8>, letter: u8, number: u32) -> Result<(), NoMem
     append(out, &bytes_of(number))
 }
 
-/// The bytes of the header with what a head holds, field by field.
+/// Appends the bytes of the header with what a head holds, field by field.
+fn append_header(out: &mut Vec<u8>, head: &Head<'_>) -> Result<(), NoMemory>
+    requires { FitHeaderFields (contents_of head.now) }
+    ensures { OnOk result (out.new.items ≡ out.old.items ++ header_bytes (contents_of head.now)) }
+{
+    append(out, &FIXED_BYTES)?;
+    append_text(out, b'a', head.a)?;
+    append_text(out, b'b', head.b)?;
+    append_text(out, b'c', head.c)?;
+    append_text(out, b'd', head.d)?;
+    append_number(out, b'e', head.length)
+}
+
+/// The bytes of the header with what a head holds.
 fn bytes_of_header(alloc: Global, head: &Head<'_>) -> Result<Vec<u8>, NoMemory>
     requires { FitHeaderFields (contents_of head.now) }
     ensures { IfOk result (λ out. out.items ≡ header_bytes (contents_of head.now)) }
 {
     let mut out = Vec::new(alloc);
-    append(&mut out, &FIXED_BYTES)?;
-    append_text(&mut out, b'a', head.a)?;
-    append_text(&mut out, b'b', head.b)?;
-    append_text(&mut out, b'c', head.c)?;
-    append_text(&mut out, b'd', head.d)?;
-    append_number(&mut out, b'e', head.length)?;
+    append_header(&mut out, head)?;
     Ok(out)
 }
 

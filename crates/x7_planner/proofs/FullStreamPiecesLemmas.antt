@@ -103,6 +103,57 @@ module _ (s : FullStreamState) (old new : List ℕ) where
     fewer = λ _. calls_at s (next.Slot n) next.Check e (omega arith);
   }
 
+  pub wrote_opening : s.next_piece ≡ next.Opening → new ≡ old ++ bytes_of_words (full_opening s.part) → WritesPiece s old new (next.Slot 0)
+  wrote_opening e adds = record {
+    piece = bytes_of_words (full_opening s.part);
+    adds = adds;
+    before = λ given h. ap (λ (x : List ℕ). x ++ bytes_of_words (full_opening s.part)) (before_at s given next.Opening e h) ∙ sym (append-nil (bytes_of_words (full_opening s.part)));
+    inside = omega arith;
+    fewer = λ _. calls_at s next.Opening (next.Slot 0) e (omega arith);
+  }
+
+  -- the check of what was given, written after it
+  check_after : (at : NextPiece) (check : ℕ) → s.next_piece ≡ at → ((bytes : List ℕ) → HasTaken s.checker bytes → check ≡ check_of_bytes bytes) → (given : List ℕ) → HasGiven s given →
+      given ++ bytes_of_words (check_words check) ≡ with_piece (stream_of (pieces_before s.part s.plan at)) Check
+  check_after at check e value given h =
+      ap (λ (n : ℕ). given ++ bytes_of_words (check_words n)) (value given h.checked) ∙ ap (λ (x : List ℕ). with_piece x Check) (before_at s given at e h)
+
+  pub wrote_check : (check : ℕ) → s.next_piece ≡ next.Check → ((bytes : List ℕ) → HasTaken s.checker bytes → check ≡ check_of_bytes bytes) → new ≡ old ++ bytes_of_words (check_words check) → WritesPiece s old new next.Start
+  wrote_check check e value adds = record {
+    piece = bytes_of_words (check_words check);
+    adds = adds;
+    before = check_after next.Check check e value;
+    inside = omega arith;
+    fewer = λ _. calls_at s next.Check next.Start e (omega arith);
+  }
+
+  pub wrote_start : s.next_piece ≡ next.Start → new ≡ old ++ bytes_of_words start_words → WritesPiece s old new next.LastCheck
+  wrote_start e adds = record {
+    piece = bytes_of_words start_words;
+    adds = adds;
+    before = λ given h. ap (λ (x : List ℕ). x ++ bytes_of_words start_words) (before_at s given next.Start e h);
+    inside = omega arith;
+    fewer = λ _. calls_at s next.Start next.LastCheck e (omega arith);
+  }
+
+  pub wrote_last_check : (check : ℕ) → s.next_piece ≡ next.LastCheck → ((bytes : List ℕ) → HasTaken s.checker bytes → check ≡ check_of_bytes bytes) → new ≡ old ++ bytes_of_words (check_words check) → WritesPiece s old new next.Desync
+  wrote_last_check check e value adds = record {
+    piece = bytes_of_words (check_words check);
+    adds = adds;
+    before = check_after next.LastCheck check e value;
+    inside = omega arith;
+    fewer = λ _. calls_at s next.LastCheck next.Desync e (omega arith);
+  }
+
+  pub wrote_ending : s.next_piece ≡ next.Desync → new ≡ old ++ bytes_of_words full_ending → WritesPiece s old new next.Nothing
+  wrote_ending e adds = record {
+    piece = bytes_of_words full_ending;
+    adds = adds;
+    before = λ given h. ap (λ (x : List ℕ). x ++ bytes_of_words full_ending) (before_at s given next.Desync e h);
+    inside = omega arith;
+    fewer = λ _. calls_at s next.Desync next.Nothing e (omega arith);
+  }
+
   pub wrote_nothing : s.next_piece ≡ next.Nothing → new ≡ old → WritesPiece s old new next.Nothing
   wrote_nothing e same = record {
     piece = [];

@@ -5,3 +5,4 @@ pub mod ContentLemmas
 pub mod GroupLemmas
 pub mod FewLemmas
 pub mod RunLemmas
+mod WithinLemmas

@@ -175,11 +175,10 @@ alone_addressed part rows alone a e =
 pub alone_few : (part : PartData) (rows : List PlanRow) (alone : List PlannedFrame) → IsPart part → AreInOrder rows → All (λ row. Contains (addresses_in part) row.far) rows → planned_rows alone ≡ rows_not_shared rows rows → length alone ≤ most_frames
 alone_few part rows alone is o a e = omega (arith, rows_few part rows is o a, is.few, not_shared_fewer rows rows, ap length e, length-map alone planned_row)
 
-pub sections_written : (part : PartData) (rows : List PlanRow) (alone : List PlannedFrame) (old mid new : List ℕ) → planned_rows alone ≡ rows_not_shared rows rows → mid ≡ old ++ bytes_of_words (flat_map (section_words part) (groups_led rows rows))
-    → new ≡ mid ++ bytes_of_words (runs_words part (planned_rows alone)) → new ≡ old ++ bytes_of_words (flat_map (section_words part) (sections_of part rows))
-sections_written part rows alone old mid new e g h =
-    written_on old mid new (flat_map (section_words part) (groups_led rows rows)) (runs_words part (planned_rows alone)) g h
-    ∙ ap (λ t. old ++ bytes_of_words (flat_map (section_words part) (groups_led rows rows) ++ runs_words part t)) e
+pub sections_written : (part : PartData) (rows : List PlanRow) (old mid new : List ℕ) → mid ≡ old ++ bytes_of_words (flat_map (section_words part) (groups_led rows rows))
+    → new ≡ mid ++ bytes_of_words (runs_words part (rows_not_shared rows rows)) → new ≡ old ++ bytes_of_words (flat_map (section_words part) (sections_of part rows))
+sections_written part rows old mid new g h =
+    written_on old mid new (flat_map (section_words part) (groups_led rows rows)) (runs_words part (rows_not_shared rows rows)) g h
     ∙ ap (λ t. old ++ bytes_of_words t) (sym (flat_map-append (section_words part) (groups_led rows rows) (map Rows (runs_of part (rows_not_shared rows rows)))))
 
 pub stream_written : (part : PartData) (rows : List PlanRow) (none one two three new : List ℕ) → none ≡ [] → one ≡ none ++ bytes_of_words (partial_opening part)

@@ -6,4 +6,3 @@ pub mod Settings
 pub mod PartialStream
 pub mod Content
 pub mod FullStreamPieces
-pub mod Grouping

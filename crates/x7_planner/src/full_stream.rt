@@ -96,8 +96,7 @@ fn put_opening(out: &mut Vec<u8>, part: &Part) -> Result<(), NoMemory>
     ensures within { AppendsWithin out.old out.new result opening_size }
 {
     put_words(out, &OPENING_WORDS)?;
-    put_settings(out, part)?;
-    Ok(())
+    put_settings(out, part)
 }
 
 /// The first `count` words.

@@ -6,7 +6,7 @@ ghost use Rattle.x7_planner.specs.PartialStream.{addresses_with, are_shared, cop
 ghost use Rattle.x7_planner.specs.Writer.{with_piece, Words};
 
 use crate::content::{ByContent, PlannedFrame};
-use crate::writer::Writer;
+use crate::writer::{put_packets, put_words};
 use std::alloc::{AllocError, Global};
 use x7_memory::Plan;
 use x7_packets::{command, frame_data_headers, write_one};
@@ -44,52 +44,57 @@ fn leads_group(by_content: &ByContent<'_>, start: usize, far: u32, _words: &[u32
 /// Copies the frame that was written to each address of its content, which begins at `start`. `_words` is for the
 /// contract alone.
 fn put_copies(
-    writer: &mut Writer,
+    out: &mut Vec<u8>,
     by_content: &ByContent<'_>,
     start: usize,
     _words: &[u32],
 ) -> Result<(), NoMemory>
     requires { BeginsAt by_content.now _words.now start }
-    ensures { OnOk result (writer.new ≡ with_piece writer.old (Words (flat_map copy_words (addresses_with _words.now (rows_by_content by_content.now))))) }
+    ensures { OnOk result (out.new.items ≡ with_piece out.old.items (Words (flat_map copy_words (addresses_with _words.now (rows_by_content by_content.now))))) }
 {
     for k in start..by_content.frames.len() {
         if by_content.firsts[k] != start {
             return Ok(());
         }
-        writer.write_packets(&[
-            write_one(Reg::Far, by_content.frames[k].far),
-            write_one(Reg::Mfwr, 0),
-        ])?;
+        put_packets(
+            out,
+            &[
+                write_one(Reg::Far, by_content.frames[k].far),
+                write_one(Reg::Mfwr, 0),
+            ],
+        )?;
     }
     Ok(())
 }
 
 /// Writes the content that begins at `start` at its first address, and copies of it.
 fn put_group(
-    writer: &mut Writer,
+    out: &mut Vec<u8>,
     part: &Part,
     by_content: &ByContent<'_>,
     start: usize,
     words: &[u32],
 ) -> Result<(), NoMemory>
     requires { BeginsAt by_content.now words.now start }
-    ensures { OnOk result (writer.new ≡ with_piece writer.old (Words (section_words part.now (Copies words.now (addresses_with words.now (rows_by_content by_content.now)))))) }
+    ensures { OnOk result (out.new.items ≡ with_piece out.old.items (Words (section_words part.now (Copies words.now (addresses_with words.now (rows_by_content by_content.now)))))) }
 {
     let far = by_content.frames[start].far;
-    writer.write_packets(&[
-        command(Command::Wcfg),
-        write_one(Reg::Far, far),
-        frame_data_headers(part.words()),
-    ])?;
-    writer.write_words(words)?;
-    writer.write_words(&command(Command::Mfw))?;
-    put_copies(writer, by_content, start, words)?;
-    Ok(())
+    put_packets(
+        out,
+        &[
+            command(Command::Wcfg),
+            write_one(Reg::Far, far),
+            frame_data_headers(part.words()),
+        ],
+    )?;
+    put_words(out, words)?;
+    put_words(out, &command(Command::Mfw))?;
+    put_copies(out, by_content, start, words)
 }
 
 /// Writes the group that the row at an address leads, if it leads one. The row's content begins at `start`.
 fn put_led_group(
-    writer: &mut Writer,
+    out: &mut Vec<u8>,
     part: &Part,
     by_content: &ByContent<'_>,
     start: usize,
@@ -97,30 +102,29 @@ fn put_led_group(
     words: &[u32],
 ) -> Result<(), NoMemory>
     requires { BeginsAt by_content.now words.now start }
-    ensures { OnOk result (writer.new ≡ with_piece writer.old (Words (groups_words part.now (rows_by_content by_content.now) (record { far = far; words = words.now } ∷ [])))) }
+    ensures { OnOk result (out.new.items ≡ with_piece out.old.items (Words (groups_words part.now (rows_by_content by_content.now) (record { far = far; words = words.now } ∷ [])))) }
 {
     if !leads_group(by_content, start, far, words) {
         return Ok(());
     }
-    put_group(writer, part, by_content, start, words)?;
-    Ok(())
+    put_group(out, part, by_content, start, words)
 }
 
 /// Writes the groups of a plan in order.
 pub(crate) fn put_groups(
-    writer: &mut Writer,
+    out: &mut Vec<u8>,
     part: &Part,
     plan: &Plan,
     by_content: &ByContent<'_>,
 ) -> Result<(), NoMemory>
     requires { AreByContent plan.now.rows by_content.now }
-    ensures { OnOk result (writer.new ≡ with_piece writer.old (Words (groups_words part.now plan.now.rows plan.now.rows))) }
+    ensures { OnOk result (out.new.items ≡ with_piece out.old.items (Words (groups_words part.now plan.now.rows plan.now.rows))) }
 {
     for i in 0..plan.len() {
         let Some((far, words)) = plan.row(i) else {
             unreachable!()
         };
-        put_led_group(writer, part, by_content, by_content.starts[i], far, words)?;
+        put_led_group(out, part, by_content, by_content.starts[i], far, words)?;
     }
     Ok(())
 }

@@ -1,10 +1,10 @@
 //! The stream of a partial reconfiguration.
-ghost use Rattle.std.specs.Prelude.{◌≡◌, ◌⊎◌, ◌<◌, length, IfOk, IfErr, OnOk};
+ghost use Rattle.std.specs.Prelude.{◌≡◌, ◌⊎◌, ◌<◌, [], length, IfOk, IfErr, OnOk};
 ghost use Rattle.std.specs.List.{flat_map};
 ghost use Rattle.x7_memory.specs.Plan.{AreAddressed};
 ghost use Rattle.x7_part.specs.Part.{frame_words};
-ghost use Rattle.x7_planner.specs.Grouping.{IsGrouping};
-ghost use Rattle.x7_planner.specs.PartialStream.{partial_opening, partial_stream, section_words, sections_of};
+ghost use Rattle.x7_planner.specs.Content.{AreByContent, AreFramesByContent};
+ghost use Rattle.x7_planner.specs.PartialStream.{partial_opening, partial_stream, rows_not_shared, runs_words, section_words, sections_of};
 ghost use Rattle.x7_planner.specs.Fault.{IsPartialFault};
 ghost use Rattle.x7_planner.specs.Writer.{with_piece, Words};
 ghost use Rattle.x7_planner.specs.declared.fault.PlanFault.{PlanFault};
@@ -14,8 +14,8 @@ use crate::content::{ByContent, PlannedFrame, firsts_of, frames_by_content, star
 use crate::fault::PlanFault;
 use crate::group::{frames_not_shared, put_groups};
 use crate::run::put_runs;
-use crate::writer::{ENDING_NO_OPS, OPENING_WORDS, Writer};
-use std::alloc::{AllocError, Global};
+use crate::writer::{ENDING_NO_OPS, OPENING_WORDS, put_check, put_words};
+use std::alloc::Global;
 use x7_memory::Plan;
 use x7_packets::{NO_OP, command, write_one};
 use x7_part::Part;
@@ -25,70 +25,78 @@ use x7_words::NoMemory;
 /// For how many words there is room at first: those of a small partial stream. A larger one makes more room.
 const SMALL_STREAM_WORDS: usize = 1024;
 
-/// The frames of a plan, equal ones together, where the content of each of them and of each row begins, and the frames
-/// that no group has, in the plan's order.
-#[derive(Drop)]
-struct Grouping<'p> {
-    frames: Vec<PlannedFrame<'p>>,
-    firsts: Vec<usize>,
-    starts: Vec<usize>,
-    alone: Vec<PlannedFrame<'p>>,
-}
-
-/// The frames of a plan, equal ones together, and those that no group has.
-fn grouping_of(alloc: Global, plan: &Plan) -> Result<Grouping<'_>, AllocError>
-    ensures { IfOk result (λ grouping. IsGrouping plan.now.rows grouping) }
-{
-    let frames = frames_by_content(alloc, plan)?;
-    let firsts = firsts_of(alloc, &frames)?;
-    let starts = starts_of(alloc, plan, &frames, &firsts)?;
-    let by_content = ByContent {
-        frames: &frames,
-        firsts: &firsts,
-        starts: &starts,
-    };
-    let alone = frames_not_shared(alloc, plan, &by_content)?;
-    Ok(Grouping {
-        frames,
-        firsts,
-        starts,
-        alone,
-    })
-}
-
 /// Writes what stands before the groups.
-fn put_opening(writer: &mut Writer, part: &Part) -> Result<(), NoMemory>
-    ensures { OnOk result (writer.new ≡ with_piece writer.old (Words (partial_opening part.now))) }
+fn put_opening(out: &mut Vec<u8>, part: &Part) -> Result<(), NoMemory>
+    ensures { OnOk result (out.new.items ≡ with_piece out.old.items (Words (partial_opening part.now))) }
 {
-    writer.write_words(&OPENING_WORDS)?;
-    writer.write_words(&command(Command::Rcrc))?;
-    writer.write_words(&[NO_OP])?;
-    writer.write_words(&write_one(Reg::Idcode, part.idcode()))?;
-    Ok(())
+    put_words(out, &OPENING_WORDS)?;
+    put_words(out, &command(Command::Rcrc))?;
+    put_words(out, &[NO_OP])?;
+    put_words(out, &write_one(Reg::Idcode, part.idcode()))
 }
 
-/// Writes the groups and the runs of a plan.
-fn put_sections(
-    writer: &mut Writer,
+/// Writes the runs of the rows of a plan whose content no group has.
+fn put_alone(
+    alloc: Global,
+    out: &mut Vec<u8>,
     part: &Part,
     plan: &Plan,
-    grouping: &Grouping,
+    by_content: &ByContent<'_>,
 ) -> Result<(), NoMemory>
-    requires grouping { IsGrouping plan.now.rows grouping.now }
+    requires by_content { AreByContent plan.now.rows by_content.now }
     requires addresses { AreAddressed part.now plan.now.rows }
-    ensures { OnOk result (writer.new ≡ with_piece writer.old (Words (flat_map (section_words part.now) (sections_of part.now plan.now.rows)))) }
+    ensures { OnOk result (out.new.items ≡ with_piece out.old.items (Words (runs_words part.now (rows_not_shared plan.now.rows plan.now.rows)))) }
 {
     // For the proof alone: the part is in range and the plan in order, so its rows are few.
     let _frames = part.frames();
     let _rows = plan.len();
+    let alone = frames_not_shared(alloc, plan, by_content)?;
+    put_runs(out, part, &alone)
+}
+
+/// Writes the groups and the runs of a plan, whose frames come with equal ones together.
+fn put_by_content(
+    alloc: Global,
+    out: &mut Vec<u8>,
+    part: &Part,
+    plan: &Plan,
+    frames: &[PlannedFrame<'_>],
+) -> Result<(), NoMemory>
+    requires frames { AreFramesByContent plan.now.rows frames.now }
+    requires addresses { AreAddressed part.now plan.now.rows }
+    ensures { OnOk result (out.new.items ≡ with_piece out.old.items (Words (flat_map (section_words part.now) (sections_of part.now plan.now.rows)))) }
+{
+    let firsts = firsts_of(alloc, frames)?;
+    let starts = starts_of(alloc, plan, frames, &firsts)?;
     let by_content = ByContent {
-        frames: &grouping.frames,
-        firsts: &grouping.firsts,
-        starts: &grouping.starts,
+        frames,
+        firsts: &firsts,
+        starts: &starts,
     };
-    put_groups(writer, part, plan, &by_content)?;
-    put_runs(writer, part, &grouping.alone)?;
-    Ok(())
+    put_groups(out, part, plan, &by_content)?;
+    put_alone(alloc, out, part, plan, &by_content)
+}
+
+/// Writes the groups and the runs of a plan.
+fn put_sections(alloc: Global, out: &mut Vec<u8>, part: &Part, plan: &Plan) -> Result<(), NoMemory>
+    requires addresses { AreAddressed part.now plan.now.rows }
+    ensures { OnOk result (out.new.items ≡ with_piece out.old.items (Words (flat_map (section_words part.now) (sections_of part.now plan.now.rows)))) }
+{
+    let frames = frames_by_content(alloc, plan)?;
+    put_by_content(alloc, out, part, plan, &frames)
+}
+
+/// Writes a partial stream, of which nothing is written yet.
+fn put_partial(alloc: Global, out: &mut Vec<u8>, part: &Part, plan: &Plan) -> Result<(), NoMemory>
+    requires none { out.old.items ≡ [] }
+    requires addresses { AreAddressed part.now plan.now.rows }
+    ensures { OnOk result (out.new.items ≡ partial_stream part.now plan.now.rows) }
+{
+    put_opening(out, part)?;
+    put_sections(alloc, out, part, plan)?;
+    put_check(out)?;
+    put_words(out, &command(Command::Desync))?;
+    put_words(out, &[NO_OP; ENDING_NO_OPS])
 }
 
 /// The partial stream of a plan whose addresses are the part's.
@@ -96,16 +104,9 @@ fn partial_of(alloc: Global, part: &Part, plan: &Plan) -> Result<Vec<u8>, NoMemo
     requires addresses { AreAddressed part.now plan.now.rows }
     ensures { IfOk result (λ bytes. bytes.items ≡ partial_stream part.now plan.now.rows) }
 {
-    let Ok(grouping) = grouping_of(alloc, plan) else {
-        return Err(NoMemory);
-    };
-    let mut writer = Writer::new(alloc, SMALL_STREAM_WORDS)?;
-    put_opening(&mut writer, part)?;
-    put_sections(&mut writer, part, plan, &grouping)?;
-    writer.write_check()?;
-    writer.write_words(&command(Command::Desync))?;
-    writer.write_words(&[NO_OP; ENDING_NO_OPS])?;
-    Ok(writer.finish())
+    let mut out = Vec::with_capacity(alloc, 4 * SMALL_STREAM_WORDS)?;
+    put_partial(alloc, &mut out, part, plan)?;
+    Ok(out)
 }
 
 /// The stream that writes the planned frames alone: contents at three addresses or more by copies, the others in runs.

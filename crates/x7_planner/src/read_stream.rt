@@ -1,12 +1,12 @@
 //! The stream of a readback.
-ghost use Rattle.std.specs.Prelude.{◌≡◌, ◌⊎◌, ◌<◌, IfOk, IfErr};
+ghost use Rattle.std.specs.Prelude.{◌≡◌, ◌⊎◌, ◌<◌, ◌++◌, IfOk, IfErr, OnOk};
 ghost use Rattle.x7_packets.specs.PacketWords.{type2_counts};
 ghost use Rattle.x7_planner.specs.ReadStream.{read_stream, read_of_words};
 ghost use Rattle.x7_planner.specs.Fault.{CanRead, IsReadFault};
 ghost use Rattle.x7_planner.specs.declared.fault.PlanFault.{PlanFault};
 
 use crate::fault::PlanFault;
-use crate::writer::{ENDING_NO_OPS, OPENING_WORDS, Writer};
+use crate::writer::{ENDING_NO_OPS, OPENING_WORDS, put_packets, put_words};
 use std::alloc::Global;
 use x7_packets::{NO_OP, command, frame_read_headers, write_one};
 use x7_part::Part;
@@ -16,23 +16,34 @@ use x7_words::NoMemory;
 /// How many words a read stream has.
 const READ_STREAM_WORDS: usize = 25;
 
+/// Appends the stream that reads `word_count` words from an address on.
+fn put_read(out: &mut Vec<u8>, far: u32, word_count: u32) -> Result<(), NoMemory>
+    requires { word_count < type2_counts }
+    ensures { OnOk result (out.new.items ≡ out.old.items ++ read_of_words far word_count) }
+{
+    put_words(out, &OPENING_WORDS)?;
+    put_words(out, &command(Command::Rcrc))?;
+    put_words(out, &[NO_OP])?;
+    put_packets(
+        out,
+        &[
+            command(Command::Rcfg),
+            write_one(Reg::Far, far),
+            frame_read_headers(word_count),
+            command(Command::Desync),
+        ],
+    )?;
+    put_words(out, &[NO_OP; ENDING_NO_OPS])
+}
+
 /// The stream that reads `word_count` words from an address on.
 fn read_of(alloc: Global, far: u32, word_count: u32) -> Result<Vec<u8>, NoMemory>
     requires { word_count < type2_counts }
     ensures { IfOk result (λ bytes. bytes.items ≡ read_of_words far word_count) }
 {
-    let mut writer = Writer::new(alloc, READ_STREAM_WORDS)?;
-    writer.write_words(&OPENING_WORDS)?;
-    writer.write_words(&command(Command::Rcrc))?;
-    writer.write_words(&[NO_OP])?;
-    writer.write_packets(&[
-        command(Command::Rcfg),
-        write_one(Reg::Far, far),
-        frame_read_headers(word_count),
-        command(Command::Desync),
-    ])?;
-    writer.write_words(&[NO_OP; ENDING_NO_OPS])?;
-    Ok(writer.finish())
+    let mut out = Vec::with_capacity(alloc, 4 * READ_STREAM_WORDS)?;
+    put_read(&mut out, far, word_count)?;
+    Ok(out)
 }
 
 /// The stream that reads back `slot_count` slots from an address on, after a frame of zeros. Memory is wanting only

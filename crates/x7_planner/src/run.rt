@@ -8,7 +8,7 @@ ghost use Rattle.x7_planner.specs.Writer.{with_piece, Words};
 
 use crate::content::PlannedFrame;
 use crate::full_stream::zeros;
-use crate::writer::Writer;
+use crate::writer::{put_packets, put_words};
 use x7_packets::{command, frame_data_headers, write_one};
 use x7_part::{Part, Slot};
 use x7_regs::{Command, Reg};
@@ -40,46 +40,48 @@ fn run_length(part: &Part, frames: &[PlannedFrame]) -> usize
 }
 
 /// Writes the words of frames.
-fn put_frames(writer: &mut Writer, frames: &[PlannedFrame]) -> Result<(), NoMemory>
-    ensures { OnOk result (writer.new ≡ with_piece writer.old (Words (frames_words (planned_rows frames.now)))) }
+fn put_frames(out: &mut Vec<u8>, frames: &[PlannedFrame]) -> Result<(), NoMemory>
+    ensures { OnOk result (out.new.items ≡ with_piece out.old.items (Words (frames_words (planned_rows frames.now)))) }
 {
     for frame in frames {
-        writer.write_words(frame.words)?;
+        put_words(out, frame.words)?;
     }
     Ok(())
 }
 
 /// Writes a section: WCFG, FAR, and as frame data the run's frames and a pad frame.
-fn put_run(writer: &mut Writer, part: &Part, run: &[PlannedFrame]) -> Result<(), NoMemory>
+fn put_run(out: &mut Vec<u8>, part: &Part, run: &[PlannedFrame]) -> Result<(), NoMemory>
     requires at_least_one { 0 < length run.now }
     requires limit { length run.now ≤ most_frames }
-    ensures { OnOk result (writer.new ≡ with_piece writer.old (Words (section_words part.now (Rows (planned_rows run.now))))) }
+    ensures { OnOk result (out.new.items ≡ with_piece out.old.items (Words (section_words part.now (Rows (planned_rows run.now))))) }
 {
     let word_count = part.words() * (run.len() as u32 + 1);
-    writer.write_packets(&[
-        command(Command::Wcfg),
-        write_one(Reg::Far, run[0].far),
-        frame_data_headers(word_count),
-    ])?;
-    put_frames(writer, run)?;
-    writer.write_words(zeros(part.words()))?;
-    Ok(())
+    put_packets(
+        out,
+        &[
+            command(Command::Wcfg),
+            write_one(Reg::Far, run[0].far),
+            frame_data_headers(word_count),
+        ],
+    )?;
+    put_frames(out, run)?;
+    put_words(out, zeros(part.words()))
 }
 
 /// Writes the frames in order, cut into the longest runs.
 pub(crate) fn put_runs(
-    writer: &mut Writer,
+    out: &mut Vec<u8>,
     part: &Part,
     frames: &[PlannedFrame],
 ) -> Result<(), NoMemory>
     requires addresses { All (λ row. Contains (addresses_in part.now) row.far) (planned_rows frames.now) }
     requires limit { length frames.now ≤ most_frames }
-    ensures { OnOk result (writer.new ≡ with_piece writer.old (Words (runs_words part.now (planned_rows frames.now)))) }
+    ensures { OnOk result (out.new.items ≡ with_piece out.old.items (Words (runs_words part.now (planned_rows frames.now)))) }
 {
     let mut at = 0;
     while at < frames.len() {
         let count = run_length(part, &frames[at..]);
-        put_run(writer, part, &frames[at..at + count])?;
+        put_run(out, part, &frames[at..at + count])?;
         at += count;
     }
     Ok(())

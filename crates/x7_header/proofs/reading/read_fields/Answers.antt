@@ -1,5 +1,12 @@
-use Rattle.x7_header.proofs.StepLemmas.{fault_at_c, fault_at_d, fault_at_e, gives_fault, read_whole}
+use Rattle.x7_header.proofs.StepLemmas.{fault_at_a, fault_at_b, fault_at_c, fault_at_d, fault_at_e, gives_fault, read_whole}
 use Rattle.x7_header.proofs.reading.read_fields.Goals as goal
+
+pub returns-in_err-a : goal.returns-in_err-a
+returns-in_err-a c = gives_fault _ c.from_residual.result _ c.in_err-a.field-0.0 c.from_residual.ensures.0 c.from_residual.ensures.1 (fault_at_a _ _ _ c.in_err-a.ensures.value)
+
+pub returns-in_err-b : goal.returns-in_err-b
+returns-in_err-b c =
+    gives_fault _ c.from_residual-in_err-b.result _ c.in_err-b.field-0.0 c.from_residual-in_err-b.ensures.0 c.from_residual-in_err-b.ensures.1 (fault_at_b _ _ _ _ _ c.in_ok-a.ensures.value c.in_err-b.ensures.value)
 
 pub returns-in_err-c : goal.returns-in_err-c
 returns-in_err-c c =

@@ -9,4 +9,4 @@ use Rattle.x7_planner.proofs.group.put_copies.Given as goal
 abbrev pub invariant-loop-k : goal.invariant-loop-k
 invariant-loop-k l =
     (l.start ≤ l.k)
-    × (l.writer ≡ l.fn.writer ++ bytes_of_words (flat_map copy_words (planned_addresses (with_content l._words (take l.k (planned_rows l.by_content.frames.now))))))
+    × (l.out.items ≡ l.fn.out.items ++ bytes_of_words (flat_map copy_words (planned_addresses (with_content l._words (take l.k (planned_rows l.by_content.frames.now))))))

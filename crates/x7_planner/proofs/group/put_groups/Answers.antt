@@ -12,6 +12,6 @@ put_led_group-requires c =
 pub loop-i-preserved : goal.loop-i-preserved
 loop-i-preserved c =
     let row : PlanRow = record { far = c.in-Some.far; words = c.in-Some.words.now } in
-    group_more c.args.part.now c.args.plan.now.rows c.args.by_content.now.frames.now c.args.writer.now c.loop-i.writer c.put_led_group.new.writer (get_or c.args.by_content.now.starts.now c.loop-i.i 0) c.loop-i.i row row c.requires.frames
+    group_more c.args.part.now c.args.plan.now.rows c.args.by_content.now.frames.now c.args.out.now.items c.loop-i.out.items c.put_led_group.new.out.items (get_or c.args.by_content.now.starts.now c.loop-i.i 0) c.loop-i.i row row c.requires.frames
     (first_at c.args.plan.now.rows c.args.by_content.now.frames.now c.args.by_content.now.starts.now c.loop-i.i row 0 row c.requires.starts c.in-Some.ensures.found.0 (c.in-Some.ensures.found.1 row))
     c.in-Some.ensures.found.0 (c.in-Some.ensures.found.1 row) c.loop-i.invariant c.in_ok-put_led_group.ensures

@@ -5,4 +5,4 @@ use Rattle.x7_planner.specs.Writer.{bytes_of_words}
 use Rattle.x7_planner.proofs.group.put_groups.Given as goal
 
 abbrev pub invariant-loop-i : goal.invariant-loop-i
-invariant-loop-i l = l.writer ≡ l.fn.writer ++ bytes_of_words (flat_map (section_words l.part) (groups_led l.plan.rows (take l.i l.plan.rows)))
+invariant-loop-i l = l.out.items ≡ l.fn.out.items ++ bytes_of_words (flat_map (section_words l.part) (groups_led l.plan.rows (take l.i l.plan.rows)))

@@ -13,4 +13,4 @@ run_length-count-requires-clause-addresses c =
 
 pub loop-at-preserved : goal.loop-at-preserved
 loop-at-preserved c =
-    runs_stepped c.args.part.now c.args.frames.now _ c.loop-at.writer c.put_run.new.writer c.loop-at.at c.run_length-count.result c.loop-at.invariant.0 c.run_length-count.ensures c.loop-at.invariant.1 c.in_ok-put_run.ensures
+    runs_stepped c.args.part.now c.args.frames.now _ c.loop-at.out.items c.put_run.new.out.items c.loop-at.at c.run_length-count.result c.loop-at.invariant.0 c.run_length-count.ensures c.loop-at.invariant.1 c.in_ok-put_run.ensures
