@@ -23,6 +23,7 @@ use Rattle.x7_part.specs.Values.{RowValues, TopValues, top_values, settings_by_v
 use Rattle.x7_part.specs.PartChecks.{fault_of_call, AnswersDue, unless, first_of, rows_fault, is_in, is_length_in, is_name, is_odd, is_start_unit, are_widths_or_none, row_range_fault, type_fault, other_fault, number_range_fault, top_range_fault, range_fault}
 use Rattle.x7_part.specs.Row.{same_row_fault, has_few_frames, frames_fault, sorted_rows}
 use Rattle.x7_part.specs.PartFile.{first_fault, part_in, part_of_table, part_unless, part_from}
+use Rattle.x7_part.proofs.FirstLemmas.{first_alone}
 use Rattle.x7_part.proofs.OrderLemmas.{unless_none, ordered, frames_sum, frames_permutation}
 use Rattle.x7_part.proofs.SortLemmas.{ordered_same, ordered_sorted}
 use Rattle.x7_part.proofs.RangeLemmas.{nones, in_range, name_in, long_in, printed, odd_in, unit_in, far_is, rows_are}
@@ -96,10 +97,6 @@ made_is t e =
     made t h.0 h.1.0 h.1.1.0 h.1.1.1.0 h.1.1.1.1.0
 
 -- ---- the checks of rows
-
-first_alone : (o : Option PartFault) → o ≡ first_of (o ∷ [])
-first_alone None = refl
-first_alone (Some fault) = refl
 
 -- the checks of rows, by their number of frames
 pub rows_checked : (part : PartData) (words frames : ℕ) (rows : List RowData) (r : Result (Unit {0}) PartFault) → part.frame_words ≡ words → part.rows ≡ rows →
