@@ -1,4 +1,4 @@
-use Rattle.std.proofs.Common.{refl}
+use Rattle.std.proofs.Common.{rules, refl}
 use Rattle.x7_part.specs.Keys.{top}
 use Rattle.x7_part.specs.PartChecks.{type_fault}
 use Rattle.x7_part.specs.declared.fault.PartFault.TheVariants.{Key}
@@ -146,3 +146,11 @@ returns-in_err-row_tables-clause-unnamed c h = absurd (not_given _ (Key (top key
 
 pub returns-in_err-rows_values-clause-unnamed : goal.returns-in_err-rows_values-clause-unnamed
 returns-in_err-rows_values-clause-unnamed c h = absurd (not_given _ (Key (top key.Name)) (c.in_ok-text.ensures.missing h))
+
+pub returns-in_err-rows_values-clause-fault : goal.returns-in_err-rows_values-clause-fault
+unfolding type_fault
+returns-in_err-rows_values-clause-fault c = search rules
+
+pub returns-clause-fault : goal.returns-clause-fault
+unfolding type_fault
+returns-clause-fault c = search rules
