@@ -1,10 +1,10 @@
 -- Values that a loop takes one by one, and the first fault among them.
-use Rattle.std.proofs.Common.{◌≡◌, ℕ, ◌+◌, ◌<◌, ℤ, List, [], ◌∷◌, ◌++◌, length, map, drop, get_or, drop-cons, add-one, append_assoc, Bool, true, false, ◌&&◌, Option, None, Some, refl, sym, ap, ◌∙◌}
+use Rattle.std.proofs.Common.{◌≡◌, ℕ, ◌+◌, ◌<◌, ℤ, List, [], ◌∷◌, ◌++◌, length, map, drop, get_or, drop-cons, add-one, append_assoc, Bool, true, false, ◌&&◌, Option, None, Some, refl, sym}
 use Rattle.std.proofs.lemmas.Option.{none-some}
 use Rattle.x7_part.specs.declared.fault.PartFault.{PartFault}
 use Rattle.x7_part.specs.Limits.{most_columns, most_minors}
 use Rattle.x7_part.specs.Values.{natural}
-use Rattle.x7_part.specs.PartChecks.{unless, first_of, next_row_number, rows_fault, is_in, is_length_in, are_in, are_minors}
+use Rattle.x7_part.specs.PartChecks.{unless, next_row_number, rows_fault, is_in, is_length_in, are_in, are_minors}
 use Rattle.x7_part.proofs.FirstLemmas.{first_alone}
 
 -- the items from one on

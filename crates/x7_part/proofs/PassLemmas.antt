@@ -261,11 +261,3 @@ due_or_memory (Err e) fault due h is = rw h.1 is
 pub or_memory : (fault : PartFault) (one due : Option PartFault) → (one ≡ Some fault → due ≡ Some fault) → (fault ≡ NoMemory) ⊎ (one ≡ Some fault) → (fault ≡ NoMemory) ⊎ (due ≡ Some fault)
 or_memory fault one due f (inl e) = inl e
 or_memory fault one due f (inr e) = inr (f e)
-
--- the start unit is the first number out of range
-pub unit_reported : (v : TopValues) (fault : PartFault) → None ≡ unless (is_odd v.idcode) (Range (top key.Idcode)) → None ≡ unless (is_in 0 greatest_mode v.mode) (Range (top key.Mode)) →
-    None ≡ unless (is_in 0 greatest_bus_width v.bus_width) (Range (top key.BusWidth)) → None ≡ unless (is_in 0 most_wait_ticks v.lock) (Range (top key.Lock)) →
-    None ≡ unless (is_in 0 most_wait_ticks v.matched) (Range (top key.Match)) → None ≡ unless (is_in least_frame_words most_frame_words v.frame_words) (Range (top key.FrameWords)) →
-    None ≡ unless (are_widths_or_none v.far) (Range (top key.Far)) → Some fault ≡ unless (is_start_unit v.start_unit) (Range (top key.StartUnit)) → Some fault ≡ number_range_fault v
-unfolding number_range_fault
-unit_reported v fault idcode mode bus_width lock matched words far unit = rw (← idcode, ← mode, ← bus_width, ← lock, ← matched, ← words, ← far, ← unit) refl
