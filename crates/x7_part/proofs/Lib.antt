@@ -10,5 +10,7 @@ pub mod BlankLemmas
 pub mod RangeLemmas
 pub mod OrderLemmas
 pub mod SortLemmas
+pub mod FirstLemmas
+pub mod LoopLemmas
 pub mod PassLemmas
 pub mod FileRowLemmas

@@ -23,6 +23,7 @@ use Rattle.x7_part.specs.Values.{RowValues, TopValues, top_values, settings_by_v
 use Rattle.x7_part.specs.PartChecks.{fault_of_call, AnswersDue, unless, first_of, rows_fault, is_in, is_length_in, is_name, is_odd, is_start_unit, are_widths_or_none, row_range_fault, type_fault, other_fault, number_range_fault, top_range_fault, range_fault}
 use Rattle.x7_part.specs.Row.{same_row_fault, has_few_frames, frames_fault, sorted_rows}
 use Rattle.x7_part.specs.PartFile.{first_fault, part_in, part_of_table, part_unless, part_from}
+use Rattle.x7_part.proofs.FirstLemmas.{first_alone}
 use Rattle.x7_part.proofs.OrderLemmas.{unless_none, ordered, frames_sum, frames_permutation}
 use Rattle.x7_part.proofs.SortLemmas.{ordered_same, ordered_sorted}
 use Rattle.x7_part.proofs.RangeLemmas.{nones, in_range, name_in, long_in, printed, odd_in, unit_in, far_is, rows_are}
@@ -96,10 +97,6 @@ made_is t e =
     made t h.0 h.1.0 h.1.1.0 h.1.1.1.0 h.1.1.1.1.0
 
 -- ---- the checks of rows
-
-first_alone : (o : Option PartFault) → o ≡ first_of (o ∷ [])
-first_alone None = refl
-first_alone (Some fault) = refl
 
 -- the checks of rows, by their number of frames
 pub rows_checked : (part : PartData) (words frames : ℕ) (rows : List RowData) (r : Result (Unit {0}) PartFault) → part.frame_words ≡ words → part.rows ≡ rows →
@@ -264,11 +261,3 @@ due_or_memory (Err e) fault due h is = rw h.1 is
 pub or_memory : (fault : PartFault) (one due : Option PartFault) → (one ≡ Some fault → due ≡ Some fault) → (fault ≡ NoMemory) ⊎ (one ≡ Some fault) → (fault ≡ NoMemory) ⊎ (due ≡ Some fault)
 or_memory fault one due f (inl e) = inl e
 or_memory fault one due f (inr e) = inr (f e)
-
--- the start unit is the first number out of range
-pub unit_reported : (v : TopValues) (fault : PartFault) → None ≡ unless (is_odd v.idcode) (Range (top key.Idcode)) → None ≡ unless (is_in 0 greatest_mode v.mode) (Range (top key.Mode)) →
-    None ≡ unless (is_in 0 greatest_bus_width v.bus_width) (Range (top key.BusWidth)) → None ≡ unless (is_in 0 most_wait_ticks v.lock) (Range (top key.Lock)) →
-    None ≡ unless (is_in 0 most_wait_ticks v.matched) (Range (top key.Match)) → None ≡ unless (is_in least_frame_words most_frame_words v.frame_words) (Range (top key.FrameWords)) →
-    None ≡ unless (are_widths_or_none v.far) (Range (top key.Far)) → Some fault ≡ unless (is_start_unit v.start_unit) (Range (top key.StartUnit)) → Some fault ≡ number_range_fault v
-unfolding number_range_fault
-unit_reported v fault idcode mode bus_width lock matched words far unit = rw (← idcode, ← mode, ← bus_width, ← lock, ← matched, ← words, ← far, ← unit) refl

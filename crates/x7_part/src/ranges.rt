@@ -130,7 +130,6 @@ pub(crate) fn widths_in(numbers: &[i64], at: Which) -> Result<Widths, PartFault>
 
 /// The numbers of minors of a row's columns; the fault `Range` where there are too few or too many columns, or where a
 /// number is out of range.
-#[tactic(auto, unfolding(crate::specs::PartChecks::is_in))]
 pub(crate) fn minors_in(alloc: Global, numbers: &[i64], at: Which) -> Result<Vec<u8>, PartFault>
     ensures fault { AnswersDue (unless (are_minors numbers.now) (Range at)) result }
     ensures value { IfOk result (λ minors. minors.items ≡ map natural numbers.now) }

@@ -43,7 +43,6 @@ fn widths_or_usual(widths_given: &Option<Vec<i64>>, at: Which) -> Result<Widths,
 }
 
 /// The settings of a top table, or the first number that is out of range.
-#[tactic(auto, unfolding(crate::specs::PartChecks::number_range_fault))]
 fn numbers_in(values: &Values) -> Result<PartSettings, PartFault>
     ensures fault { fault_of_call result ≡ number_range_fault values.now }
     ensures value { IfOk result (λ settings. settings ≡ settings_by_values values.now) }

@@ -91,7 +91,6 @@ fn rows_values(alloc: Global, rows: &[&Table]) -> Result<Vec<RowValues>, PartFau
 }
 
 /// The values of a part file, or the first key that is missing or of another type.
-#[tactic(auto, unfolding(crate::specs::PartChecks::type_fault))]
 pub(crate) fn values_of(alloc: Global, table: &Table) -> Result<Values, PartFault>
     ensures fault { AnswersDue (type_fault (table_view table.now)) result }
     ensures unnamed { under key.Name (table_view table.now) ≡ None → IsErrOf result (Key (top key.Name)) }

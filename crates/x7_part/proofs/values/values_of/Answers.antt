@@ -1,9 +1,11 @@
-use Rattle.std.proofs.Common.{refl}
+use Rattle.std.proofs.Common.{◌∙◌, ap, map, refl, sym}
+use Rattle.toml.specs.View.{table_view}
 use Rattle.x7_part.specs.Keys.{top}
-use Rattle.x7_part.specs.PartChecks.{type_fault}
+use Rattle.x7_part.specs.PartChecks.{row_type_fault, rows_fault, type_fault}
 use Rattle.x7_part.specs.declared.fault.PartFault.TheVariants.{Key}
 use Rattle.x7_part.specs.declared.fault.PartKey.TheVariants as key
 use Rattle.x7_part.proofs.BlankLemmas.{not_given}
+use Rattle.x7_part.proofs.FirstLemmas.{passes, stops}
 use Rattle.x7_part.proofs.PassLemmas.{due_from, due_or_memory, or_memory}
 use Rattle.x7_part.proofs.values.values_of.Goals as goal
 
@@ -146,3 +148,38 @@ returns-in_err-row_tables-clause-unnamed c h = absurd (not_given _ (Key (top key
 
 pub returns-in_err-rows_values-clause-unnamed : goal.returns-in_err-rows_values-clause-unnamed
 returns-in_err-rows_values-clause-unnamed c h = absurd (not_given _ (Key (top key.Name)) (c.in_ok-text.ensures.missing h))
+
+pub returns-in_err-rows_values-clause-fault : goal.returns-in_err-rows_values-clause-fault
+unfolding type_fault
+returns-in_err-rows_values-clause-fault c =
+    let rows = ap (map (λ t. table_view t.now)) c.deref.ensures.value ∙ c.in_ok-row_tables.ensures.value in
+    due_or_memory c.from_residual-in_err-rows_values.result c.in_err-rows_values.field-0.0 _ c.from_residual-in_err-rows_values.ensures
+    (or_memory _ _ _ (λ e. sym (
+    passes _ _ _ (sym c.in_ok-text.ensures.fault) (
+    passes _ _ _ c.in_ok-number.ensures.fault (
+    passes _ _ _ c.in_ok-number_or.ensures.fault (
+    passes _ _ _ c.in_ok-number_or-2.ensures.fault (
+    passes _ _ _ c.in_ok-number_or-3.ensures.fault (
+    passes _ _ _ c.in_ok-number_or-4.ensures.fault (
+    passes _ _ _ c.in_ok-number_or-5.ensures.fault (
+    passes _ _ _ (sym c.in_ok-numbers_under.ensures.fault) (
+    passes _ _ _ c.in_ok-number_or-6.ensures.fault (
+    passes _ _ _ (sym c.in_ok-row_tables.ensures.fault) (
+    stops _ _ _ (sym (ap (rows_fault row_type_fault 1) (sym rows) ∙ e)))))))))))))) c.in_err-rows_values.ensures.fault)
+
+pub returns-clause-fault : goal.returns-clause-fault
+unfolding type_fault
+returns-clause-fault c =
+    let rows = ap (map (λ t. table_view t.now)) c.deref.ensures.value ∙ c.in_ok-row_tables.ensures.value in
+    sym (
+    passes _ _ _ (sym c.in_ok-text.ensures.fault) (
+    passes _ _ _ c.in_ok-number.ensures.fault (
+    passes _ _ _ c.in_ok-number_or.ensures.fault (
+    passes _ _ _ c.in_ok-number_or-2.ensures.fault (
+    passes _ _ _ c.in_ok-number_or-3.ensures.fault (
+    passes _ _ _ c.in_ok-number_or-4.ensures.fault (
+    passes _ _ _ c.in_ok-number_or-5.ensures.fault (
+    passes _ _ _ (sym c.in_ok-numbers_under.ensures.fault) (
+    passes _ _ _ c.in_ok-number_or-6.ensures.fault (
+    passes _ _ _ (sym c.in_ok-row_tables.ensures.fault) (
+    passes _ _ _ (sym (ap (rows_fault row_type_fault 1) (sym rows) ∙ c.in_ok-rows_values.ensures.fault)) refl)))))))))))
