@@ -159,18 +159,17 @@ line_fields line fields x e h = let both : codes "bit " ++ fields ≡ codes "bit
 pub after_field : (here field rest own later : List ℕ) → IsField field → AreBytes own → here ≡ field_text field ++ 32 ∷ rest → here ≡ field_text own ++ 32 ∷ later → rest ≡ later
 after_field here field rest own later h a e is = same_rest field own rest later h.bytes a (sym e ∙ is)
 
--- a header's line, field by field
-pub line_made : (bit a b c d n t1 t2 t3 t4 t5 t6 t7 t8 : List ℕ) → t1 ≡ bit → t2 ≡ t1 ++ (a ++ 32 ∷ []) → t3 ≡ t2 ++ (b ++ 32 ∷ []) → t4 ≡ t3 ++ (c ++ 32 ∷ []) → t5 ≡ t4 ++ (d ++ 32 ∷ []) → t6 ≡ t5 → t7 ≡ t6 ++ n → t8 ≡ t7 ++ 10 ∷ []
-    → t8 ≡ (bit ++ (a ++ 32 ∷ (b ++ 32 ∷ (c ++ 32 ∷ (d ++ 32 ∷ n))))) ++ 10 ∷ []
-line_made bit a b c d n t1 t2 t3 t4 t5 t6 t7 t8 e1 e2 e3 e4 e5 e6 e7 e8 =
-    let s2 : t2 ≡ bit ++ (a ++ 32 ∷ []) = e2 ∙ ap (λ t. t ++ (a ++ 32 ∷ [])) e1 in
-    let s7 : t7 ≡ t4 ++ (d ++ 32 ∷ n) = e7 ∙ ap (λ t. t ++ n) (e6 ∙ e5) ∙ joins t4 d n in
-    let s6 : t7 ≡ t3 ++ (c ++ 32 ∷ (d ++ 32 ∷ n)) = s7 ∙ ap (λ t. t ++ (d ++ 32 ∷ n)) e4 ∙ joins t3 c (d ++ 32 ∷ n) in
-    let s5 : t7 ≡ t2 ++ (b ++ 32 ∷ (c ++ 32 ∷ (d ++ 32 ∷ n))) = s6 ∙ ap (λ t. t ++ (c ++ 32 ∷ (d ++ 32 ∷ n))) e3 ∙ joins t2 b (c ++ 32 ∷ (d ++ 32 ∷ n)) in
-    e8 ∙ ap (λ t. t ++ 10 ∷ []) (s5 ∙ ap (λ t. t ++ (b ++ 32 ∷ (c ++ 32 ∷ (d ++ 32 ∷ n)))) s2 ∙ joins bit a (b ++ 32 ∷ (c ++ 32 ∷ (d ++ 32 ∷ n))))
+-- a header's line after a text, field by field
+pub line_made : (before bit a b c d n t1 t2 t3 t4 t5 : List ℕ) → t1 ≡ before ++ bit → t2 ≡ t1 ++ (a ++ 32 ∷ []) → t3 ≡ t2 ++ (b ++ 32 ∷ []) → t4 ≡ t3 ++ (c ++ 32 ∷ []) → t5 ≡ t4 ++ (d ++ 32 ∷ [])
+    → t5 ++ n ≡ before ++ (bit ++ (a ++ 32 ∷ (b ++ 32 ∷ (c ++ 32 ∷ (d ++ 32 ∷ n)))))
+line_made before bit a b c d n t1 t2 t3 t4 t5 e1 e2 e3 e4 e5 =
+    let after_c = d ++ 32 ∷ n in
+    let after_b = c ++ 32 ∷ after_c in
+    let after_a = b ++ 32 ∷ after_b in
+    through d n t4 t5 e5 ∙ through c after_c t3 t4 e4 ∙ through b after_b t2 t3 e3 ∙ through a after_a t1 t2 e2 ∙ ap (λ t. t ++ (a ++ 32 ∷ after_a)) e1 ∙ append_assoc before bit (a ++ 32 ∷ after_a)
   where
-    joins : (t f rest : List ℕ) → (t ++ (f ++ 32 ∷ [])) ++ rest ≡ t ++ (f ++ 32 ∷ rest)
-    joins t f rest = append_assoc t (f ++ 32 ∷ []) rest ∙ ap (λ s. t ++ s) (append_assoc f (32 ∷ []) rest)
+    through : (field rest old new : List ℕ) → new ≡ old ++ (field ++ 32 ∷ []) → new ++ rest ≡ old ++ (field ++ 32 ∷ rest)
+    through field rest old new e = ap (λ t. t ++ rest) e ∙ append_assoc old (field ++ 32 ∷ []) rest ∙ ap (λ t. old ++ t) (append_assoc field (32 ∷ []) rest)
 
 -- the fields of a line are those of a header
 pub header_made : (line fields r1 r2 r3 digits : List ℕ) (x : HeaderContents) (bytes : List ℕ) → line ≡ codes "bit " ++ fields → IsField x.a × (fields ≡ field_text x.a ++ 32 ∷ r1) → IsField x.b × (r1 ≡ field_text x.b ++ 32 ∷ r2)
