@@ -1,4 +1,4 @@
-use Rattle.std.proofs.Common.{◌++◌, ap, append-nil, arith, length, subst, sym, take, take_all}
+use Rattle.std.proofs.Common.{◌++◌, ap, append-nil, arith, subst, sym, take, take_all}
 use Rattle.x7_listing.specs.Lister.{GapListed}
 use Rattle.x7_listing.proofs.GapLemmas.{gap_step}
 use Rattle.x7_listing.proofs.list.pen.hold_each.Goals as goal
