@@ -72,6 +72,9 @@ handed P Q r e h q = let p = err_from_is_err_and r h in subst (λ s. MatchResult
 pub handed_on : {A E : Type 0} (Q : E → Type 0) (r : Result A E) (e : E) → IsErrAnd r (λ f. f ≡ e) → Q e → IfErr r Q
 handed_on Q r e h q = let p = err_from_is_err_and r h in subst (λ s. IfErr s Q) (sym (p.1 ∙ ap Err p.2)) q
 
+pub err_as : {A E : Type 0} (P Q : E → Type 0) (r : Result A E) → ((e : E) → P e → Q e) → IsErrAnd r P → IfErr r Q
+err_as P Q r f h = let p = err_from_is_err_and r h in subst (λ s. IfErr s Q) (sym p.1) (f p.0 p.2)
+
 pub none_ok : {A E : Type 0} (P : Type 0) (Q : E → Type 0) (r : Result A E) → IsErrAnd r Q → OnOk r P
 none_ok P Q r h = let p = err_from_is_err_and r h in subst (λ s. OnOk s P) (sym p.1) tt
 

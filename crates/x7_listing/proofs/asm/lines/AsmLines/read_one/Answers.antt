@@ -1,7 +1,7 @@
-use Rattle.std.proofs.Common.{ℕ, List, ◌∷◌, arith, inr, subst, sym}
+use Rattle.std.proofs.Common.{ℕ, List, ◌∷◌, arith, inl, inr, subst, sym}
 use Rattle.x7_listing.specs.Assembling.{HasLineRoom, IsSoundOutput, TextsAreRead, Output, state_of_output, asm_state}
 use Rattle.x7_listing.proofs.AssemblingLemmas.{read_bad, read_long, read_on}
-use Rattle.x7_listing.proofs.asm.AsmLinesLemmas.{no_room, none_ok, not_line, not_long, output_by, wants_read}
+use Rattle.x7_listing.proofs.asm.AsmLinesLemmas.{err_as, no_room, none_ok, not_line, not_long, output_by, wants_read}
 use Rattle.x7_listing.proofs.asm.lines.AsmLines.read_one.Goals as goal
 
 pub returns-then-not-read_checked_line-clause-fault : goal.returns-then-not-read_checked_line-clause-fault
@@ -82,3 +82,9 @@ returns-in_err-reserve-clause-reads c = none_ok _ _ c.from_residual.result c.fro
 
 pub returns-in_err-reserve-clause-room : goal.returns-in_err-reserve-clause-room
 returns-in_err-reserve-clause-room c = none_ok _ _ c.from_residual.result c.from_residual.ensures.1
+
+pub returns-in_err-reserve-clause-fault : goal.returns-in_err-reserve-clause-fault
+returns-in_err-reserve-clause-fault c = err_as _ _ c.from_residual.result (λ f want. inl want) c.from_residual.ensures.1
+
+pub returns-in_err-reserve-2-clause-fault : goal.returns-in_err-reserve-2-clause-fault
+returns-in_err-reserve-2-clause-fault c = err_as _ _ c.from_residual-in_err-reserve-2.result (λ f want. inl want) c.from_residual-in_err-reserve-2.ensures.1
