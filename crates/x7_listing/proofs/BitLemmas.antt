@@ -105,9 +105,10 @@ header_is t x h e = sym (ap (λ s. header_by (drop 4 s)) e ∙ header_back x h)
 
 -- a text that begins with a text without spaces, and a space, is cut there
 cut_once : (here text rest own later : List ℕ) → IsCutAtSpace here text rest → has_no_space own ≡ true → here ≡ own ++ 32 ∷ later → (text ≡ own) × (rest ≡ later)
-cut_once here text rest own later c free e =
-    (sym (name_before_space text rest c.free) ∙ ap before_space (sym c.parts ∙ e) ∙ name_before_space own later free,
-    sym (digits_after_space text rest c.free) ∙ ap after_space (sym c.parts ∙ e) ∙ digits_after_space own later free)
+cut_once here text rest own later c free e = (
+  sym (name_before_space text rest c.free) ∙ ap before_space (sym c.parts ∙ e) ∙ name_before_space own later free,
+  sym (digits_after_space text rest c.free) ∙ ap after_space (sym c.parts ∙ e) ∙ digits_after_space own later free,
+)
 
 -- a text that is no field's, where its pairs are those of no bytes
 pub no_field : (t : List ℕ) → (t ≡ codes "-" → ⊥) → ((bs : List ℕ) → AreBytes bs → t ≡ flat_map hex_byte bs → ⊥) → (field : List ℕ) → IsField field → t ≡ field_text field → ⊥
