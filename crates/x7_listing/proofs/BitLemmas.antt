@@ -103,14 +103,12 @@ header_back x h =
 pub header_is : (t : List ℕ) (x : HeaderContents) → FitsHeader x → t ≡ bit_text x → x ≡ header_by (drop 4 t)
 header_is t x h e = sym (ap (λ s. header_by (drop 4 s)) e ∙ header_back x h)
 
--- a text that begins with the same field and space goes on alike
-pub same_rest : (a b r s : List ℕ) → AreBytes a → AreBytes b → field_text a ++ 32 ∷ r ≡ field_text b ++ 32 ∷ s → r ≡ s
-same_rest a b r s h k e = (same_field a b r s h k e).1
-
--- a text without a field before its first space
-pub no_cut : (t digits rest : List ℕ) → IsCutAtSpace t digits rest → ((field : List ℕ) → IsField field → digits ≡ field_text field → ⊥) → (field more : List ℕ) → IsField field → t ≡ field_text field ++ 32 ∷ more → ⊥
-no_cut t digits rest c none field more h e =
-    none field h (sym (name_before_space digits rest c.free) ∙ ap before_space (sym c.parts ∙ e) ∙ name_before_space (field_text field) more (field_free field))
+-- a text that begins with a text without spaces, and a space, is cut there
+cut_once : (here text rest own later : List ℕ) → IsCutAtSpace here text rest → has_no_space own ≡ true → here ≡ own ++ 32 ∷ later → (text ≡ own) × (rest ≡ later)
+cut_once here text rest own later c free e = (
+  sym (name_before_space text rest c.free) ∙ ap before_space (sym c.parts ∙ e) ∙ name_before_space own later free,
+  sym (digits_after_space text rest c.free) ∙ ap after_space (sym c.parts ∙ e) ∙ digits_after_space own later free,
+)
 
 -- a text that is no field's, where its pairs are those of no bytes
 pub no_field : (t : List ℕ) → (t ≡ codes "-" → ⊥) → ((bs : List ℕ) → AreBytes bs → t ≡ flat_map hex_byte bs → ⊥) → (field : List ℕ) → IsField field → t ≡ field_text field → ⊥
@@ -155,22 +153,50 @@ after_c x = with_count x.d x.data_length
 pub line_fields : (line fields : List ℕ) (x : HeaderContents) → line ≡ codes "bit " ++ fields → line ≡ bit_text x → fields ≡ fields_text x
 line_fields line fields x e h = let both : codes "bit " ++ fields ≡ codes "bit " ++ fields_text x = sym e ∙ h in cc
 
--- a text after a field goes on as the header's line does there
-pub after_field : (here field rest own later : List ℕ) → IsField field → AreBytes own → here ≡ field_text field ++ 32 ∷ rest → here ≡ field_text own ++ 32 ∷ later → rest ≡ later
-after_field here field rest own later h a e is = same_rest field own rest later h.bytes a (sym e ∙ is)
+-- the texts in which a header's line is cut, one after the other
+module _ (line fields a r1 : List ℕ) (x : HeaderContents) (begins : line ≡ codes "bit " ++ fields) (h : line ≡ bit_text x) (in_a : IsCutAtSpace fields a r1) where
+  cut_a : (a ≡ field_text x.a) × (r1 ≡ after_a x)
+  cut_a = cut_once fields a r1 (field_text x.a) (after_a x) in_a (field_free x.a) (line_fields line fields x begins h)
 
--- a header's line, field by field
-pub line_made : (bit a b c d n t1 t2 t3 t4 t5 t6 t7 t8 : List ℕ) → t1 ≡ bit → t2 ≡ t1 ++ (a ++ 32 ∷ []) → t3 ≡ t2 ++ (b ++ 32 ∷ []) → t4 ≡ t3 ++ (c ++ 32 ∷ []) → t5 ≡ t4 ++ (d ++ 32 ∷ []) → t6 ≡ t5 → t7 ≡ t6 ++ n → t8 ≡ t7 ++ 10 ∷ []
-    → t8 ≡ (bit ++ (a ++ 32 ∷ (b ++ 32 ∷ (c ++ 32 ∷ (d ++ 32 ∷ n))))) ++ 10 ∷ []
-line_made bit a b c d n t1 t2 t3 t4 t5 t6 t7 t8 e1 e2 e3 e4 e5 e6 e7 e8 =
-    let s2 : t2 ≡ bit ++ (a ++ 32 ∷ []) = e2 ∙ ap (λ t. t ++ (a ++ 32 ∷ [])) e1 in
-    let s7 : t7 ≡ t4 ++ (d ++ 32 ∷ n) = e7 ∙ ap (λ t. t ++ n) (e6 ∙ e5) ∙ joins t4 d n in
-    let s6 : t7 ≡ t3 ++ (c ++ 32 ∷ (d ++ 32 ∷ n)) = s7 ∙ ap (λ t. t ++ (d ++ 32 ∷ n)) e4 ∙ joins t3 c (d ++ 32 ∷ n) in
-    let s5 : t7 ≡ t2 ++ (b ++ 32 ∷ (c ++ 32 ∷ (d ++ 32 ∷ n))) = s6 ∙ ap (λ t. t ++ (c ++ 32 ∷ (d ++ 32 ∷ n))) e3 ∙ joins t2 b (c ++ 32 ∷ (d ++ 32 ∷ n)) in
-    e8 ∙ ap (λ t. t ++ 10 ∷ []) (s5 ∙ ap (λ t. t ++ (b ++ 32 ∷ (c ++ 32 ∷ (d ++ 32 ∷ n)))) s2 ∙ joins bit a (b ++ 32 ∷ (c ++ 32 ∷ (d ++ 32 ∷ n))))
+  pub rest_a : r1 ≡ after_a x
+  rest_a = cut_a.1
+
+  module _ (b r2 : List ℕ) (in_b : IsCutAtSpace r1 b r2) where
+    cut_b : (b ≡ field_text x.b) × (r2 ≡ after_b x)
+    cut_b = cut_once r1 b r2 (field_text x.b) (after_b x) in_b (field_free x.b) rest_a
+
+    pub rest_b : r2 ≡ after_b x
+    rest_b = cut_b.1
+
+    module _ (c r3 : List ℕ) (in_c : IsCutAtSpace r2 c r3) where
+      cut_c : (c ≡ field_text x.c) × (r3 ≡ after_c x)
+      cut_c = cut_once r2 c r3 (field_text x.c) (after_c x) in_c (field_free x.c) rest_b
+
+      pub rest_c : r3 ≡ after_c x
+      rest_c = cut_c.1
+
+      module _ (d digits : List ℕ) (in_d : IsCutAtSpace r3 d digits) where
+        cut_d : (d ≡ field_text x.d) × (digits ≡ decimal x.data_length)
+        cut_d = cut_once r3 d digits (field_text x.d) (decimal x.data_length) in_d (field_free x.d) rest_c
+
+        pub all_cut : (a ≡ field_text x.a) × (b ≡ field_text x.b) × (c ≡ field_text x.c) × (d ≡ field_text x.d) × (digits ≡ decimal x.data_length)
+        all_cut = (cut_a.0, cut_b.0, cut_c.0, cut_d.0, cut_d.1)
+
+-- a text whose first part is a field's begins with that field
+pub first_of : (here text rest own : List ℕ) → IsCutAtSpace here text rest → IsField own × (text ≡ field_text own) → IsField own × (here ≡ field_text own ++ 32 ∷ rest)
+first_of here text rest own c f = (f.0, c.parts ∙ ap (λ t. t ++ 32 ∷ rest) f.1)
+
+-- a header's line after a text, field by field
+pub line_made : (before bit a b c d n t1 t2 t3 t4 t5 : List ℕ) → t1 ≡ before ++ bit → t2 ≡ t1 ++ (a ++ 32 ∷ []) → t3 ≡ t2 ++ (b ++ 32 ∷ []) → t4 ≡ t3 ++ (c ++ 32 ∷ []) → t5 ≡ t4 ++ (d ++ 32 ∷ [])
+    → t5 ++ n ≡ before ++ (bit ++ (a ++ 32 ∷ (b ++ 32 ∷ (c ++ 32 ∷ (d ++ 32 ∷ n)))))
+line_made before bit a b c d n t1 t2 t3 t4 t5 e1 e2 e3 e4 e5 =
+    let after_c = d ++ 32 ∷ n in
+    let after_b = c ++ 32 ∷ after_c in
+    let after_a = b ++ 32 ∷ after_b in
+    through d n t4 t5 e5 ∙ through c after_c t3 t4 e4 ∙ through b after_b t2 t3 e3 ∙ through a after_a t1 t2 e2 ∙ ap (λ t. t ++ (a ++ 32 ∷ after_a)) e1 ∙ append_assoc before bit (a ++ 32 ∷ after_a)
   where
-    joins : (t f rest : List ℕ) → (t ++ (f ++ 32 ∷ [])) ++ rest ≡ t ++ (f ++ 32 ∷ rest)
-    joins t f rest = append_assoc t (f ++ 32 ∷ []) rest ∙ ap (λ s. t ++ s) (append_assoc f (32 ∷ []) rest)
+    through : (field rest old new : List ℕ) → new ≡ old ++ (field ++ 32 ∷ []) → new ++ rest ≡ old ++ (field ++ 32 ∷ rest)
+    through field rest old new e = ap (λ t. t ++ rest) e ∙ append_assoc old (field ++ 32 ∷ []) rest ∙ ap (λ t. old ++ t) (append_assoc field (32 ∷ []) rest)
 
 -- the fields of a line are those of a header
 pub header_made : (line fields r1 r2 r3 digits : List ℕ) (x : HeaderContents) (bytes : List ℕ) → line ≡ codes "bit " ++ fields → IsField x.a × (fields ≡ field_text x.a ++ 32 ∷ r1) → IsField x.b × (r1 ≡ field_text x.b ++ 32 ∷ r2)

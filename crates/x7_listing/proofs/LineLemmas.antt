@@ -1,5 +1,5 @@
 -- From what stands after a line's first word to the line.
-use Rattle.std.proofs.Common.{◌≡◌, ◌≢◌, ℕ, ◌<◌, ◌^◌, Bool, true, false, List, ◌∷◌, ◌++◌, Option, None, Some, MatchOption, Bor, is_some, append_assoc, append-nil, refl, ap, subst, sym, ◌∙◌, codes}
+use Rattle.std.proofs.Common.{◌≡◌, ◌≢◌, ℕ, ◌<◌, ◌^◌, Bool, true, false, List, [], ◌∷◌, ◌++◌, Option, None, Some, MatchOption, Bor, is_some, append_assoc, append-nil, refl, ap, subst, sym, ◌∙◌, codes}
 use Rattle.std.proofs.lemmas.List.{append_cancel_left}
 use Rattle.std.specs.Fmt.{decimal}
 use Rattle.std.specs.List.{flat_map}
@@ -126,3 +126,19 @@ is_none (Some x) P Q e h = absurd cc
 pub is_comment : (r : Option (Bor (List ℕ))) (check : ℕ) (t old : List ℕ) → is_some r ≡ true → MatchOption r (NotAfter (codes "#") t) (λ x. t ≡ codes "#" ++ x.now) → AppendsIfRead FitsLine text_of (line_bytes check) true t old old
 is_comment None check t old e h = absurd cc
 is_comment (Some x) check t old e h = (Comment x.now, tt, h, sym (append-nil old))
+
+-- a text that is not that of an empty line, `sync` or `crc` is no plain line's
+pub not_plain : (t : List ℕ) → (t ≡ [] → ⊥) → (t ≡ codes "sync" → ⊥) → (t ≡ codes "crc" → ⊥) → (l : Line) → IsPlain l → t ≡ text_of l → ⊥
+not_plain t empty sync crc Empty p e = empty e
+not_plain t empty sync crc Sync p e = sync e
+not_plain t empty sync crc Check p e = crc e
+not_plain t empty sync crc (Comment text) p e = p
+not_plain t empty sync crc (Bytes bytes) p e = p
+not_plain t empty sync crc Nop p e = p
+not_plain t empty sync crc (Write register count) p e = p
+not_plain t empty sync crc (Read register count) p e = p
+not_plain t empty sync crc (Write2 count) p e = p
+not_plain t empty sync crc (Read2 count) p e = p
+not_plain t empty sync crc (Word word) p e = p
+not_plain t empty sync crc (Data words) p e = p
+not_plain t empty sync crc (Cmd command) p e = p

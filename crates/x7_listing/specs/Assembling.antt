@@ -1,10 +1,8 @@
 -- A text that is assembled line by line: what its lines gave so far (this project's choice).
-use Rattle.std.specs.Prelude.{◌≡◌, ◌⊎◌, ℕ, ◌+◌, ◌-◌, ◌<◌, ◌≤◌, Bool, true, false, List, [], ◌∷◌, ◌++◌, drop, take, length, Ok, Err, Vec}
-use Rattle.std.specs.declared.alloc.Global.{Global}
+use Rattle.std.specs.Prelude.{◌≡◌, ◌⊎◌, ℕ, ◌+◌, ◌-◌, ◌<◌, ◌≤◌, Bool, true, false, List, [], ◌∷◌, ◌++◌, drop, take, length, Ok, Err}
 use Rattle.std.specs.List.{AllByRecursion, flat_map}
 use Rattle.x7_crc.specs.Checker.{CheckerState, KeepsCheckOf}
 use Rattle.x7_header.specs.Header.{HeaderContents, header_bytes, longest_header}
-use Rattle.x7_text.specs.Appends.{HasSpareRoom}
 use Rattle.x7_text.specs.Row.{bytes_row_size}
 use Rattle.x7_listing.specs.BitLine.{bit_text, FitsHeader}
 use Rattle.x7_listing.specs.Line.{Line, line_bytes, FitsLine, IsNeitherCommentNorCheck, ended_texts}
@@ -57,10 +55,6 @@ pub record Output : Type 0 where
   pub start : ℕ
   pub checker : CheckerState
   pub room : ℕ
-
--- there is room in a vector for the bytes of one line more: 32 at most, a row
-abbrev pub HasRoomForLine : Vec ℕ Global → Type 0
-HasRoomForLine out = HasSpareRoom out bytes_row_size
 
 -- there is room in an output for the bytes of one line more: 32 at most, a row
 abbrev pub HasLineRoom : Output → Type 0

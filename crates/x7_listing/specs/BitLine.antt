@@ -30,9 +30,9 @@ pub record IsField (field : List ℕ) : Type 0 where
   pub bytes : AreBytes field
   pub short : length field < 2 ^ 16
 
--- the text begins with that of this field and a space, after which the rest stands
-abbrev pub HasFieldFirst : List ℕ → List ℕ → List ℕ → Type 0
-HasFieldFirst text field rest = IsField field × (text ≡ field_text field ++ space_byte ∷ rest)
+-- the text is that of this field
+abbrev pub IsTextOfField : List ℕ → List ℕ → Type 0
+IsTextOfField text field = IsField field × (text ≡ field_text field)
 
 -- `bytes` are those of a header whose line is `line`
 pub record IsHeaderOf (line bytes : List ℕ) : Type 0 where

@@ -72,6 +72,12 @@ handed P Q r e h q = let p = err_from_is_err_and r h in subst (λ s. MatchResult
 pub handed_on : {A E : Type 0} (Q : E → Type 0) (r : Result A E) (e : E) → IsErrAnd r (λ f. f ≡ e) → Q e → IfErr r Q
 handed_on Q r e h q = let p = err_from_is_err_and r h in subst (λ s. IfErr s Q) (sym (p.1 ∙ ap Err p.2)) q
 
+pub err_as : {A E : Type 0} (P Q : E → Type 0) (r : Result A E) → ((e : E) → P e → Q e) → IsErrAnd r P → IfErr r Q
+err_as P Q r f h = let p = err_from_is_err_and r h in subst (λ s. IfErr s Q) (sym p.1) (f p.0 p.2)
+
+pub none_ok : {A E : Type 0} (P : Type 0) (Q : E → Type 0) (r : Result A E) → IsErrAnd r Q → OnOk r P
+none_ok P Q r h = let p = err_from_is_err_and r h in subst (λ s. OnOk s P) (sym p.1) tt
+
 pub if_some : {X : Type 0} → (P : X → Type 0) (o : Option X) (x : X) → o ≡ Some x → IfSome o P → P x
 if_some P o x e h = subst (λ p. IfSome p P) e h
 
@@ -133,6 +139,16 @@ with_more (Ok _) new line lines h = h
 with_more (Err f) new line lines h = λ more. h (split more)
 
 -- ---- want of memory
+
+-- no memory is wanting where there was room
+pub no_room : {A : Type 0} (r : Result A AsmFault) (old new : Output) (n : ℕ) (line : List ℕ) → (HasLineRoom old → ⊥) → IfErr r (λ f. f ≡ fault.NoMemory → HasLineRoom old → ReadsNext old new n line)
+no_room r old new n line none = each_fault r (λ f. f ≡ fault.NoMemory → HasLineRoom old → ReadsNext old new n line) (λ f want room. absurd (none room))
+
+pub not_line : (n : ℕ) → fault.Line n ≡ fault.NoMemory → ⊥
+not_line n e = cc
+
+pub not_long : (n : ℕ) → fault.TooLong n ≡ fault.NoMemory → ⊥
+not_long n e = cc
 
 pub wants_read : {A : Type 0} (r : Result A AsmFault) (old new : Output) (n : ℕ) (line : List ℕ) → ReadsNext old new n line → IfErr r (λ f. f ≡ fault.NoMemory → HasLineRoom old → ReadsNext old new n line)
 wants_read r old new n line h = each_fault r (λ f. f ≡ fault.NoMemory → HasLineRoom old → ReadsNext old new n line) (λ f want room. h)

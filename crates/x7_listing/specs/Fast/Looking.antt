@@ -1,9 +1,10 @@
 -- Whole lines at the beginning of a text that are read at once (this project's choice).
 use Rattle.std.specs.Prelude.{◌≡◌, ℕ, ◌≤◌, List, Option, MatchOption, Vec, drop, length, vec_len}
 use Rattle.std.specs.declared.alloc.Global.{Global}
+use Rattle.x7_text.specs.Appends.{HasSpareRoom}
 use Rattle.x7_text.specs.Reads.{StaysWithin}
 use Rattle.x7_text.specs.Row.{bytes_row_size}
-use Rattle.x7_listing.specs.Assembling.{HasRoomForLine, AppendsFirstLines, AppendsLines}
+use Rattle.x7_listing.specs.Assembling.{AppendsFirstLines, AppendsLines}
 use Rattle.x7_listing.specs.Assembly.{asm_limit}
 use Rattle.x7_listing.specs.declared.asm.fast.quick.WholeLines.{WholeLines}
 
@@ -20,4 +21,4 @@ pub record ReadsAtOnce (text : List ℕ) (old new : Vec ℕ Global) (taken : Who
   pub within : taken.size ≤ length text
   pub counted : taken.count ≤ taken.size
   pub limit : vec_len old ≤ asm_limit → vec_len new ≤ asm_limit
-  pub room : HasRoomForLine old → HasRoomForLine new
+  pub room : HasSpareRoom old bytes_row_size → HasSpareRoom new bytes_row_size

@@ -4,7 +4,7 @@ ghost use Rattle.std.specs.List.{flat_map};
 ghost use Rattle.x7_words.specs.Word.{AreBytes};
 ghost use Rattle.x7_header.specs.Header.{HeaderContents, longest_header};
 ghost use Rattle.x7_text.specs.Digits.{hex_byte};
-ghost use Rattle.x7_listing.specs.BitLine.{bit_text, field_text, HasFieldFirst, IsCutAtSpace, IsField, IsHeaderOf, FitsHeader};
+ghost use Rattle.x7_listing.specs.BitLine.{bit_text, field_text, IsCutAtSpace, IsField, IsHeaderOf, IsTextOfField, FitsHeader};
 ghost use Rattle.x7_words.specs.Characters.{space_byte};
 
 use memchr::memchr;
@@ -34,7 +34,7 @@ fn bytes_of_pairs(alloc: Global, digits: &[u8]) -> Result<Option<Vec<u8>>, NoMem
 /// The bytes that a header's field holds, by its text: digits, or `-` for none; `None` for any other text.
 fn field_of(alloc: Global, text: &[u8]) -> Result<Option<Vec<u8>>, NoMemory>
     ensures { IfOk result (λ found. MatchOption found ((field : List ℕ) → IsField field → text.now ≢ field_text field)
-        (λ field. IsField field.items × (text.now ≡ field_text field.items))) }
+        (λ field. IsTextOfField text.now field.items)) }
 {
     if is_same(text, b"-") {
         return Ok(Some(Vec::new(alloc)));
@@ -55,18 +55,19 @@ fn at_space(text: &[u8]) -> Option<(&[u8], &[u8])>
     Some((&text[..at], &text[at + 1..]))
 }
 
-/// The bytes that the text's first field holds, and the text after the space that follows it.
-fn first_field(alloc: Global, text: &[u8]) -> Result<Option<(Vec<u8>, &[u8])>, NoMemory>
-    ensures { IfOk result (λ found. MatchOption found ((field rest : List ℕ) → IsField field → text.now ≢ field_text field ++ space_byte ∷ rest)
-        (λ parts. HasFieldFirst text.now parts.0.items parts.1.now)) }
+/// The bytes that two fields hold, by their texts; `None` where one of these is no field's text.
+fn two_fields(alloc: Global, x: &[u8], y: &[u8]) -> Result<Option<(Vec<u8>, Vec<u8>)>, NoMemory>
+    ensures { IfOk result (λ found. MatchOption found
+        ((a b : List ℕ) → IsField a → IsField b → x.now ≡ field_text a → y.now ≢ field_text b)
+        (λ fields. IsTextOfField x.now fields.0.items × IsTextOfField y.now fields.1.items)) }
 {
-    let Some((digits, rest)) = at_space(text) else {
+    let Some(first) = field_of(alloc, x)? else {
         return Ok(None);
     };
-    let Some(field) = field_of(alloc, digits)? else {
+    let Some(second) = field_of(alloc, y)? else {
         return Ok(None);
     };
-    Ok(Some((field, rest)))
+    Ok(Some((first, second)))
 }
 
 /// The header whose line this is, as bytes; `None` where the text is no header's line.
@@ -78,19 +79,25 @@ pub(crate) fn header_of_line(alloc: Global, line: &[u8]) -> Result<Option<Vec<u8
     let Some(fields) = after(line, b"bit ") else {
         return Ok(None);
     };
-    let Some((a, rest)) = first_field(alloc, fields)? else {
+    let Some((a, rest)) = at_space(fields) else {
         return Ok(None);
     };
-    let Some((b, rest)) = first_field(alloc, rest)? else {
+    let Some((b, rest)) = at_space(rest) else {
         return Ok(None);
     };
-    let Some((c, rest)) = first_field(alloc, rest)? else {
+    let Some((c, rest)) = at_space(rest) else {
         return Ok(None);
     };
-    let Some((d, digits)) = first_field(alloc, rest)? else {
+    let Some((d, digits)) = at_space(rest) else {
         return Ok(None);
     };
     let Some(length) = number_of_decimal(digits) else {
+        return Ok(None);
+    };
+    let Some((a, b)) = two_fields(alloc, a, b)? else {
+        return Ok(None);
+    };
+    let Some((c, d)) = two_fields(alloc, c, d)? else {
         return Ok(None);
     };
     let head = Head {

@@ -1,9 +1,11 @@
 //! The bytes of a text's lines, as the lines come.
 ghost use Rattle.std.specs.Prelude.{◌≡◌, ℕ, List, [], ◌∷◌, ◌++◌, ◌+◌, ◌≤◌, drop, length, vec_capacity, Ok, IfErr, OnOk, MatchResult};
+ghost use Rattle.x7_text.specs.Appends.{HasSpareRoom};
 ghost use Rattle.x7_text.specs.Reads.{AppendsIfRead};
+ghost use Rattle.x7_text.specs.Row.{bytes_row_size};
 ghost use Rattle.x7_crc.specs.Checker.{check_of_bytes, KeepsCheckOf};
 ghost use Rattle.x7_listing.specs.Assembly.{AreHeadedAsm};
-ghost use Rattle.x7_listing.specs.Assembling.{HasReadWithRoom, FailsFirst, FailsNext, HasAsmFault, HasLineRoom, HasRoomForLine, IsFirstOrGood, Output, ReadsFirst, ReadsNext, AppendsLines};
+ghost use Rattle.x7_listing.specs.Assembling.{HasReadWithRoom, FailsFirst, FailsNext, HasAsmFault, HasLineRoom, IsFirstOrGood, Output, ReadsFirst, ReadsNext, AppendsLines};
 ghost use Rattle.x7_listing.specs.Line.{line_bytes, FitsLine, text_of};
 ghost use Rattle.x7_listing.specs.declared.assembler.AsmFault.{AsmFault};
 
@@ -20,7 +22,7 @@ use x7_words::is_same;
 /// Appends the bytes of a line to those of the lines before, which stand from `start` on and whose check the checker
 /// keeps. `false`: the text is that of no line.
 fn read_checked_line(out: &mut Vec<u8>, start: usize, checker: &mut Checker, line: &[u8]) -> bool
-    requires room { HasRoomForLine out.old }
+    requires room { HasSpareRoom out.old bytes_row_size }
     requires start { start ≤ length out.old.items }
     requires keeps { KeepsCheckOf checker.old (drop start out.old.items) }
     ensures reads { AppendsIfRead FitsLine text_of (line_bytes (check_of_bytes (drop start out.old.items))) result line.now out.old.items out.new.items }

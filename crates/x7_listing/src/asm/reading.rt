@@ -5,9 +5,8 @@ ghost use Rattle.x7_regs.specs.Command.{code_of, command_name_of};
 ghost use Rattle.x7_regs.specs.Register.{reg_name, reg_number_count};
 ghost use Rattle.x7_regs.specs.declared.command.Command.{Command};
 ghost use Rattle.x7_packets.specs.PacketWords.{type1_read_header, type1_write_header, type2_counts, type2_read_header, type2_write_header};
-ghost use Rattle.x7_text.specs.Appends.{Appends};
+ghost use Rattle.x7_text.specs.Appends.{Appends, HasSpareRoom};
 ghost use Rattle.x7_text.specs.Digits.{hex_word};
-ghost use Rattle.x7_listing.specs.Assembling.{HasRoomForLine};
 ghost use Rattle.x7_listing.specs.Line.{type1_text, line_bytes, FitsLine, IsType1, IsPlain, text_of};
 ghost use Rattle.x7_words.specs.Characters.{space_byte};
 ghost use Rattle.x7_listing.specs.BitLine.{IsFirstSpace};
@@ -79,7 +78,7 @@ pub(crate) fn type1_fields_seen(text: &[u8], space: usize) -> Option<(u8, u32)>
 
 /// Appends the four bytes of a word, the highest first.
 pub(crate) fn put_word_bytes(out: &mut Vec<u8>, word: u32)
-    requires { HasRoomForLine out.old }
+    requires { HasSpareRoom out.old bytes_row_size }
     ensures appends { Appends out.old out.new (bytes_of_word word) bytes_row_size }
 {
     put(out, &bytes_of(word));
@@ -87,7 +86,7 @@ pub(crate) fn put_word_bytes(out: &mut Vec<u8>, word: u32)
 
 /// Appends the bytes of a word, and answers whether there is one.
 fn put_found(out: &mut Vec<u8>, word: Option<u32>) -> bool
-    requires { HasRoomForLine out.old }
+    requires { HasSpareRoom out.old bytes_row_size }
     ensures puts { PutsWord word result out.old.items out.new.items }
     ensures room { StaysWithin out.old out.new bytes_row_size }
 {
@@ -176,7 +175,7 @@ fn read_of(text: &[u8]) -> Option<u32>
 /// Appends the bytes of a line that is empty, `sync` or `crc`, where the bytes of the lines before have this check.
 /// `false`: the line is none of these.
 fn read_plain(out: &mut Vec<u8>, check: u32, line: &[u8]) -> bool
-    requires { HasRoomForLine out.old }
+    requires { HasSpareRoom out.old bytes_row_size }
     ensures reads { AppendsIfRead IsPlain text_of (line_bytes check) result line.now out.old.items out.new.items }
     ensures room { StaysWithin out.old out.new bytes_row_size }
 {
@@ -198,7 +197,7 @@ fn read_plain(out: &mut Vec<u8>, check: u32, line: &[u8]) -> bool
 /// Appends the bytes of a line, where the bytes of the lines before have this check. `false`: the text is that of no
 /// line.
 pub(crate) fn read_line(out: &mut Vec<u8>, check: u32, line: &[u8]) -> bool
-    requires { HasRoomForLine out.old }
+    requires { HasSpareRoom out.old bytes_row_size }
     ensures reads { AppendsIfRead FitsLine text_of (line_bytes check) result line.now out.old.items out.new.items }
     ensures room { StaysWithin out.old out.new bytes_row_size }
 {

@@ -8,7 +8,7 @@ ghost use Rattle.x7_words.specs.Characters.{line_end_byte, space_byte};
 
 use std::alloc::Global;
 use x7_header::Head;
-use x7_text::{hex_of_byte, make_room, put_decimal, put_text};
+use x7_text::{hex_of_byte, put_number, put_text};
 use x7_words::NoMemory;
 
 /// Appends two hexadecimal digits for each byte.
@@ -32,18 +32,23 @@ fn append_field(text: &mut Vec<u8>, field: &[u8]) -> Result<(), NoMemory>
     put_text(text, b" ")
 }
 
+/// Appends the line of a `.bit` header, with its end.
+fn append_header(text: &mut Vec<u8>, head: &Head<'_>) -> Result<(), NoMemory>
+    ensures { OnOk result (text.new.items ≡ text.old.items ++ bit_text (contents_of head.now) ++ line_end_byte ∷ []) }
+{
+    put_text(text, b"bit ")?;
+    append_field(text, head.a)?;
+    append_field(text, head.b)?;
+    append_field(text, head.c)?;
+    append_field(text, head.d)?;
+    put_number(text, u64::from(head.length))
+}
+
 /// The line of a `.bit` header, with its end. The header's size in bytes (`head.size`) is not in it.
 pub fn header_line(alloc: Global, head: &Head<'_>) -> Result<Vec<u8>, NoMemory>
     ensures { IfOk result (λ text. text.items ≡ bit_text (contents_of head.now) ++ line_end_byte ∷ []) }
 {
     let mut text = Vec::new(alloc);
-    put_text(&mut text, b"bit ")?;
-    append_field(&mut text, head.a)?;
-    append_field(&mut text, head.b)?;
-    append_field(&mut text, head.c)?;
-    append_field(&mut text, head.d)?;
-    make_room(&mut text, 20)?;
-    put_decimal(&mut text, u64::from(head.length));
-    put_text(&mut text, b"\n")?;
+    append_header(&mut text, head)?;
     Ok(text)
 }

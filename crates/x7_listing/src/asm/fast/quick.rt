@@ -4,9 +4,9 @@
 ghost use Rattle.std.specs.Prelude.{◌≡◌, ℕ, List, ◌<◌, ◌≤◌, ◌+◌, ◌*◌, ◌++◌, codes, drop, length, slice_index, take, IsTrue};
 ghost use Rattle.std.specs.List.{flat_map};
 ghost use Rattle.std.specs.Simd.Lanes.{chunk};
-ghost use Rattle.x7_text.specs.Row.{row_words};
+ghost use Rattle.x7_text.specs.Appends.{HasSpareRoom};
+ghost use Rattle.x7_text.specs.Row.{bytes_row_size, row_words};
 ghost use Rattle.x7_listing.specs.Fast.AtOnce.{words_in_row};
-ghost use Rattle.x7_listing.specs.Assembling.{HasRoomForLine};
 ghost use Rattle.x7_words.specs.Characters.{space_byte};
 ghost use Rattle.x7_listing.specs.Fast.Looking.{AppendsFoundLines, ReadsAtOnce};
 
@@ -48,7 +48,7 @@ pub(crate) struct WholeLines {
 /// Appends the bytes of eight no-ops, if their lines begin the text.
 #[inline(always)]
 fn read_nops(out: &mut Vec<u8>, text: &[u8; LOOK_SIZE]) -> Option<WholeLines>
-    requires room { HasRoomForLine out.old }
+    requires room { HasSpareRoom out.old bytes_row_size }
     ensures { AppendsFoundLines text.now out.old out.new result }
 {
     if (differences(text, NOP_LINES).trailing_zeros() as usize) < 32 {
@@ -144,7 +144,7 @@ fn is_data(text: &[u8; LOOK_SIZE]) -> bool
 /// Appends the bytes of a `data` line of one to eight words, if one begins the text.
 #[inline(always)]
 fn read_data_line(out: &mut Vec<u8>, text: &[u8; LOOK_SIZE]) -> Option<WholeLines>
-    requires room { HasRoomForLine out.old }
+    requires room { HasSpareRoom out.old bytes_row_size }
     ensures { AppendsFoundLines text.now out.old out.new result }
 {
     let prefix = prefix_of_hex(&row_digits(text));
@@ -183,7 +183,7 @@ fn bytes_digits(text: &[u8; LOOK_SIZE]) -> [u8; 64]
 /// Appends the bytes of a `bytes` line, if one begins the text.
 #[inline(always)]
 fn read_bytes_line(out: &mut Vec<u8>, text: &[u8; LOOK_SIZE]) -> Option<WholeLines>
-    requires room { HasRoomForLine out.old }
+    requires room { HasSpareRoom out.old bytes_row_size }
     ensures { AppendsFoundLines text.now out.old out.new result }
 {
     if !is_bytes(text) {
@@ -225,7 +225,7 @@ fn place_of(byte: u8, bytes: u8x16) -> usize {
 /// Appends the bytes of a `write` line with a count of one digit, if one begins the text.
 #[inline(always)]
 fn read_write_line(out: &mut Vec<u8>, text: &[u8; LOOK_SIZE]) -> Option<WholeLines>
-    requires room { HasRoomForLine out.old }
+    requires room { HasSpareRoom out.old bytes_row_size }
     ensures { AppendsFoundLines text.now out.old out.new result }
 {
     let space = place_of(b' ', u8x16::from_slice(&text[WRITE_SIZE..]));
@@ -251,7 +251,7 @@ fn read_write_line(out: &mut Vec<u8>, text: &[u8; LOOK_SIZE]) -> Option<WholeLin
 /// Appends the bytes of the two lines of a write of one word, or of a `write` line alone, if they begin the text.
 #[inline(always)]
 fn read_pair_or_line(out: &mut Vec<u8>, text: &[u8; LOOK_SIZE]) -> Option<WholeLines>
-    requires room { HasRoomForLine out.old }
+    requires room { HasSpareRoom out.old bytes_row_size }
     ensures { AppendsFoundLines text.now out.old out.new result }
 {
     match read_pair(out, text) {
@@ -263,7 +263,7 @@ fn read_pair_or_line(out: &mut Vec<u8>, text: &[u8; LOOK_SIZE]) -> Option<WholeL
 /// Appends the bytes of one or more lines that begin the text, if they are of those that are read at once.
 #[inline(always)]
 fn read_some(out: &mut Vec<u8>, text: &[u8; LOOK_SIZE]) -> Option<WholeLines>
-    requires room { HasRoomForLine out.old }
+    requires room { HasSpareRoom out.old bytes_row_size }
     ensures { AppendsFoundLines text.now out.old out.new result }
 {
     match text[0] {

@@ -2,12 +2,11 @@
 ghost use Rattle.std.specs.Prelude.{◌≡◌, ◌<◌, ◌≤◌, ◌+◌, ◌++◌, take, IfSome};
 ghost use Rattle.std.specs.Simd.Lanes.{chunk, mask_l, zip2};
 ghost use Rattle.x7_words.specs.Word.{bytes_of_word};
-ghost use Rattle.x7_text.specs.Appends.{Appends};
+ghost use Rattle.x7_text.specs.Appends.{Appends, HasSpareRoom};
 ghost use Rattle.x7_text.specs.Row.{bytes_row_size};
 ghost use Rattle.x7_regs.specs.Register.{reg_number_count};
 ghost use Rattle.x7_regs.specs.Command.{command_code_count};
 ghost use Rattle.x7_listing.specs.Fast.AtOnce.{bytes_differ, row_text};
-ghost use Rattle.x7_listing.specs.Assembling.{HasRoomForLine};
 ghost use Rattle.x7_listing.specs.Fast.Looking.{AppendsFoundLines};
 
 use super::quick::{LOOK_SIZE, WholeLines};
@@ -82,7 +81,7 @@ fn matched_size(text: &[u8; LOOK_SIZE], row: &[u8; 32]) -> Option<usize>
 /// Appends the bytes of two words.
 #[inline(always)]
 fn put_two(out: &mut Vec<u8>, one: u32, other: u32)
-    requires { HasRoomForLine out.old }
+    requires { HasSpareRoom out.old bytes_row_size }
     ensures appends { Appends out.old out.new (bytes_of_word one ++ bytes_of_word other) bytes_row_size }
 {
     put(out, &bytes_of(one));
@@ -93,7 +92,7 @@ fn put_two(out: &mut Vec<u8>, one: u32, other: u32)
 #[inline(always)]
 fn read_word_pair(out: &mut Vec<u8>, text: &[u8; LOOK_SIZE], register: u8) -> Option<WholeLines>
     requires register { register < reg_number_count }
-    requires room { HasRoomForLine out.old }
+    requires room { HasSpareRoom out.old bytes_row_size }
     ensures { AppendsFoundLines text.now out.old out.new result }
 {
     let Some(size) = matched_size(text, write_row(register)) else {
@@ -116,7 +115,7 @@ fn read_word_pair(out: &mut Vec<u8>, text: &[u8; LOOK_SIZE], register: u8) -> Op
 #[inline(always)]
 fn read_command_pair(out: &mut Vec<u8>, text: &[u8; LOOK_SIZE], code: u32) -> Option<WholeLines>
     requires code { code < command_code_count }
-    requires room { HasRoomForLine out.old }
+    requires room { HasSpareRoom out.old bytes_row_size }
     ensures { AppendsFoundLines text.now out.old out.new result }
 {
     let Some(size) = matched_size(text, command_row(code)) else {
@@ -129,7 +128,7 @@ fn read_command_pair(out: &mut Vec<u8>, text: &[u8; LOOK_SIZE], code: u32) -> Op
 /// Appends the bytes of a write of one word, if its two lines begin the text.
 #[inline(always)]
 pub(crate) fn read_pair(out: &mut Vec<u8>, text: &[u8; LOOK_SIZE]) -> Option<WholeLines>
-    requires room { HasRoomForLine out.old }
+    requires room { HasSpareRoom out.old bytes_row_size }
     ensures { AppendsFoundLines text.now out.old out.new result }
 {
     let register = number_at(&REGISTERS, text, REGISTER_NAME_AT);

@@ -44,3 +44,33 @@ returns-clause-reads c = plain_line c.args.check c.read_plain.result c.args.line
 
 pub returns-then-is_same-clause-reads : goal.returns-then-is_same-clause-reads
 returns-then-is_same-clause-reads c = (Nop, tt, c.is_same.ensures.0 c.if-is_same.true, c.put_word_bytes.ensures.appends.items)
+
+pub returns-then-is_same-clause-room : goal.returns-then-is_same-clause-room
+returns-then-is_same-clause-room c = record { within = c.put_word_bytes.ensures.appends.within; room = c.put_word_bytes.ensures.appends.room }
+
+pub returns-in-Some-clause-room : goal.returns-in-Some-clause-room
+returns-in-Some-clause-room c = c.read_word_row.ensures.room
+
+pub returns-in-Some-after-clause-room : goal.returns-in-Some-after-clause-room
+returns-in-Some-after-clause-room c = c.put_found.ensures.room
+
+pub returns-in-Some-after-2-clause-room : goal.returns-in-Some-after-2-clause-room
+returns-in-Some-after-2-clause-room c = c.put_found-in-Some-after-2.ensures.room
+
+pub returns-in-Some-after-4-clause-room : goal.returns-in-Some-after-4-clause-room
+returns-in-Some-after-4-clause-room c = c.put_found-in-Some-after-4.ensures.room
+
+pub returns-in-Some-after-5-clause-room : goal.returns-in-Some-after-5-clause-room
+returns-in-Some-after-5-clause-room c = c.put_found-in-Some-after-5.ensures.room
+
+pub returns-in-Some-after-6-clause-room : goal.returns-in-Some-after-6-clause-room
+returns-in-Some-after-6-clause-room c = c.put_found-in-Some-after-6.ensures.room
+
+pub returns-in-Some-after-7-clause-room : goal.returns-in-Some-after-7-clause-room
+returns-in-Some-after-7-clause-room c = c.put_found-in-Some-after-7.ensures.room
+
+pub returns-in-Some-after-3-clause-room : goal.returns-in-Some-after-3-clause-room
+returns-in-Some-after-3-clause-room c = c.read_byte_row.ensures.room
+
+pub returns-clause-room : goal.returns-clause-room
+returns-clause-room c = c.read_plain.ensures.room

@@ -17,3 +17,15 @@ returns-in-Word-clause-listed c = λ given. by_word c.args.run (is_in_session c.
 
 pub returns-in-Body-clause-listed : goal.returns-in-Body-clause-listed
 returns-in-Body-clause-listed c = λ given. by_body c.args.run (is_in_session c.args.pen) true (in_line_of c.args.pen) _ _ (held_by c.args.pen) [] given _ _ _ _ c.in-Body.is c.open_in-in-Body.ensures refl c.put_body.ensures.count c.put_body.ensures.appends.items
+
+pub returns-in-Sync-clause-none_held : goal.returns-in-Sync-clause-none_held
+returns-in-Sync-clause-none_held c = λ some session. refl
+
+pub returns-in-Head-clause-none_held : goal.returns-in-Head-clause-none_held
+returns-in-Head-clause-none_held c = λ some session. refl
+
+pub returns-in-Word-clause-none_held : goal.returns-in-Word-clause-none_held
+returns-in-Word-clause-none_held c = λ some session. refl
+
+pub returns-in-Body-clause-none_held : goal.returns-in-Body-clause-none_held
+returns-in-Body-clause-none_held c = λ some session. refl

@@ -3,7 +3,7 @@ use Rattle.std.proofs.lemmas.Result.{on_ok_weaker}
 use Rattle.x7_header.specs.Header.{HeaderContents}
 use Rattle.x7_listing.specs.Assembling.{TextsAreRead, IsSoundOutput, asm_state}
 use Rattle.x7_listing.specs.BitLine.{bit_text, IsHeaderOf, FitsHeader}
-use Rattle.x7_listing.proofs.asm.AsmLinesLemmas.{err_weaker, goes_header, goes_plain, header_sound, if_some}
+use Rattle.x7_listing.proofs.asm.AsmLinesLemmas.{err_as, err_weaker, goes_header, goes_plain, header_sound, if_some, none_ok}
 use Rattle.x7_listing.proofs.BitLemmas.{none_of, some_of}
 use Rattle.x7_listing.proofs.asm.lines.AsmLines.read_first.Goals as goal
 
@@ -34,3 +34,27 @@ returns-clause-fault c = err_weaker c.read_one.result (λ f. elim [
       let none : (x : HeaderContents) → FitsHeader x → c.args.line.now ≡ bit_text x → ⊥ = none_of _ _ c.in_ok-header.field-0 c.in_default.is c.in_ok-header.ensures.found in
       h all left 0 refl (goes_plain all left c.args.line.now b.out b.start 0 b.checker none u))
 ]) c.read_one.ensures.fault
+
+pub returns-in_err-header-clause-reads : goal.returns-in_err-header-clause-reads
+returns-in_err-header-clause-reads c = none_ok _ _ c.from_residual.result c.from_residual.ensures.1
+
+pub returns-in_err-reserve-clause-reads : goal.returns-in_err-reserve-clause-reads
+returns-in_err-reserve-clause-reads c = none_ok _ _ c.from_residual-in_err-reserve.result c.from_residual-in_err-reserve.ensures.1
+
+pub returns-in_err-header-clause-room : goal.returns-in_err-header-clause-room
+returns-in_err-header-clause-room c = none_ok _ _ c.from_residual.result c.from_residual.ensures.1
+
+pub returns-in_err-reserve-clause-room : goal.returns-in_err-reserve-clause-room
+returns-in_err-reserve-clause-room c = none_ok _ _ c.from_residual-in_err-reserve.result c.from_residual-in_err-reserve.ensures.1
+
+pub returns-in-Some-clause-fault : goal.returns-in-Some-clause-fault
+returns-in-Some-clause-fault c = tt
+
+pub returns-clause-room : goal.returns-clause-room
+returns-clause-room c = c.read_one.ensures.room
+
+pub returns-in_err-header-clause-fault : goal.returns-in_err-header-clause-fault
+returns-in_err-header-clause-fault c = err_as _ _ c.from_residual.result (λ f want. inl want) c.from_residual.ensures.1
+
+pub returns-in_err-reserve-clause-fault : goal.returns-in_err-reserve-clause-fault
+returns-in_err-reserve-clause-fault c = err_as _ _ c.from_residual-in_err-reserve.result (λ f want. inl want) c.from_residual-in_err-reserve.ensures.1
