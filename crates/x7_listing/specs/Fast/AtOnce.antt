@@ -13,20 +13,20 @@ abbrev pub write_head_text : ℕ → ℕ → List ℕ
 write_head_text register count = text_of_head (Open register count) (type1_write_header register count)
 
 -- the line of the header of a write of one word
-abbrev pub write_line : ℕ → List ℕ
-write_line register = codes "write " ++ reg_name register ++ codes " 1\n"
+abbrev pub write_line_text : ℕ → List ℕ
+write_line_text register = codes "write " ++ reg_name register ++ codes " 1\n"
 
 -- a write line up to its count
-abbrev pub write_name : ℕ → List ℕ
-write_name register = codes "write " ++ reg_name register ++ codes " "
+abbrev pub write_name_text : ℕ → List ℕ
+write_name_text register = codes "write " ++ reg_name register ++ codes " "
 
 -- the lines of a write of one word, up to the word's digits
-abbrev pub write_start : ℕ → List ℕ
-write_start register = write_line register ++ codes "data "
+abbrev pub write_start_text : ℕ → List ℕ
+write_start_text register = write_line_text register ++ codes "data "
 
 -- the lines of a write of a word to CMD
-abbrev pub command_lines : ℕ → List ℕ
-command_lines w = write_line (number_of Cmd) ++ ended_text (cmd_line w)
+abbrev pub command_lines_text : ℕ → List ℕ
+command_lines_text w = write_line_text (number_of Cmd) ++ ended_text (cmd_line w)
 
 -- where in a row of a table it stands how many of its bytes are text: the last of its 32 bytes
 abbrev pub text_size_at : ℕ

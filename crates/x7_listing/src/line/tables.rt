@@ -2,7 +2,7 @@
 ghost use Rattle.std.specs.Prelude.{◌≡◌, ℕ, List, ◌<◌};
 ghost use Rattle.x7_regs.specs.Register.{reg_number_count};
 ghost use Rattle.x7_regs.specs.Command.{command_code_count};
-ghost use Rattle.x7_listing.specs.Fast.AtOnce.{AreRowsFrom, command_lines, row_text, write_name, write_start};
+ghost use Rattle.x7_listing.specs.Fast.AtOnce.{AreRowsFrom, command_lines_text, row_text, write_name_text, write_start_text};
 
 /// Where in a row it stands how many of its bytes are text: the last of its 32 bytes.
 pub(crate) const TEXT_SIZE_AT: usize = 31;
@@ -23,7 +23,7 @@ fn row_in(rows: &[[u8; 32]; 32], number: usize) -> &[u8; 32]
 #[inline(always)]
 pub(crate) fn write_row(register: u8) -> &'static [u8; 32]
     requires { register < reg_number_count }
-    ensures { row_text result.now ≡ write_start register }
+    ensures { row_text result.now ≡ write_start_text register }
 {
     row_in(&WRITES, register as usize)
 }
@@ -32,7 +32,7 @@ pub(crate) fn write_row(register: u8) -> &'static [u8; 32]
 #[inline(always)]
 pub(crate) fn command_row(word: u32) -> &'static [u8; 32]
     requires { word < command_code_count }
-    ensures { row_text result.now ≡ command_lines word }
+    ensures { row_text result.now ≡ command_lines_text word }
 {
     row_in(&COMMANDS, word as usize)
 }
@@ -41,7 +41,7 @@ pub(crate) fn command_row(word: u32) -> &'static [u8; 32]
 #[inline(always)]
 pub(crate) fn name_row(register: u8) -> &'static [u8; 32]
     requires { register < reg_number_count }
-    ensures { row_text result.now ≡ write_name register }
+    ensures { row_text result.now ≡ write_name_text register }
 {
     row_in(&NAMES, register as usize)
 }

@@ -13,7 +13,7 @@ use Rattle.x7_regs.specs.Register.{reg_name, reg_number_count}
 use Rattle.x7_text.specs.Digits.{hex_word}
 use Rattle.x7_packets.specs.PacketWords.{type1_write_header}
 use Rattle.x7_listing.specs.Assembling.{AppendsFirstLines}
-use Rattle.x7_listing.specs.Fast.AtOnce.{command_lines, bytes_differ, write_line, write_start}
+use Rattle.x7_listing.specs.Fast.AtOnce.{command_lines_text, bytes_differ, write_line_text, write_start_text}
 use Rattle.x7_listing.specs.Line.{Line, Data, Write, line_bytes, text_of, cmd_line, ended_text}
 use Rattle.x7_listing.proofs.asm.fast.QuickLemmas.{dropped_twice}
 use Rattle.x7_listing.proofs.line.LineTextLemmas.{Listed, cmd_stands, is_eq, IsLineOf}
@@ -66,19 +66,19 @@ takes_two a b text old new size within f g e n =
       };
     }
 
-write_text : (register : ℕ) → ended_text (Write register 1) ≡ write_line register
+write_text : (register : ℕ) → ended_text (Write register 1) ≡ write_line_text register
 write_text register =
     ap (λ t. (codes "write " ++ reg_name register ++ 32 ∷ t) ++ 10 ∷ []) (decimal_digit 1 (omega arith)) ∙ append_assoc (codes "write " ++ reg_name register) (32 ∷ 49 ∷ []) (10 ∷ [])
 
 -- a write of a word to CMD
-pub takes_command : (w size : ℕ) (text old new : List ℕ) → w < 32 → size ≤ length text → take size text ≡ command_lines w → new ≡ old ++ (bytes_of_word (type1_write_header 4 1) ++ bytes_of_word w) → AppendsFirstLines text old new size 2
+pub takes_command : (w size : ℕ) (text old new : List ℕ) → w < 32 → size ≤ length text → take size text ≡ command_lines_text w → new ≡ old ++ (bytes_of_word (type1_write_header 4 1) ++ bytes_of_word w) → AppendsFirstLines text old new size 2
 takes_command w size text old new h within e n =
     let p : IsLineOf w (cmd_line w) = cmd_stands w (omega (arith, h)) in
     let is : take size text ≡ ended_text (Write 4 1) ++ ended_text (cmd_line w) = e ∙ ap (λ t. t ++ ended_text (cmd_line w)) (sym (write_text 4)) in
     takes_two (Write 4 1) (cmd_line w) text old new size within ((omega arith, omega arith), tt) p.1 is (n ∙ ap (λ t. old ++ (bytes_of_word (type1_write_header 4 1) ++ t)) (sym p.0))
 
 -- a write of a word to another register
-pub takes_word : (register w size eight : ℕ) (text old new : List ℕ) → register < reg_number_count → w < 2 ^ 32 → size + 9 ≤ length text → take size text ≡ write_start register → eight ≡ 8 → take eight (drop size text) ≡ hex_word w → get_or text (size + 8) 0 ≡ 10
+pub takes_word : (register w size eight : ℕ) (text old new : List ℕ) → register < reg_number_count → w < 2 ^ 32 → size + 9 ≤ length text → take size text ≡ write_start_text register → eight ≡ 8 → take eight (drop size text) ≡ hex_word w → get_or text (size + 8) 0 ≡ 10
     → new ≡ old ++ (bytes_of_word (type1_write_header register 1) ++ bytes_of_word w) → AppendsFirstLines text old new (size + 9) 2
 takes_word register w size eight text old new h k within e is_eight digits end n =
     let last : take 1 (drop 8 (drop size text)) ≡ 10 ∷ [] =
@@ -86,6 +86,6 @@ takes_word register w size eight text old new h k within e is_eight digits end n
     let nine : take 9 (drop size text) ≡ hex_word w ++ 10 ∷ [] = take-add 8 1 (drop size text) ∙ ap (λ t. t ++ take 1 (drop 8 (drop size text))) (ap (λ (b : ℕ). take b (drop size text)) (sym is_eight) ∙ digits) ∙ ap (λ t. hex_word w ++ t) last in
     let tail : ended_text (Data (w ∷ [])) ≡ codes "data " ++ (hex_word w ++ 10 ∷ []) = ap (λ t. (codes "data" ++ t) ++ 10 ∷ []) (append-nil (32 ∷ hex_word w)) in
     let is : take (size + 9) text ≡ ended_text (Write register 1) ++ ended_text (Data (w ∷ [])) =
-    take-add size 9 text ∙ ap (λ t. t ++ take 9 (drop size text)) e ∙ ap (λ t. write_start register ++ t) nine ∙ append_assoc (write_line register) (codes "data ") (hex_word w ++ 10 ∷ [])
+    take-add size 9 text ∙ ap (λ t. t ++ take 9 (drop size text)) e ∙ ap (λ t. write_start_text register ++ t) nine ∙ append_assoc (write_line_text register) (codes "data ") (hex_word w ++ 10 ∷ [])
     ∙ ap (λ t. t ++ (codes "data " ++ (hex_word w ++ 10 ∷ []))) (sym (write_text register)) ∙ ap (λ t. ended_text (Write register 1) ++ t) (sym tail) in
     takes_two (Write register 1) (Data (w ∷ [])) text old new (size + 9) within ((h, omega arith), tt) (((k, tt), omega arith, omega arith), tt) is n

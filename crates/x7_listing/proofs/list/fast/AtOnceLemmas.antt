@@ -23,7 +23,7 @@ use Rattle.x7_text.specs.Row.{bytes_text, close, in_line_after, open_text}
 use Rattle.x7_text.proofs.LineLemmas.{bytes_closed}
 use Rattle.x7_regs.specs.Register.{reg_name, reg_number_count}
 use Rattle.x7_listing.specs.declared.line.head_line.HeadLine.TheVariants.{Write}
-use Rattle.x7_listing.specs.Fast.AtOnce.{command_lines, write_line, write_name, write_start}
+use Rattle.x7_listing.specs.Fast.AtOnce.{command_lines_text, write_line_text, write_name_text, write_start_text}
 use Rattle.x7_listing.specs.HeadLine.{best_line, line_as, text_of_head}
 use Rattle.x7_listing.specs.Line.{cmd_line, ended_text}
 use Rattle.x7_listing.specs.Lister.{GapListed, HasListedJust, in_line_after_words, open_words, WritesRun, lister_of, written_of}
@@ -56,7 +56,7 @@ equal_prefix step w size (suc n) (suc k) e h =
     ∙ ap (λ t. text_of_head step w ++ t) (equal_prefix step w size n k e (omega (arith, h)))
 
 -- the header's line
-pub write_line_is : (register : ℕ) → register < reg_number_count → text_of_head (Open register 1) (type1_write_header register 1) ≡ write_line register
+pub write_line_is : (register : ℕ) → register < reg_number_count → text_of_head (Open register 1) (type1_write_header register 1) ≡ write_line_text register
 write_line_is register h =
     let nop : (type1_write_header register 1 == no_op) ≡ false = grind (arith, nat_tests) in
     let sync : (type1_write_header register 1 == sync_word) ≡ false = grind (arith, nat_tests) in
@@ -67,21 +67,21 @@ write_line_is register h =
     ap (λ h. ended_text (line_as h)) line ∙ ap (λ t. codes "write " ++ reg_name register ++ 32 ∷ t ++ 10 ∷ []) (decimal_digit 1 (omega arith)) ∙ append_assoc (codes "write " ++ reg_name register) (32 ∷ 49 ∷ []) (10 ∷ [])
 
 -- the lines of a write of one word: a row to CMD, and a row and the digits of a word to another register
-pub command_row_is : (line register w : ℕ) → register ≡ 4 → close line ++ command_lines w ≡ close line ++ text_of_head (Open register 1) (type1_write_header register 1) ++ open_words 0 (payload_steps register (w ∷ []))
+pub command_row_is : (line register w : ℕ) → register ≡ 4 → close line ++ command_lines_text w ≡ close line ++ text_of_head (Open register 1) (type1_write_header register 1) ++ open_words 0 (payload_steps register (w ∷ []))
 command_row_is line register w e =
-    subst (λ (r : ℕ). close line ++ command_lines w ≡ close line ++ text_of_head (Open r 1) (type1_write_header r 1) ++ open_words 0 (payload_steps r (w ∷ []))) (sym e)
-    (sym (append_assoc (close line) (write_line 4) (ended_text (cmd_line w))) ∙ ap (λ t. close line ++ t ++ ended_text (cmd_line w)) (sym (write_line_is 4 (omega arith))) ∙ ap (λ t. close line ++ text_of_head (Open 4 1) (type1_write_header 4 1) ++ t) (sym (append-nil (ended_text (cmd_line w)))))
+    subst (λ (r : ℕ). close line ++ command_lines_text w ≡ close line ++ text_of_head (Open r 1) (type1_write_header r 1) ++ open_words 0 (payload_steps r (w ∷ []))) (sym e)
+    (sym (append_assoc (close line) (write_line_text 4) (ended_text (cmd_line w))) ∙ ap (λ t. close line ++ t ++ ended_text (cmd_line w)) (sym (write_line_is 4 (omega arith))) ∙ ap (λ t. close line ++ text_of_head (Open 4 1) (type1_write_header 4 1) ++ t) (sym (append-nil (ended_text (cmd_line w)))))
 
-pub data_row_is : (line register w : ℕ) → register < reg_number_count → (register ≡ 4 → ⊥) → (close line ++ write_start register) ++ hex_word w ≡ close line ++ text_of_head (Open register 1) (type1_write_header register 1) ++ open_words 0 (payload_steps register (w ∷ []))
+pub data_row_is : (line register w : ℕ) → register < reg_number_count → (register ≡ 4 → ⊥) → (close line ++ write_start_text register) ++ hex_word w ≡ close line ++ text_of_head (Open register 1) (type1_write_header register 1) ++ open_words 0 (payload_steps register (w ∷ []))
 data_row_is line register w h n =
-    let H : List ℕ = write_line register in
+    let H : List ℕ = write_line_text register in
     let listed : open_words 0 (payload_steps register (w ∷ [])) ≡ codes "data " ++ hex_word w =
     data_listed register 0 (w ∷ []) (is_data register n) ∙ append-nil _ ∙ ap (λ t. codes "data" ++ t) (append-nil (32 ∷ hex_word w)) in
-    append_assoc (close line) (write_start register) (hex_word w) ∙ ap (λ t. close line ++ t) (append_assoc H (codes "data ") (hex_word w)) ∙ sym (append_assoc (close line) H (codes "data " ++ hex_word w))
+    append_assoc (close line) (write_start_text register) (hex_word w) ∙ ap (λ t. close line ++ t) (append_assoc H (codes "data ") (hex_word w)) ∙ sym (append_assoc (close line) H (codes "data " ++ hex_word w))
     ∙ ap (λ t. close line ++ t ++ (codes "data " ++ hex_word w)) (sym (write_line_is register h)) ∙ ap (λ t. close line ++ text_of_head (Open register 1) (type1_write_header register 1) ++ t) (sym listed)
 
 -- the header's line of a short write
-pub short_line_is : (register count : ℕ) → register < reg_number_count → count < 20 → text_of_head (Open register count) (type1_write_header register count) ≡ write_name register ++ (decimal count ++ 10 ∷ [])
+pub short_line_is : (register count : ℕ) → register < reg_number_count → count < 20 → text_of_head (Open register count) (type1_write_header register count) ≡ write_name_text register ++ (decimal count ++ 10 ∷ [])
 short_line_is register count h k =
     let nop : (type1_write_header register count == no_op) ≡ false = grind (arith, nat_tests) in
     let sync : (type1_write_header register count == sync_word) ≡ false = grind (arith, nat_tests) in

@@ -8,7 +8,7 @@ use Rattle.x7_regs.specs.declared.command.Command.{Command}
 use Rattle.x7_regs.specs.declared.command.Command.TheVariants.{Null, Wcfg, Mfw, Lfrm, Rcfg, Start, Rcap, Rcrc, Aghigh, Switch, Grestore, Shutdown, Gcapture, Desync, Iprog, Crcc, Ltimer, BspiRead, FallEdge}
 use Rattle.x7_text.specs.Digits.{hex_word}
 use Rattle.x7_text.specs.Row.{close}
-use Rattle.x7_listing.specs.Fast.AtOnce.{command_lines, write_line, write_name, write_start}
+use Rattle.x7_listing.specs.Fast.AtOnce.{command_lines_text, write_line_text, write_name_text, write_start_text}
 use Rattle.x7_listing.specs.HeadLine.{text_of_head}
 use Rattle.x7_listing.specs.Line.{cmd_line, ended_text}
 use Rattle.x7_listing.proofs.list.fast.AtOnceLemmas.{equal_block, equal_prefix, nop_lines, short_line_is}
@@ -45,19 +45,19 @@ small_code BspiRead = omega arith
 small_code FallEdge = omega arith
 
 -- the lines of a write to CMD of a word that is no small one
-pub far_command : (shown : List ℕ) (line register w : ℕ) → register ≡ 4 → 32 ≤ w → ((shown ++ (close line ++ write_start register)) ++ hex_word w) ++ 10 ∷ [] ≡ shown ++ (close line ++ command_lines w)
+pub far_command : (shown : List ℕ) (line register w : ℕ) → register ≡ 4 → 32 ≤ w → ((shown ++ (close line ++ write_start_text register)) ++ hex_word w) ++ 10 ∷ [] ≡ shown ++ (close line ++ command_lines_text w)
 far_command shown line register w e far =
     let listed : ended_text (cmd_line w) ≡ codes "data " ++ hex_word w ++ 10 ∷ [] = no_command_line w (λ f. absurd (omega (arith, f, far, small_code (command_by w)))) in
-    ap (λ (r : ℕ). ((shown ++ (close line ++ write_start r)) ++ hex_word w) ++ 10 ∷ []) e
-    ∙ append_assoc (shown ++ (close line ++ write_start 4)) (hex_word w) (10 ∷ []) ∙ append_assoc shown (close line ++ write_start 4) (hex_word w ++ 10 ∷ [])
-    ∙ ap (λ t. shown ++ t) (append_assoc (close line) (write_start 4) (hex_word w ++ 10 ∷ []) ∙ ap (λ t. close line ++ t) (append_assoc (write_line 4) (codes "data ") (hex_word w ++ 10 ∷ []) ∙ ap (λ t. write_line 4 ++ t) (sym listed)))
+    ap (λ (r : ℕ). ((shown ++ (close line ++ write_start_text r)) ++ hex_word w) ++ 10 ∷ []) e
+    ∙ append_assoc (shown ++ (close line ++ write_start_text 4)) (hex_word w) (10 ∷ []) ∙ append_assoc shown (close line ++ write_start_text 4) (hex_word w ++ 10 ∷ [])
+    ∙ ap (λ t. shown ++ t) (append_assoc (close line) (write_start_text 4) (hex_word w ++ 10 ∷ []) ∙ ap (λ t. close line ++ t) (append_assoc (write_line_text 4) (codes "data ") (hex_word w ++ 10 ∷ []) ∙ ap (λ t. write_line_text 4 ++ t) (sym listed)))
 
 -- the line of the header of a short write
-pub head_shown : (shown first all : List ℕ) (line register count : ℕ) → register < reg_number_count → count < 20 → first ≡ shown ++ (close line ++ write_name register) → all ≡ first ++ (decimal count ++ 10 ∷ [])
+pub head_shown : (shown first all : List ℕ) (line register count : ℕ) → register < reg_number_count → count < 20 → first ≡ shown ++ (close line ++ write_name_text register) → all ≡ first ++ (decimal count ++ 10 ∷ [])
     → all ≡ shown ++ (close line ++ text_of_head (Open register count) (type1_write_header register count))
 head_shown shown first all line register count h k a b =
-    b ∙ ap (λ t. t ++ (decimal count ++ 10 ∷ [])) a ∙ append_assoc shown (close line ++ write_name register) (decimal count ++ 10 ∷ [])
-    ∙ ap (λ t. shown ++ t) (append_assoc (close line) (write_name register) (decimal count ++ 10 ∷ []) ∙ ap (λ t. close line ++ t) (sym (short_line_is register count h k)))
+    b ∙ ap (λ t. t ++ (decimal count ++ 10 ∷ [])) a ∙ append_assoc shown (close line ++ write_name_text register) (decimal count ++ 10 ∷ [])
+    ∙ ap (λ t. shown ++ t) (append_assoc (close line) (write_name_text register) (decimal count ++ 10 ∷ []) ∙ ap (λ t. close line ++ t) (sym (short_line_is register count h k)))
 
 -- a few no-ops
 pub nops_shown : (count : ℕ) (block : List ℕ) → count ≤ 32 → block ≡ flat_map (λ x. x) (replicate 32 (codes "nop\n")) → take (4 * count) block ≡ nop_lines count

@@ -9,7 +9,7 @@ ghost use Rattle.x7_packets.specs.Packet.{payload_steps};
 ghost use Rattle.x7_text.specs.Appends.{HasSpareRoom};
 ghost use Rattle.x7_text.specs.Row.{bytes_text, close, bytes_row_size, row_words, data_line_size};
 ghost use Rattle.x7_regs.specs.Register.{reg_number_count};
-ghost use Rattle.x7_listing.specs.Fast.AtOnce.{command_lines, write_head_text};
+ghost use Rattle.x7_listing.specs.Fast.AtOnce.{command_lines_text, write_head_text};
 ghost use Rattle.x7_listing.specs.Fast.OnSheet.{ShowsWords, ListsMoreAfter, on_sheet, one_write_lines_size, head_line_size, one_write_text, short_write_lines_size, nop_lines_size, gap_lines_size};
 ghost use Rattle.x7_listing.specs.Fast.TakingAtOnce.{TakesAtOnce, TakesOnSheet};
 ghost use Rattle.x7_words.specs.Characters.{line_end_byte};
@@ -62,7 +62,7 @@ fn put_close(sheet: &mut [u8; SHEET_SIZE], len: usize, in_line: usize) -> usize
 fn put_command(sheet: &mut [u8; SHEET_SIZE], len: usize, in_line: usize, word: u32) -> usize
     requires room { len + one_write_lines_size ≤ SHEET_SIZE }
     ensures within { result ≤ len + one_write_lines_size }
-    ensures appends { take result sheet.new ≡ take len sheet.old ++ (close in_line ++ command_lines word) }
+    ensures appends { take result sheet.new ≡ take len sheet.old ++ (close in_line ++ command_lines_text word) }
 {
     let begin = put_close(sheet, len, in_line);
     if word < COMMAND_CODES {
