@@ -18,8 +18,12 @@ use Rattle.x7_tool.proofs.StopLemmas.{done_judges, puts_stop, refused_judges, un
 -- ---- a form
 
 -- an answer of a form, by another name of the form
-pub as_asked : (form asks : AskedForm) (old new : Outside) (got : Result Bool Event) → form ≡ asks → Answered asks old new got → Answered form old new got
+as_asked : (form asks : AskedForm) (old new : Outside) (got : Result Bool Event) → form ≡ asks → Answered asks old new got → Answered form old new got
 as_asked form asks old new got e a = subst (λ (f : AskedForm). Answered f old new got) (sym e) a
+
+-- an answer of a form that reports nothing that could stop, by another name of the form
+pub silent_answered : (form asks : AskedForm) (old new : Outside) (got done : Result Bool Event) → form ≡ asks → got ≡ done → Answered asks old new done → Answered form old new got
+silent_answered form asks old new got done e same a = as_asked form asks old new got e (subst (λ (r : Result Bool Event). Answered asks old new r) (sym same) a)
 
 -- a form that reads inputs alone, and whose text, ready or not, was written
 pub ready_answered : (form asks : AskedForm) (old new : Outside) (whole : Result Answer Event) (got : Result Bool Event) → form ≡ asks → streamed (listed_by (Some asks)) (updated_by (Some asks)) ≡ None → flash_use (Some asks) ≡ Unused

@@ -38,6 +38,21 @@ boots_as part flash b answer is stopped text = record {
   text = text ∙ ap (λ a. boot_text part a b.end is.last) is.attempts;
 }
 
+-- the lines before the report
+head_is : (part : PartData) (attempts a : List Tried) (end e : BootEnd) (name head start : List ℕ) → start ≡ [] → head ≡ start ++ boot_lines name a e → name ≡ part.name → a ≡ attempts → e ≡ end → head ≡ boot_lines part.name attempts end
+head_is part attempts a end e name head start none begun named tried ends =
+    begun ∙ ap (λ (t : List ℕ). t ++ boot_lines name a e) none ∙ ap (λ (n : List ℕ). boot_lines n a e) named ∙ ap (λ (x : List Tried). boot_lines part.name x e) tried ∙ ap (λ (x : BootEnd). boot_lines part.name attempts x) ends
+
+-- the text of a boot, made whole, by its head and the report of its device
+pub text_is : (part : PartData) (last : AttemptCourse) (attempts a : List Tried) (end e : BootEnd) (name head start report bytes text : List ℕ)
+    → start ≡ [] → head ≡ start ++ boot_lines name a e → name ≡ part.name → a ≡ attempts → e ≡ end → report ≡ report_text part (state_of part last.kept last.wrapped last.bytes) [] (memory_in part last.kept last.bytes) → bytes ≡ report → text ≡ head ++ bytes
+    → text ≡ boot_text part attempts end last
+unfolding boot_text
+text_is part last attempts a end e name head start report bytes text none begun named tried ends reports same is =
+    is
+    ∙ ap (λ (t : List ℕ). head ++ t) (same ∙ reports)
+    ∙ ap (λ (t : List ℕ). t ++ report_text part (state_of part last.kept last.wrapped last.bytes) [] (memory_in part last.kept last.bytes)) (head_is part attempts a end e name head start none begun named tried ends)
+
 -- the text of a boot by its head and the report of its device
 pub ready_is : (part : PartData) (last : AttemptCourse) (attempts a : List Tried) (end e f : BootEnd) (name head start : List ℕ) (stopped : Bool) (report text : PlayTextState)
     → start ≡ [] → head ≡ start ++ boot_lines name a e → name ≡ part.name → a ≡ attempts → e ≡ end → stopped ≡ has_failed f → f ≡ end
@@ -49,8 +64,7 @@ ready_is part last attempts a end e f name head start stopped report text none b
     is
     ∙ ap (λ (r : PlayTextState). record { stopped = r.stopped; text = head ++ r.text }) reports
     ∙ ap (λ (s : Bool). record { stopped = s; text = head ++ shown }) (failed ∙ ap has_failed fs)
-    ∙ ap (λ (t : List ℕ). record { stopped = has_failed end; text = t ++ shown })
-    (begun ∙ ap (λ (t : List ℕ). t ++ boot_lines name a e) none ∙ ap (λ (n : List ℕ). boot_lines n a e) named ∙ ap (λ (x : List Tried). boot_lines part.name x e) tried ∙ ap (λ (x : BootEnd). boot_lines part.name attempts x) ends)
+    ∙ ap (λ (t : List ℕ). record { stopped = has_failed end; text = t ++ shown }) (head_is part attempts a end e name head start none begun named tried ends)
 
 -- ---- where the bytes of the flash are known
 

@@ -123,6 +123,13 @@ pub sum_same : (m n : FrameMap) (fars : List ℕ) → AreSame m n → words_sum 
 sum_same m n [] same = refl
 sum_same m n (x ∷ fars) same = ap (λ (o : Option (List ℕ)). sum (unwrap_or o []) + words_sum m fars) (same x) ∙ ap (λ (k : ℕ). sum (unwrap_or (n x) []) + k) (sum_same m n fars same)
 
+-- ---- lines
+
+-- three texts, appended one after the other
+pub three_put : (old first second new x y z w : List ℕ) → first ≡ old ++ x → second ≡ first ++ w → w ≡ y → new ≡ second ++ z → new ≡ old ++ (x ++ (y ++ z))
+three_put old first second new x y z w p q e r =
+    r ∙ ap (λ (t : List ℕ). t ++ z) (q ∙ ap (λ (t : List ℕ). first ++ t) e ∙ ap (λ (t : List ℕ). t ++ y) p) ∙ append_assoc (old ++ x) y z ∙ append_assoc old x (y ++ z)
+
 -- ---- a stream that was played
 
 -- where few words are read out, a player that was given the bytes isn't over
@@ -166,6 +173,10 @@ pub gen_is : (part : PartData) (seed planned : ℕ) (plan : PlanData) (stream te
 unfolding gen_text
 gen_is part seed planned plan stream text p n s t =
     t ∙ ap (λ (k : ℕ). played_summary part seed k stream) (n ∙ ap (λ (x : PlanData). length x.rows) p) ∙ ap (played_summary part seed (length (generated part seed).rows)) (s ∙ ap (full_stream part) p)
+
+-- a summary by another count of the planned frames
+pub planned_as : (part : PartData) (seed n planned : ℕ) (stream text : List ℕ) → text ≡ played_summary part seed n stream → n ≡ planned → text ≡ played_summary part seed planned stream
+planned_as part seed n planned stream text t e = t ∙ ap (λ (k : ℕ). played_summary part seed k stream) e
 
 -- ---- what was planned, from the part alone
 

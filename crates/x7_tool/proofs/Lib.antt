@@ -16,6 +16,7 @@ pub mod PromiseLemmas
 pub mod ReadyLemmas
 pub mod RunLemmas
 pub mod StopLemmas
+pub mod StreamLemmas
 pub mod SvfLemmas
 pub mod TurnLemmas
 pub mod UpdateLemmas

@@ -25,7 +25,6 @@ use x7_words::{Flash, Inputs, NoMemory};
 
 /// The text of a boot (this project's choice): `boot NAME`; for each attempt `attempt N KIND ADDRESS ENDING`; `end` and
 /// how the boot ended; and the report of the device, as the last attempt left it.
-#[tactic(auto, unfolding(crate::specs::Boot::boot_text))]
 pub fn boot_text(alloc: Global, booted: &Booted) -> Result<Vec<u8>, NoMemory>
     ensures { IfOk result (λ text. OfBoot booted.now (λ part last. text.items ≡ boot_text part booted.now.attempts booted.now.end last)) }
 {
@@ -65,8 +64,7 @@ fn ready_text(alloc: Global, booted: Booted) -> Result<PlayText, NoMemory>
     )?;
     let stopped = has_failed(booted.end());
     let report = PlayText::new(alloc, booted.into_device(), &[], stopped)?;
-    let text = report.after(head)?;
-    Ok(text)
+    report.after(head)
 }
 
 /// The text of a boot, or want of memory.

@@ -2,6 +2,8 @@
 ghost use Rattle.x7_forms.specs.ReadingStops.{StopsAmong, limited};
 ghost use Rattle.std.specs.Prelude.{◌≡◌, ◌⊎◌, [], ◌∷◌, Ok, Err, IfErr, IfOk};
 ghost use Rattle.x7_words.specs.Input.{AsksAtMost, InputsStay};
+ghost use Rattle.x7_debug.specs.Script.{IsScriptOf};
+ghost use Rattle.x7_debug.specs.declared.fault.ScriptFault.{ScriptFault as FaultData};
 ghost use Rattle.x7_tool.specs.Debug.{debug_given};
 ghost use Rattle.x7_forms.specs.Event.{event_of, no_memory};
 ghost use Rattle.x7_tool.specs.Outcome.{DebuggedAs, debug_inputs, script_event, script_limit, shown_of};
@@ -70,6 +72,17 @@ fn read_given<'w, I: Inputs>(
     })
 }
 
+/// The orders of a script, whose text is given up for them.
+fn orders_of<'w>(alloc: Global, text: Vec<u8>, name: &'w str) -> Result<Script, Refusal<'w>>
+    ensures script { IfOk result (λ script. IsScriptOf text.items (Ok script)) }
+    ensures refused { IfErr result (λ r. (event_of r ≡ no_memory) ⊎ ((fault : FaultData) × (IsScriptOf text.items (Err fault) × (script_event name.now fault ≡ event_of r)))) }
+{
+    match script_of(alloc, &text) {
+        Ok(script) => Ok(script),
+        Err(fault) => Err(refusal_of(name, fault)),
+    }
+}
+
 /// What a script shows of a session at its first position, and whether the device has a fault where the script ends.
 fn shown<'w>(alloc: Global, session: &mut Session, script: &Script) -> Result<Text, Refusal<'w>>
     requires { session.old.at ≡ 0 }
@@ -83,7 +96,23 @@ fn shown<'w>(alloc: Global, session: &mut Session, script: &Script) -> Result<Te
     })
 }
 
-/// What a script shows of a stream, and whether the device has a fault where it ends.
+/// What a script shows of a stream of a new device of the part, and whether the device has a fault where it ends.
+fn shown_of<'w>(
+    alloc: Global,
+    part: &Part,
+    stream: Vec<u8>,
+    script: &Script,
+) -> Result<Text, Refusal<'w>>
+    ensures text { IfOk result (λ text. shown_of part.now stream.items script.now ≡ text_answer text) }
+    ensures refused { IfErr result (λ r. event_of r ≡ no_memory) }
+{
+    let Ok(mut session) = Session::new(alloc, part, stream) else {
+        return Err(Refusal::unnamed(Why::NoMemory));
+    };
+    shown(alloc, &mut session, script)
+}
+
+/// The text of `debug` for a part, the data of a stream and the text of a script.
 fn text_of<'w>(alloc: Global, given: Given, name: &'w str) -> Result<Text, Refusal<'w>>
     ensures text { IfOk result (λ text. DebuggedAs name.now (Ok (debug_given given)) (Ok (text_answer text))) }
     ensures refused { IfErr result (λ r. (event_of r ≡ no_memory) ⊎ DebuggedAs name.now (Ok (debug_given given)) (Err (event_of r))) }
@@ -93,14 +122,8 @@ fn text_of<'w>(alloc: Global, given: Given, name: &'w str) -> Result<Text, Refus
         stream,
         script,
     } = given;
-    let script = match script_of(alloc, &script) {
-        Ok(script) => script,
-        Err(fault) => return Err(refusal_of(name, fault)),
-    };
-    let Ok(mut session) = Session::new(alloc, &part, stream) else {
-        return Err(Refusal::unnamed(Why::NoMemory));
-    };
-    shown(alloc, &mut session, &script)
+    let script = orders_of(alloc, script, name)?;
+    shown_of(alloc, &part, stream, &script)
 }
 
 /// The text of `debug PART STREAM SCRIPT`: what a script shows of a stream's data.

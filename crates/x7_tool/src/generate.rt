@@ -119,15 +119,6 @@ fn memory_sum(part: &Part, memory: &Memory) -> u32
     total
 }
 
-/// A stream that was played.
-#[derive(Drop)]
-struct Played {
-    /// The player whose device took the stream.
-    player: Player,
-    /// How many bytes the stream has.
-    size: u64,
-}
-
 /// Plays a stream piece by piece, and answers how many bytes it has. `piece` is room for a piece.
 fn play_all(
     stream: FullStream<'_>,
@@ -153,13 +144,14 @@ fn play_all(
     Ok(size)
 }
 
-/// A new device of the part that took the full stream of a plan at its addresses. No more than a piece of the stream is
-/// held.
-fn play_full(alloc: Global, part: &Part, plan: &Plan) -> Result<Played, NoMemory>
+/// Plays the full stream of a plan at the part's addresses on a new device, and answers how many bytes it has. No more
+/// than a piece of the stream is held.
+fn play_full(alloc: Global, part: &Part, plan: &Plan, player: &mut Player) -> Result<u64, NoMemory>
     requires width { plan.now.width ≡ frame_words part.now }
     requires addresses { AreAddressed part.now plan.now.rows }
-    ensures played { IfOk result (λ p. HasPlayed part.now (full_stream part.now plan.now) p.player) }
-    ensures size { IfOk result (λ p. p.size ≡ length (full_stream part.now plan.now)) }
+    requires nothing_played { HasPlayed part.now [] player.old }
+    ensures played { OnOk result (HasPlayed part.now (full_stream part.now plan.now) player.new) }
+    ensures size { IfOk result (λ size. size ≡ length (full_stream part.now plan.now)) }
 {
     // for the proof alone: a part has a frame, and a plan has no more rows than its part has frames
     let _frames = part.frames();
@@ -167,10 +159,8 @@ fn play_full(alloc: Global, part: &Part, plan: &Plan) -> Result<Played, NoMemory
     let Ok(stream) = FullStream::new(part, plan) else {
         unreachable!()
     };
-    let mut player = Player::new(alloc, part)?;
     let mut piece = Vec::new(alloc);
-    let size = play_all(stream, &mut player, &mut piece)?;
-    Ok(Played { player, size })
+    play_all(stream, player, &mut piece)
 }
 
 /// What a summary says of a stream that was played.
@@ -222,31 +212,45 @@ fn put_summary(text: &mut Vec<u8>, name: &str, seed: u32, summary: Summary) -> R
     put_count(text, b"planned ", summary.planned)?;
     put_count(text, b"stream ", summary.size)?;
     put_count(text, b"phase ", u64::from(summary.phase))?;
-    put_sum(text, summary.sum)?;
-    Ok(())
+    put_sum(text, summary.sum)
 }
 
-/// The summary of a stream that was played, of `planned` frames.
+/// The summary of a stream of `size` bytes that was played, of `planned` frames.
 fn summarized(
     alloc: Global,
     seed: u32,
     planned: usize,
-    played: &Played,
+    player: &Player,
+    size: u64,
 ) -> Result<Vec<u8>, NoMemory>
-    ensures { IfOk result (λ text. (part : PartData) (stream : List ℕ) → TookStream part stream played.now.player played.now.size
+    ensures { IfOk result (λ text. (part : PartData) (stream : List ℕ) → TookStream part stream player.now size
         → text.items ≡ played_summary part seed planned stream) }
 {
-    let device = &played.player.device;
+    let device = &player.device;
     let part = device.part();
     let summary = Summary {
         planned: planned as u64,
-        size: played.size,
+        size,
         phase: device.state().phase,
         sum: memory_sum(part, device.memory()),
     };
     let mut text = Vec::new(alloc);
     put_summary(&mut text, part.name(), seed, summary)?;
     Ok(text)
+}
+
+/// The summary of the full stream of the plan of a seed, played on a new device.
+fn played_text(alloc: Global, part: &Part, seed: u32, plan: &Plan) -> Result<Vec<u8>, NoMemory>
+    requires part { IsPart part.now }
+    requires width { plan.now.width ≡ frame_words part.now }
+    requires addresses { AreAddressed part.now plan.now.rows }
+    ensures { IfOk result (λ text. text.items ≡ played_summary part.now seed (length plan.now.rows) (full_stream part.now plan.now)) }
+{
+    let Ok(mut player) = Player::new(alloc, part) else {
+        return Err(NoMemory);
+    };
+    let size = play_full(alloc, part, plan, &mut player)?;
+    summarized(alloc, seed, plan.len(), &player, size)
 }
 
 /// The summary of the full stream of a seed's plan, played on a new device (this project's choice): `gen NAME SEED`;
@@ -259,9 +263,7 @@ pub fn gen_text(alloc: Global, part: &Part, seed: u32) -> Result<Vec<u8>, NoMemo
     let plan = generated(alloc, part, seed)?;
     // for the proof alone: a part has a frame
     let _frames = part.frames();
-    let planned = plan.len();
-    let played = play_full(alloc, part, &plan)?;
-    summarized(alloc, seed, planned, &played)
+    played_text(alloc, part, seed, &plan)
 }
 
 /// The text of `gen` for a part and a seed, or that memory was wanting.

@@ -94,8 +94,7 @@ fn played_text(alloc: Global, part: &Part, svf: &Svf) -> Result<PlayText, NoMemo
     let mut line = Vec::new(alloc);
     play_line(&mut line, differ)?;
     let report = PlayText::new(alloc, device, &[], stopped)?;
-    let text = report.after(line)?;
-    Ok(text)
+    report.after(line)
 }
 
 /// The text of `svf` for a part and an SVF text.

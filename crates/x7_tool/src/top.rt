@@ -1,7 +1,8 @@
 //! The top call.
-ghost use Rattle.std.specs.Prelude.{ℕ, List, Some};
+ghost use Rattle.std.specs.Prelude.{◌≡◌, ℕ, List, Some, false};
 ghost use Rattle.x7_words.specs.Sink.{SinkState};
 ghost use Rattle.x7_forms.specs.Form.{asked_by, form_of_strings};
+ghost use Rattle.x7_forms.specs.Step.{result_by};
 ghost use Rattle.x7_tool.specs.Leaving.{EachBoots, PowerLossMayLeave, CallUsesFlash};
 ghost use Rattle.x7_tool.specs.Outside.{outside, sources};
 ghost use Rattle.x7_tool.specs.Run.{Answered, written_by};
@@ -23,6 +24,16 @@ use std::alloc::Global;
 use x7_forms::{Form, Refusal, Status, Why, words_of};
 use x7_words::{Flash, Inputs, Sink};
 
+/// The answer of a form that reports nothing that could stop.
+fn unstopped<'w>(done: Result<(), Refusal<'w>>) -> Result<bool, Refusal<'w>>
+    ensures { written_by result ≡ result_by (λ _. false) done.entry }
+{
+    match done {
+        Ok(()) => Ok(false),
+        Err(refusal) => Err(refusal),
+    }
+}
+
 /// Writes the whole text of a form, and says whether what it reports stopped (`Status::Stopped`).
 fn answer<'w, I: Inputs, O: Sink, F: Flash>(
     alloc: Global,
@@ -36,10 +47,7 @@ fn answer<'w, I: Inputs, O: Sink, F: Flash>(
     ensures flash { CallUsesFlash F.Flash (Some (asked_by form.entry)) (I.state inputs.old) flash.old flash.new }
 {
     match form {
-        Form::List { stream } => {
-            list(alloc, inputs, out, stream)?;
-            Ok(false)
-        }
+        Form::List { stream } => unstopped(list(alloc, inputs, out, stream)),
         Form::Asm { text } => put_whole(asm(alloc, inputs, text), out),
         Form::Play { part, streams } => put_whole(play(alloc, inputs, part, streams), out),
         Form::Debug {
@@ -66,10 +74,7 @@ fn answer<'w, I: Inputs, O: Sink, F: Flash>(
         Form::Update {
             flash: name,
             stream,
-        } => {
-            update(alloc, inputs, flash, name, stream)?;
-            Ok(false)
-        }
+        } => unstopped(update(alloc, inputs, flash, name, stream)),
         Form::Mcs { image } => put_whole(mcs(alloc, inputs, image), out),
         Form::Unmcs { text } => put_whole(unmcs(alloc, inputs, text), out),
     }

@@ -8,7 +8,7 @@ use Rattle.x7_tool.proofs.DebugLemmas.{stream_steady}
 use Rattle.x7_forms.proofs.AskedLemmas.{about_among, no_part_about, unplayed_about, unread_about}
 use Rattle.x7_forms.specs.ReadingStops.{limited}
 use Rattle.x7_tool.proofs.StopLemmas.{both_asked, all_asked}
-use Rattle.x7_words.proofs.InputLemmas.{few_more, few_on}
+use Rattle.x7_words.proofs.InputLemmas.{few_more, few_on, stays_on}
 use Rattle.x7_forms.proofs.ResultLemmas.{handed_on}
 use Rattle.x7_tool.proofs.debug.read_given.Goals as goal
 
@@ -100,3 +100,18 @@ returns-in_err-script-clause-asks g c = few_on _ _ _ 2 1 (few_on _ _ _ 1 1 c.rea
 
 pub returns-clause-asks : goal.returns-clause-asks
 returns-clause-asks g c = few_on _ _ _ 2 1 (few_on _ _ _ 1 1 c.read_part.ensures.asks c.read_data.ensures.asks) c.read_whole.ensures.asks
+
+pub returns-in_err-part-clause-inputs : goal.returns-in_err-part-clause-inputs
+returns-in_err-part-clause-inputs g c = c.read_part.ensures.inputs
+
+pub returns-in_err-stream-clause-inputs : goal.returns-in_err-stream-clause-inputs
+returns-in_err-stream-clause-inputs g c = stays_on _ _ _ c.read_part.ensures.inputs c.read_data.ensures.inputs
+
+pub returns-in_err-script-clause-inputs : goal.returns-in_err-script-clause-inputs
+returns-in_err-script-clause-inputs g c = stays_on _ _ _ (stays_on _ _ _ c.read_part.ensures.inputs c.read_data.ensures.inputs) c.read_whole.ensures.inputs
+
+pub returns-clause-inputs : goal.returns-clause-inputs
+returns-clause-inputs g c = stays_on _ _ _ (stays_on _ _ _ c.read_part.ensures.inputs c.read_data.ensures.inputs) c.read_whole.ensures.inputs
+
+pub returns-clause-last_asked : goal.returns-clause-last_asked
+returns-clause-last_asked g c = c.read_whole.ensures.last_asked

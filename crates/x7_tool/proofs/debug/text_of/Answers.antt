@@ -1,18 +1,12 @@
-use Rattle.std.proofs.Common.{ℕ, List, inl, subst, Ok}
-use Rattle.x7_debug.specs.Script.{IsScriptOf}
-use Rattle.x7_forms.proofs.ResultLemmas.{err_weaker, ok_weaker}
-use Rattle.x7_tool.specs.Ready.{text_answer}
-use Rattle.x7_tool.proofs.DebugLemmas.{shown_as}
+use Rattle.std.proofs.Common.{inl}
+use Rattle.x7_forms.proofs.ResultLemmas.{err_weaker, handed_on, ok_weaker}
 use Rattle.x7_tool.proofs.debug.text_of.Goals as goal
 
 pub returns-clause-text : goal.returns-clause-text
-returns-clause-text c =
-    let given = c.args.given in
-    let orders = c.in-Ok.script in
-    let session = c.in-Ok-new.session in
-    let begins = c.in-Ok-new.ensures.begins in
-    let script = subst (λ (t : List ℕ). IsScriptOf t (Ok orders)) c.deref.ensures.value c.in-Ok.ensures.script in
-    ok_weaker c.shown.result (λ text h. (orders, (script, shown_as given.part session.part given.stream.items session.stream orders (text_answer text) begins.0 begins.1 h))) c.shown.ensures.text
+returns-clause-text c = ok_weaker c.shown_of.result (λ text h. (c.in_ok-script.script, (c.in_ok-script.ensures.script, h))) c.shown_of.ensures.text
 
 pub returns-clause-refused : goal.returns-clause-refused
-returns-clause-refused c = err_weaker c.shown.result (λ r e. inl e) c.shown.ensures.refused
+returns-clause-refused c = err_weaker c.shown_of.result (λ r e. inl e) c.shown_of.ensures.refused
+
+pub returns-in_err-script-clause-refused : goal.returns-in_err-script-clause-refused
+returns-in_err-script-clause-refused c = rw (handed_on c.from_residual.result c.in_err-script.field-0.0 c.from_residual.ensures) c.in_err-script.ensures.refused

@@ -94,3 +94,12 @@ returns-in_err-turn-clause-asks g c = few_read _ _ _ c.loop-read.left c.loop-rea
 
 pub returns-then-turn-clause-asks : goal.returns-then-turn-clause-asks
 returns-then-turn-clause-asks g c = few_read _ _ _ c.loop-read.left c.loop-read.invariant.once c.next_turn.ensures.gives_few
+
+pub returns-in_err-open-clause-inputs : goal.returns-in_err-open-clause-inputs
+returns-in_err-open-clause-inputs g c = c.open.ensures.inputs
+
+pub returns-in_err-turn-clause-inputs : goal.returns-in_err-turn-clause-inputs
+returns-in_err-turn-clause-inputs g c = stays_on _ _ _ c.loop-read.invariant.inputs c.next_turn.ensures.inputs
+
+pub returns-then-turn-clause-inputs : goal.returns-then-turn-clause-inputs
+returns-then-turn-clause-inputs g c = stays_on _ _ _ c.loop-read.invariant.inputs c.next_turn.ensures.inputs

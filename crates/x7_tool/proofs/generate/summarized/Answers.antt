@@ -10,11 +10,11 @@ use Rattle.x7_tool.proofs.generate.summarized.Goals as goal
 
 pub returns : goal.returns
 returns c = λ part stream took.
-    let p = c.args.played.now.player in
+    let p = c.args.player.now in
     let on = sure p.is_over part stream (play_state p.device p.buffer p.reads.items) took.2 took.0 in
     let all = played_all part stream p.device p.reads.items on.0 on.1 in
     let stands = all.stands in
     let state = c.state.ensures.value part on_the_bench false all.prefix stands all.no_word_due ∙ sym all.state in
     let memory = subst (λ (m : FrameMap). AreSame (frame_at part c.memory.result.now) m) (sym all.memory) (c.memory.ensures.shows part on_the_bench false all.prefix stands) in
-    summary_is c.part-part.result.now part c.name.result.now c.args.seed c.args.planned c.args.played.now.size _ _ c.memory.result.now stream c.new-text.result.items c.put_summary.new.text.items
+    summary_is c.part-part.result.now part c.name.result.now c.args.seed c.args.planned c.args.size _ _ c.memory.result.now stream c.new-text.result.items c.put_summary.new.text.items
     c.name.ensures (c.part-part.ensures.value part on_the_bench false all.prefix stands) took.1 (ap (λ (r : Regs). r.phase) state) c.memory_sum.ensures memory c.new-text.ensures.items c.in_ok-put_summary.ensures

@@ -8,7 +8,7 @@ use Rattle.x7_tool.proofs.DebugLemmas.{stream_steady}
 use Rattle.x7_forms.proofs.AskedLemmas.{about_among, unplayed_about}
 use Rattle.x7_tool.proofs.StopLemmas.{both_asked}
 use Rattle.x7_forms.specs.ReadingStops.{limited}
-use Rattle.x7_words.proofs.InputLemmas.{few_more, few_on}
+use Rattle.x7_words.proofs.InputLemmas.{few_more, few_on, stays_on}
 use Rattle.x7_forms.proofs.ResultLemmas.{handed_on}
 use Rattle.x7_tool.proofs.image.read_streams.Goals as goal
 
@@ -62,3 +62,21 @@ returns-in_err-update-clause-asks g c = few_on _ _ _ 1 1 c.read_stream.ensures.a
 
 pub returns-clause-asks : goal.returns-clause-asks
 returns-clause-asks g c = few_on _ _ _ 1 1 c.read_stream.ensures.asks c.read_stream-2.ensures.asks
+
+pub returns-in_err-golden-clause-inputs : goal.returns-in_err-golden-clause-inputs
+returns-in_err-golden-clause-inputs g c = c.read_stream.ensures.inputs
+
+pub returns-in_err-update-clause-inputs : goal.returns-in_err-update-clause-inputs
+returns-in_err-update-clause-inputs g c = stays_on _ _ _ c.read_stream.ensures.inputs c.read_stream-2.ensures.inputs
+
+pub returns-clause-inputs : goal.returns-clause-inputs
+returns-clause-inputs g c = stays_on _ _ _ c.read_stream.ensures.inputs c.read_stream-2.ensures.inputs
+
+pub returns-clause-last_asked : goal.returns-clause-last_asked
+returns-clause-last_asked g c = c.read_stream-2.ensures.last_asked
+
+pub returns-clause-golden : goal.returns-clause-golden
+returns-clause-golden g c = c.in_ok-golden.ensures.within
+
+pub returns-clause-update : goal.returns-clause-update
+returns-clause-update g c = c.in_ok-update.ensures.within

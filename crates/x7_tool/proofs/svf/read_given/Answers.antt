@@ -8,7 +8,7 @@ use Rattle.x7_tool.specs.Outcome.{PartAndText, text_limit}
 use Rattle.x7_forms.proofs.AskedLemmas.{about_among, no_part_about, unread_about}
 use Rattle.x7_tool.proofs.StopLemmas.{both_asked}
 use Rattle.x7_forms.specs.ReadingStops.{limited}
-use Rattle.x7_words.proofs.InputLemmas.{few_more, few_on}
+use Rattle.x7_words.proofs.InputLemmas.{few_more, few_on, stays_on}
 use Rattle.x7_forms.proofs.ResultLemmas.{handed_on}
 use Rattle.x7_tool.proofs.svf.read_given.Goals as goal
 
@@ -49,3 +49,15 @@ returns-in_err-text-clause-asks g c = few_on _ _ _ 1 1 c.read_part.ensures.asks 
 
 pub returns-clause-asks : goal.returns-clause-asks
 returns-clause-asks g c = few_on _ _ _ 1 1 c.read_part.ensures.asks c.read_whole.ensures.asks
+
+pub returns-in_err-part-clause-inputs : goal.returns-in_err-part-clause-inputs
+returns-in_err-part-clause-inputs g c = c.read_part.ensures.inputs
+
+pub returns-in_err-text-clause-inputs : goal.returns-in_err-text-clause-inputs
+returns-in_err-text-clause-inputs g c = stays_on _ _ _ c.read_part.ensures.inputs c.read_whole.ensures.inputs
+
+pub returns-clause-inputs : goal.returns-clause-inputs
+returns-clause-inputs g c = stays_on _ _ _ c.read_part.ensures.inputs c.read_whole.ensures.inputs
+
+pub returns-clause-last_asked : goal.returns-clause-last_asked
+returns-clause-last_asked g c = c.read_whole.ensures.last_asked

@@ -1,35 +1,24 @@
 use Rattle.std.proofs.Common.{refl, Some, map, string_bytes, ap}
 use Rattle.x7_forms.specs.Form.{Assembling, Booting, Debugging, FromMcs, Generating, Imaging, ImagingFor, Listing, PlanningFull, PlanningPartial, PlanningRead, Playing, PlayingSvf, ToMcs, UpdatingFlash, asked_by}
 use Rattle.x7_forms.specs.Step.{result_by}
-use Rattle.x7_forms.proofs.ResultLemmas.{handed_on}
 use Rattle.x7_tool.specs.FullText.{full_answer}
 use Rattle.x7_tool.specs.Outside.{outside, sources}
 use Rattle.x7_tool.specs.Play.{play_answer}
 use Rattle.x7_tool.specs.Ready.{bytes_answer, mcs_answer, text_answer}
-use Rattle.x7_tool.proofs.AnswerLemmas.{as_asked, flash_answered, ready_answered, uses_as}
+use Rattle.x7_tool.proofs.AnswerLemmas.{flash_answered, ready_answered, silent_answered, uses_as}
 use Rattle.x7_tool.proofs.FlashLemmas.{uses_read, uses_same}
 use Rattle.x7_tool.proofs.StopLemmas.{boot_judges}
 use Rattle.x7_tool.proofs.top.answer.Goals as goal
 
-pub returns-in_ok-list-in-List-clause-answered : goal.returns-in_ok-list-in-List-clause-answered
-returns-in_ok-list-in-List-clause-answered g c = λ e f.
+pub returns-in-List-clause-answered : goal.returns-in-List-clause-answered
+returns-in-List-clause-answered g c = λ e f.
     let flash = g.F.Flash.state c.args.flash.now in
     let old = outside (g.I.Inputs.state c.args.inputs.now) flash (g.O.Sink.state c.args.out.now) e in
     let new = outside (g.I.Inputs.state c.list.new.inputs) flash (g.O.Sink.state c.list.new.out) f in
-    as_asked _ (Listing c.in-List.stream.now) old new _ (ap asked_by c.in-List.is) (c.in_ok-list-in-List.ensures old new)
+    silent_answered _ (Listing c.in-List.stream.now) old new _ _ (ap asked_by c.in-List.is) c.unstopped.ensures (c.list.ensures old new)
 
-pub returns-in_err-list-in-List-clause-answered : goal.returns-in_err-list-in-List-clause-answered
-returns-in_err-list-in-List-clause-answered g c = rw (handed_on c.from_residual.result c.in_err-list-in-List.field-0.0 c.from_residual.ensures) (λ e f.
-    let flash = g.F.Flash.state c.args.flash.now in
-    let old = outside (g.I.Inputs.state c.args.inputs.now) flash (g.O.Sink.state c.args.out.now) e in
-    let new = outside (g.I.Inputs.state c.list.new.inputs) flash (g.O.Sink.state c.list.new.out) f in
-    as_asked _ (Listing c.in-List.stream.now) old new _ (ap asked_by c.in-List.is) (c.in_err-list-in-List.ensures old new))
-
-pub returns-in_ok-list-in-List-clause-flash : goal.returns-in_ok-list-in-List-clause-flash
-returns-in_ok-list-in-List-clause-flash g c = uses_same _ _ (g.F.Flash.state c.args.flash.now) _
-
-pub returns-in_err-list-in-List-clause-flash : goal.returns-in_err-list-in-List-clause-flash
-returns-in_err-list-in-List-clause-flash g c = uses_same _ _ (g.F.Flash.state c.args.flash.now) _
+pub returns-in-List-clause-flash : goal.returns-in-List-clause-flash
+returns-in-List-clause-flash g c = uses_same _ _ (g.F.Flash.state c.args.flash.now) _
 
 pub returns-in-Asm-clause-answered : goal.returns-in-Asm-clause-answered
 returns-in-Asm-clause-answered g c = λ e f.
@@ -139,24 +128,14 @@ pub returns-in-Boot-clause-flash : goal.returns-in-Boot-clause-flash
 returns-in-Boot-clause-flash g c =
     uses_read _ (Booting c.in-Boot.part.now c.in-Boot.name.now) c.in-Boot.name.now _ _ _ _ _ (ap (λ f. Some (asked_by f)) c.in-Boot.is) refl c.boot.ensures.reads c.boot.ensures.unwritten
 
-pub returns-in_ok-update-in-Update-clause-answered : goal.returns-in_ok-update-in-Update-clause-answered
-returns-in_ok-update-in-Update-clause-answered g c = λ e f.
+pub returns-in-Update-clause-answered : goal.returns-in-Update-clause-answered
+returns-in-Update-clause-answered g c = λ e f.
     let old = outside (g.I.Inputs.state c.args.inputs.now) (g.F.Flash.state c.args.flash.now) (g.O.Sink.state c.args.out.now) e in
     let new = outside (g.I.Inputs.state c.update.new.inputs) (g.F.Flash.state c.update.new.flash) (g.O.Sink.state c.args.out.now) f in
-    as_asked _ (UpdatingFlash c.in-Update.name.now c.in-Update.stream.now) old new _ (ap asked_by c.in-Update.is) (c.in_ok-update-in-Update.ensures.answered old new refl)
+    silent_answered _ (UpdatingFlash c.in-Update.name.now c.in-Update.stream.now) old new _ _ (ap asked_by c.in-Update.is) c.unstopped-in-Update.ensures (c.update.ensures.answered old new refl)
 
-pub returns-in_err-update-in-Update-clause-answered : goal.returns-in_err-update-in-Update-clause-answered
-returns-in_err-update-in-Update-clause-answered g c = rw (handed_on c.from_residual-in_err-update-in-Update.result c.in_err-update-in-Update.field-0.0 c.from_residual-in_err-update-in-Update.ensures) (λ e f.
-    let old = outside (g.I.Inputs.state c.args.inputs.now) (g.F.Flash.state c.args.flash.now) (g.O.Sink.state c.args.out.now) e in
-    let new = outside (g.I.Inputs.state c.update.new.inputs) (g.F.Flash.state c.update.new.flash) (g.O.Sink.state c.args.out.now) f in
-    as_asked _ (UpdatingFlash c.in-Update.name.now c.in-Update.stream.now) old new _ (ap asked_by c.in-Update.is) (c.in_err-update-in-Update.ensures.answered old new refl))
-
-pub returns-in_ok-update-in-Update-clause-flash : goal.returns-in_ok-update-in-Update-clause-flash
-returns-in_ok-update-in-Update-clause-flash g c =
-    uses_as _ (UpdatingFlash c.in-Update.name.now c.in-Update.stream.now) _ _ _ _ _ (ap (λ f. Some (asked_by f)) c.in-Update.is) c.update.ensures.flash
-
-pub returns-in_err-update-in-Update-clause-flash : goal.returns-in_err-update-in-Update-clause-flash
-returns-in_err-update-in-Update-clause-flash g c =
+pub returns-in-Update-clause-flash : goal.returns-in-Update-clause-flash
+returns-in-Update-clause-flash g c =
     uses_as _ (UpdatingFlash c.in-Update.name.now c.in-Update.stream.now) _ _ _ _ _ (ap (λ f. Some (asked_by f)) c.in-Update.is) c.update.ensures.flash
 
 pub returns-in-Mcs-clause-answered : goal.returns-in-Mcs-clause-answered
