@@ -2,7 +2,7 @@
 use crate::expected::{Expected, Extent};
 use crate::given::Given;
 use crate::notes::{Notes, common_length};
-use crate::running::{Run, Variation};
+use crate::running::{Ending, Variation};
 
 /// The line of the text that begins most as the one given does.
 fn nearest<'a>(text: &'a str, line: &[u8]) -> &'a [u8] {
@@ -48,12 +48,12 @@ pub(crate) fn compare_run(
     out: &[u8],
     err: &[u8],
     flash: &[u8],
-    came: &Run,
+    came: &Ending,
 ) {
     notes.compare_numbers("status", u64::from(status), u64::from(came.status));
-    notes.compare_texts("out", out, came.out.bytes());
-    notes.compare_texts("err", err, came.err.bytes());
-    notes.compare_texts("flash", flash, came.flash.bytes());
+    notes.compare_texts("out", out, &came.out);
+    notes.compare_texts("err", err, &came.err);
+    notes.compare_texts("flash", flash, &came.flash);
 }
 
 /// The text that should come, where it is said, and else what came.
@@ -89,11 +89,11 @@ pub(crate) fn compare(
     given: &Given,
     expected: &Expected,
     variation: &Variation,
-    came: &Run,
+    came: &Ending,
 ) {
     let flash = due_flash(expected, given);
-    let text = came.out.bytes();
-    let message = came.err.bytes();
+    let text: &[u8] = &came.out;
+    let message: &[u8] = &came.err;
     if let Extent::Any = expected.extent {
         return compare_run(notes, came.status, text, message, flash, came);
     }

@@ -3,7 +3,7 @@ use crate::comparing::{compare_run, prefix_of, text_of};
 use crate::given::Object;
 use crate::named::{Named, has_name, put_under};
 use crate::notes::Notes;
-use crate::running::Run;
+use crate::running::Ending;
 use std::alloc::Global;
 
 /// The status of a run in which a read failed.
@@ -16,9 +16,9 @@ const WRITE_FAULT: u8 = 7;
 const WRITE_MESSAGE: &[u8] = b"x7: write fault\n";
 
 /// Notes where a run in which no call failed differs from the whole run.
-pub(crate) fn compare_alike(notes: &mut Notes, whole: &Run, came: &Run) {
-    let (out, err) = (whole.out.bytes(), whole.err.bytes());
-    compare_run(notes, whole.status, out, err, whole.flash.bytes(), came);
+pub(crate) fn compare_alike(notes: &mut Notes, whole: &Ending, came: &Ending) {
+    let (out, err) = (&whole.out, &whole.err);
+    compare_run(notes, whole.status, out, err, &whole.flash, came);
 }
 
 /// The name in the message of a read fault.
@@ -96,22 +96,22 @@ fn compare_read_failed(
     notes: &mut Notes,
     words: &[String],
     blamed: &mut Blamed,
-    whole: &Run,
-    came: &Run,
+    whole: &Ending,
+    came: &Ending,
 ) {
-    let listed = if is_of(words, "list") {
-        whole.out.bytes()
+    let listed: &[u8] = if is_of(words, "list") {
+        &whole.out
     } else {
         &[]
     };
-    let out = prefix_of(listed, came.out.bytes());
-    let message = came.err.bytes();
+    let out = prefix_of(listed, &came.out);
+    let message: &[u8] = &came.err;
     let err = if blamed.take(notes, words, message) {
         message
     } else {
         b"x7: read fault NAME\n"
     };
-    compare_run(notes, READ_FAULT, out, err, came.flash.bytes(), came);
+    compare_run(notes, READ_FAULT, out, err, &came.flash, came);
 }
 
 /// Notes where a run in which a call of the object failed didn't end as it should.
@@ -120,22 +120,22 @@ pub(crate) fn compare_failed(
     words: &[String],
     blamed: &mut Blamed,
     object: Object,
-    whole: &Run,
-    came: &Run,
+    whole: &Ending,
+    came: &Ending,
 ) {
-    let flash = whole.flash.bytes();
+    let flash: &[u8] = &whole.flash;
     match object {
         Object::Err => {
-            let err = prefix_of(whole.err.bytes(), came.err.bytes());
-            compare_run(notes, whole.status, whole.out.bytes(), err, flash, came);
+            let err = prefix_of(&whole.err, &came.err);
+            compare_run(notes, whole.status, &whole.out, err, flash, came);
         }
         Object::Out => {
-            let out = prefix_of(whole.out.bytes(), came.out.bytes());
+            let out = prefix_of(&whole.out, &came.out);
             compare_run(notes, WRITE_FAULT, out, WRITE_MESSAGE, flash, came);
         }
         // an update that ends so failed at a write of its flash
         Object::Flash if is_of(words, "update") && came.status == WRITE_FAULT => {
-            let flash = came.flash.bytes();
+            let flash = &came.flash;
             compare_run(notes, WRITE_FAULT, &[], WRITE_MESSAGE, flash, came);
         }
         Object::In | Object::Flash => compare_read_failed(notes, words, blamed, whole, came),

@@ -4,6 +4,7 @@ use crate::fault::Fault;
 use crate::given::{Given, Object};
 use crate::named::Named;
 use crate::notes::Notes;
+use crate::token::append;
 use std::alloc::Global;
 use x7_in_memory::{MemoryFlash, MemoryInputs, MemorySink};
 use x7_words::{Flash, Inputs, NoMemory, SelectFault, Sink};
@@ -61,18 +62,41 @@ impl Variation {
     }
 }
 
-/// A run: the objects that it works on, and how it ended.
+/// How a run ended, and what it left.
 #[derive(Drop)]
-pub(crate) struct Run {
-    /// The status of the command, 0 before it.
+pub(crate) struct Ending {
+    /// The status of the command.
     pub(crate) status: u8,
+    /// Whether the call that was to fail came after all calls of the run.
+    pub(crate) is_spared: bool,
+    /// The text: what the sink `out` took.
+    pub(crate) out: Vec<u8>,
+    /// The message: what the sink `err` took.
+    pub(crate) err: Vec<u8>,
+    /// What the flash holds.
+    pub(crate) flash: Vec<u8>,
+}
+
+impl Ending {
+    /// Status 0, and nothing left.
+    pub(crate) fn new(alloc: Global) -> Ending {
+        Ending {
+            status: 0,
+            is_spared: false,
+            out: Vec::new(alloc),
+            err: Vec::new(alloc),
+            flash: Vec::new(alloc),
+        }
+    }
+}
+
+/// The objects that a run works on.
+#[derive(Drop)]
+struct Objects {
     inputs: MemoryInputs,
-    /// What holds the flash.
-    pub(crate) flash: MemoryFlash,
-    /// What took the text.
-    pub(crate) out: MemorySink,
-    /// What took the message.
-    pub(crate) err: MemorySink,
+    flash: MemoryFlash,
+    out: MemorySink,
+    err: MemorySink,
 }
 
 /// Puts all inputs of the list.
@@ -83,15 +107,20 @@ fn put_all(inputs: &mut MemoryInputs, list: &[Named]) -> Result<(), Fault> {
     Ok(())
 }
 
-impl Run {
-    /// A run without inputs, and no call that fails.
-    pub(crate) fn new(alloc: Global, given: &Given) -> Result<Run, Fault> {
+/// Puts the bytes in place of those that were there.
+fn replace(old: &mut Vec<u8>, bytes: &[u8]) -> Result<(), Fault> {
+    old.clear();
+    append(old, bytes)
+}
+
+impl Objects {
+    /// Objects without inputs, and no call that fails.
+    fn new(alloc: Global, given: &Given) -> Result<Objects, Fault> {
         let flash = &given.flash;
         let out = MemorySink::new(alloc, given.room as usize)?;
         let err = MemorySink::new(alloc, ERR_ROOM)?;
         let flash = MemoryFlash::new(alloc, flash.name.as_str(), &flash.bytes)?;
-        Ok(Run {
-            status: 0,
+        Ok(Objects {
             inputs: MemoryInputs::new(alloc),
             flash,
             out,
@@ -135,21 +164,36 @@ impl Run {
         Ok(())
     }
 
-    /// Runs the command once, over new objects.
-    pub(crate) fn run<C: Command>(
+    /// Whether the call that was to fail came after all calls of the run: one more call of its object fails.
+    fn is_spared(&mut self, object: Object) -> bool {
+        match object {
+            Object::In => matches!(self.inputs.select(""), Err(SelectFault::Failed)),
+            Object::Flash => matches!(self.flash.attach(""), Err(SelectFault::Failed)),
+            Object::Out => self.out.write(&[]).is_err(),
+            Object::Err => self.err.write(&[]).is_err(),
+        }
+    }
+
+    /// What the objects hold after a run.
+    fn leave(&mut self, variation: &Variation, ending: &mut Ending) -> Result<(), Fault> {
+        ending.is_spared = self.is_spared(variation.object);
+        replace(&mut ending.out, self.out.bytes())?;
+        replace(&mut ending.err, self.err.bytes())?;
+        replace(&mut ending.flash, self.flash.bytes())
+    }
+
+    /// Runs the command once over the objects.
+    fn run<C: Command>(
         &mut self,
         command: &C,
         alloc: Global,
         shared: &[Named],
         given: &Given,
         variation: &Variation,
+        ending: &mut Ending,
     ) -> Result<(), Fault> {
-        match Run::new(alloc, given) {
-            Ok(run) => *self = run,
-            Err(fault) => return Err(fault),
-        }
         self.prepare(shared, given, variation)?;
-        self.status = command.run(
+        ending.status = command.run(
             alloc,
             &given.words,
             &mut self.inputs,
@@ -157,16 +201,21 @@ impl Run {
             &mut self.out,
             &mut self.err,
         );
-        Ok(())
+        self.leave(variation, ending)
     }
+}
 
-    /// Whether the call that was to fail came after all calls of the run: one more call of its object fails.
-    pub(crate) fn is_spared(&mut self, object: Object) -> bool {
-        match object {
-            Object::In => matches!(self.inputs.select(""), Err(SelectFault::Failed)),
-            Object::Flash => matches!(self.flash.attach(""), Err(SelectFault::Failed)),
-            Object::Out => self.out.write(&[]).is_err(),
-            Object::Err => self.err.write(&[]).is_err(),
-        }
+/// Runs the command once. The ending takes what it left.
+pub(crate) fn run_command<C: Command>(
+    command: &C,
+    alloc: Global,
+    shared: &[Named],
+    given: &Given,
+    variation: &Variation,
+    ending: &mut Ending,
+) -> Result<(), Fault> {
+    match Objects::new(alloc, given) {
+        Ok(mut objects) => objects.run(command, alloc, shared, given, variation, ending),
+        Err(fault) => Err(fault),
     }
 }

@@ -4,7 +4,7 @@ use crate::command::Command;
 use crate::fault::Fault;
 use crate::named::{Named, has_name, put_named, put_under};
 use crate::notes::Notes;
-use crate::running::Run;
+use crate::running::Ending;
 use crate::token::first_word;
 use crate::trial::Trial;
 use std::alloc::Global;
@@ -24,14 +24,14 @@ struct Subject {
     /// How many cases came as they are written.
     good: u32,
     /// What the case that ran last keeps of its runs.
-    kept: Run,
+    kept: Ending,
     /// The last run.
-    came: Run,
+    came: Ending,
 }
 
 /// Makes the text of a case's run, or what its flash holds, an input of later cases, under a name that none has yet,
 /// where the case says so.
-fn keep(alloc: Global, shared: &mut Vec<Named>, case: &Case, kept: &Run) -> Result<(), Fault> {
+fn keep(alloc: Global, shared: &mut Vec<Named>, case: &Case, kept: &Ending) -> Result<(), Fault> {
     let name = case.kept.as_str();
     if name.is_empty() {
         return Ok(());
@@ -40,29 +40,26 @@ fn keep(alloc: Global, shared: &mut Vec<Named>, case: &Case, kept: &Run) -> Resu
         return Err(Fault::Line);
     }
     let bytes = if case.keeps_flash {
-        kept.flash.bytes()
+        &kept.flash
     } else {
-        kept.out.bytes()
+        &kept.out
     };
     put_under(alloc, shared, name, bytes)
 }
 
 impl Subject {
     /// No cases and no inputs yet.
-    fn new(alloc: Global) -> Result<Subject, Fault> {
-        let case = Case::new(alloc);
-        let kept = Run::new(alloc, &case.given)?;
-        let came = Run::new(alloc, &case.given)?;
-        Ok(Subject {
+    fn new(alloc: Global) -> Subject {
+        Subject {
             alloc,
             shared: Vec::new(alloc),
             is_open: false,
-            case,
+            case: Case::new(alloc),
             notes: Notes::new(alloc),
             good: 0,
-            kept,
-            came,
-        })
+            kept: Ending::new(alloc),
+            came: Ending::new(alloc),
+        }
     }
 
     /// Runs the case.
@@ -175,8 +172,6 @@ pub fn report_cases<C: Command>(
     text: &str,
     report: &mut String,
 ) -> Result<(), Fault> {
-    match Subject::new(alloc) {
-        Ok(mut subject) => subject.run_all(command, name, part, text, report),
-        Err(fault) => Err(fault),
-    }
+    let mut subject = Subject::new(alloc);
+    subject.run_all(command, name, part, text, report)
 }

@@ -6,7 +6,7 @@ use crate::failing::{Blamed, compare_alike, compare_failed};
 use crate::given::Object;
 use crate::named::Named;
 use crate::notes::Notes;
-use crate::running::{Run, Variation};
+use crate::running::{Ending, Variation, run_command};
 use std::alloc::Global;
 use std::mem::swap;
 
@@ -23,9 +23,9 @@ pub(crate) struct Trial<'a, C: Command> {
     pub(crate) notes: &'a mut Notes,
     /// What is kept of the case: the run without a failing call, beside which others stand, or, where the case names
     /// the calls that fail, the last run with one of them.
-    pub(crate) kept: &'a mut Run,
+    pub(crate) kept: &'a mut Ending,
     /// The last run.
-    pub(crate) came: &'a mut Run,
+    pub(crate) came: &'a mut Ending,
 }
 
 impl<'a, C: Command> Trial<'a, C> {
@@ -34,9 +34,14 @@ impl<'a, C: Command> Trial<'a, C> {
         let given = &self.case.given;
         self.notes.begin(self.case.name.as_str());
         variation.put_name(given, self.notes);
-        let done = self
-            .came
-            .run(self.command, self.alloc, self.shared, given, variation);
+        let done = run_command(
+            self.command,
+            self.alloc,
+            self.shared,
+            given,
+            variation,
+            self.came,
+        );
         self.notes.take(done);
     }
 
@@ -64,14 +69,13 @@ impl<'a, C: Command> Trial<'a, C> {
     fn run_call(&mut self, variation: &Variation, blamed: &mut Blamed) -> bool {
         self.run_once(variation);
         let object = variation.object;
-        let is_spared = self.came.is_spared(object);
-        if is_spared {
+        if self.came.is_spared {
             compare_alike(self.notes, self.kept, self.came);
         } else {
             let words = &self.case.given.words;
             compare_failed(self.notes, words, blamed, object, self.kept, self.came);
         }
-        is_spared || self.notes.lacks_memory
+        self.came.is_spared || self.notes.lacks_memory
     }
 
     /// Runs with each call of the object failing in turn, until a run has no such call.
