@@ -1,6 +1,6 @@
 //! A run beside what it should come to.
 use crate::expected::{Expected, Extent};
-use crate::given::{Given, Object};
+use crate::given::Given;
 use crate::notes::{Notes, common_length};
 use crate::running::{Ending, Variation};
 
@@ -23,7 +23,7 @@ fn nearest<'a>(text: &'a str, line: &[u8]) -> &'a [u8] {
 }
 
 /// The bytes as text, or none of it where they are none.
-fn text_of(bytes: &[u8]) -> &str {
+pub(crate) fn text_of(bytes: &[u8]) -> &str {
     std::str::from_utf8(bytes).unwrap_or("")
 }
 
@@ -36,48 +36,51 @@ fn compare_parts(notes: &mut Notes, lines: &[u8], came: &[u8]) {
     }
 }
 
-/// Compares the text that came with the one expected.
-fn compare_out(notes: &mut Notes, expected: &Expected, came: &[u8]) {
-    if let Some(length) = expected.length {
-        notes.compare_numbers("out length", u64::from(length), came.len() as u64);
-    }
+/// What came, where it is a prefix of the whole text, and else the whole text.
+pub(crate) fn prefix_of<'a>(whole: &'a [u8], came: &'a [u8]) -> &'a [u8] {
+    if whole.starts_with(came) { came } else { whole }
+}
+
+/// Compares the status, the text, the message and the flash with those that a run left.
+pub(crate) fn compare_run(
+    notes: &mut Notes,
+    status: u8,
+    out: &[u8],
+    err: &[u8],
+    flash: &[u8],
+    came: &Ending,
+) {
+    notes.compare_numbers("status", u64::from(status), u64::from(came.status));
+    notes.compare_texts("out", out, &came.out);
+    notes.compare_texts("err", err, &came.err);
+    notes.compare_texts("flash", flash, &came.flash);
+}
+
+/// The text that should come, where it is said, and else what came.
+fn due_out<'a>(expected: &'a Expected, came: &'a [u8]) -> &'a [u8] {
     match expected.extent {
-        Extent::Whole => notes.compare_texts("out", &expected.out, came),
-        Extent::Prefix => notes.compare_prefix("out", &expected.out, came),
-        Extent::Parts => compare_parts(notes, &expected.out, came),
-        Extent::Any => {}
+        Extent::Whole => &expected.out,
+        Extent::Prefix => prefix_of(&expected.out, came),
+        Extent::Parts | Extent::Any => came,
+    }
+}
+
+/// The message that should come, where a call of `err` failed a prefix of it.
+fn due_err<'a>(expected: &'a Expected, variation: &Variation, came: &'a [u8]) -> &'a [u8] {
+    if variation.fails_err() {
+        prefix_of(&expected.err, came)
+    } else {
+        &expected.err
     }
 }
 
 /// What the flash should hold afterwards.
-fn flash_after<'a>(expected: &'a Expected, given: &'a Given) -> &'a [u8] {
+fn due_flash<'a>(expected: &'a Expected, given: &'a Given) -> &'a [u8] {
     if expected.has_flash {
-        return &expected.flash;
-    }
-    match given.flash.first() {
-        Some(named) => &named.bytes,
-        None => &[],
-    }
-}
-
-/// Compares the message that came with the line expected, or where a call of `err` failed with a prefix of it.
-fn compare_err(notes: &mut Notes, expected: &Expected, variation: &Variation, came: &[u8]) {
-    if variation.call_of(Object::Err) > 0 {
-        notes.compare_prefix("err", &expected.err, came);
+        &expected.flash
     } else {
-        notes.compare_texts("err", &expected.err, came);
+        &given.flash.bytes
     }
-}
-
-/// Compares the status, the text and the message that came with those expected.
-fn compare_answer(notes: &mut Notes, expected: &Expected, variation: &Variation, ending: &Ending) {
-    notes.compare_numbers(
-        "status",
-        u64::from(expected.status),
-        u64::from(ending.status),
-    );
-    compare_out(notes, expected, &ending.out);
-    compare_err(notes, expected, variation, &ending.err);
 }
 
 /// Compares all that a run left with what it should come to.
@@ -86,10 +89,21 @@ pub(crate) fn compare(
     given: &Given,
     expected: &Expected,
     variation: &Variation,
-    ending: &Ending,
+    came: &Ending,
 ) {
-    if !matches!(expected.extent, Extent::Any) {
-        compare_answer(notes, expected, variation, ending);
+    let flash = due_flash(expected, given);
+    let text: &[u8] = &came.out;
+    let message: &[u8] = &came.err;
+    if let Extent::Any = expected.extent {
+        return compare_run(notes, came.status, text, message, flash, came);
     }
-    notes.compare_texts("flash", flash_after(expected, given), &ending.flash);
+    let out = due_out(expected, text);
+    let err = due_err(expected, variation, message);
+    compare_run(notes, expected.status, out, err, flash, came);
+    if let Some(length) = expected.length {
+        notes.compare_numbers("out length", u64::from(length), text.len() as u64);
+    }
+    if let Extent::Parts = expected.extent {
+        compare_parts(notes, &expected.out, text);
+    }
 }

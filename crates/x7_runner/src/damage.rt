@@ -1,11 +1,12 @@
 //! An input that is damaged in each of many ways, one after the other.
 use crate::fault::Fault;
-use crate::named::{Named, bytes_of};
+use crate::named::{Named, bytes_of, put_under};
 use crate::token::{first_word, range_of};
 use std::alloc::Global;
+use x7_in_memory::MemoryInputs;
 
 /// How an input is damaged.
-#[derive(Clone, Copy, Drop)]
+#[derive(Drop)]
 pub(crate) enum Damage {
     /// The input ends after this number of bytes.
     Cut,
@@ -13,12 +14,13 @@ pub(crate) enum Damage {
     Bit,
 }
 
-/// An input, and the numbers of its damages: a run for each.
+/// An input that is damaged, if there is one, and the numbers of its damages: a run for each.
 #[derive(Drop)]
 pub(crate) struct Damaged {
-    /// The input's name, and its bytes before the damage.
-    pub(crate) named: Named,
-    /// What is done to them.
+    alloc: Global,
+    /// At most one: the input before the damage.
+    inputs: Vec<Named>,
+    /// What is done to it.
     damage: Damage,
     /// The first number.
     pub(crate) from: u32,
@@ -35,33 +37,57 @@ fn change_bit(bytes: &mut [u8], number: u32) {
 }
 
 impl Damaged {
-    /// Reads `NAME OTHER FROM TO`: the bytes of OTHER, to be damaged at each number from FROM up to TO - 1, given under
-    /// NAME.
-    pub(crate) fn new(
-        alloc: Global,
+    /// No input, and one number, of which it has no damage.
+    pub(crate) fn new(alloc: Global) -> Damaged {
+        Damaged {
+            alloc,
+            inputs: Vec::new(alloc),
+            damage: Damage::Cut,
+            from: 0,
+            to: 1,
+        }
+    }
+
+    /// Whether there is such an input.
+    pub(crate) fn has_input(&self) -> bool {
+        !self.inputs.is_empty()
+    }
+
+    /// Takes `NAME OTHER FROM TO`: the bytes of OTHER, to be damaged at each number from FROM up to TO - 1, given under
+    /// NAME. There is at most one such line.
+    pub(crate) fn put(
+        &mut self,
         damage: Damage,
         others: &[Named],
         line: &str,
-    ) -> Result<Damaged, Fault> {
+    ) -> Result<(), Fault> {
         let (name, rest) = first_word(line);
         let (other, places) = first_word(rest);
-        let (from, to) = range_of(places)?;
-        let bytes = bytes_of(others, other)?;
-        Ok(Damaged {
-            named: Named::new(alloc, name, bytes)?,
-            damage,
-            from,
-            to,
-        })
+        let (false, Some((from, to)), Some(bytes)) = (
+            self.has_input(),
+            range_of(places),
+            bytes_of(others, other),
+        ) else {
+            return Err(Fault::Line);
+        };
+        self.damage = damage;
+        self.from = from;
+        self.to = to;
+        put_under(self.alloc, &mut self.inputs, name, bytes)
     }
 
-    /// The bytes with the damage of this number.
-    pub(crate) fn bytes_of(&self, alloc: Global, number: u32) -> Result<Vec<u8>, Fault> {
-        let mut bytes = Vec::from_slice(alloc, &self.named.bytes)?;
+    /// Puts the input with the damage of this number, where there is one.
+    pub(crate) fn give(&self, inputs: &mut MemoryInputs, number: u32) -> Result<(), Fault> {
+        let Some(named) = self.inputs.first() else {
+            return Ok(());
+        };
+        let mut bytes = Vec::from_slice(self.alloc, &named.bytes)?;
         match self.damage {
             Damage::Cut => bytes.truncate(number as usize),
             Damage::Bit => change_bit(&mut bytes, number),
         }
-        Ok(bytes)
+        inputs
+            .put(named.name.as_str(), &bytes)
+            .or(Err(Fault::NoMemory))
     }
 }

@@ -1,10 +1,11 @@
 //! What a run should come to.
 use crate::fault::Fault;
-use crate::token::{put_line, put_lines, put_tokens};
+use crate::named::{Named, put};
+use crate::token::put_line;
 use std::alloc::Global;
 
 /// How much of the text is given.
-#[derive(Clone, Copy, Drop)]
+#[derive(Drop)]
 pub(crate) enum Extent {
     /// The text is the one given.
     Whole,
@@ -51,48 +52,37 @@ impl Expected {
         }
     }
 
-    /// Takes how much of the text is given.
-    fn put_extent(&mut self, extent: Extent) -> Result<(), Fault> {
-        self.extent = extent;
-        Ok(())
-    }
-
-    /// Appends a line that the text has.
-    fn put_has(&mut self, line: &str) -> Result<(), Fault> {
-        self.extent = Extent::Parts;
-        put_line(&mut self.out, line)
-    }
-
-    /// Takes the number of bytes of the text.
-    fn put_length(&mut self, number: &str) -> Result<(), Fault> {
-        self.extent = Extent::Parts;
-        self.length = Some(number.parse::<u32>()?);
-        Ok(())
-    }
-
-    /// Appends to what the flash is afterwards.
-    fn put_flash(&mut self, tokens: &str) -> Result<(), Fault> {
-        self.has_flash = true;
-        put_tokens(self.alloc, &mut self.flash, tokens)
-    }
-
     /// Takes a line that says what a run comes to.
-    pub(crate) fn take(&mut self, key: &str, rest: &str) -> Result<(), Fault> {
+    pub(crate) fn take(&mut self, shared: &[Named], key: &str, rest: &str) -> Result<(), Fault> {
         match key {
-            "status" => {
-                self.status = rest.parse::<u8>()?;
-                Ok(())
+            "out" | "out_lines" | "out_bytes" | "out_slice" => {
+                put(self.alloc, &mut self.out, shared, key, rest)
             }
-            "out" => put_line(&mut self.out, rest),
-            "out_lines" => put_lines(self.alloc, &mut self.out, rest),
-            "out_bytes" => put_tokens(self.alloc, &mut self.out, rest),
-            "has" => self.put_has(rest),
-            "length" => self.put_length(rest),
-            "prefix" => self.put_extent(Extent::Prefix),
-            "any" => self.put_extent(Extent::Any),
             "err" => put_line(&mut self.err, rest),
-            "flash_after" => self.put_flash(rest),
-            _ => Err(Fault::Key),
+            "flash_after" | "flash_after_slice" => {
+                self.has_flash = true;
+                put(self.alloc, &mut self.flash, shared, key, rest)
+            }
+            _ => self.take_extent(key, rest),
         }
+    }
+
+    /// Takes a line that says the status, or how much of the text is given.
+    fn take_extent(&mut self, key: &str, rest: &str) -> Result<(), Fault> {
+        match key {
+            "status" => self.status = rest.parse::<u8>()?,
+            "has" => {
+                self.extent = Extent::Parts;
+                return put_line(&mut self.out, rest);
+            }
+            "length" => {
+                self.extent = Extent::Parts;
+                self.length = Some(rest.parse::<u32>()?);
+            }
+            "prefix" => self.extent = Extent::Prefix,
+            "any" => self.extent = Extent::Any,
+            _ => return Err(Fault::Key),
+        }
+        Ok(())
     }
 }

@@ -1,5 +1,4 @@
 //! Why a line was not taken, or a case not run.
-use hex::FromHexError;
 use std::alloc::{AllocError, AllocFailed};
 use std::num::ParseIntError;
 use x7_words::NoMemory;
@@ -36,14 +35,5 @@ impl From<NoMemory> for Fault {
 impl From<ParseIntError> for Fault {
     fn from(_error: ParseIntError) -> Fault {
         Fault::Line
-    }
-}
-
-impl From<FromHexError> for Fault {
-    fn from(error: FromHexError) -> Fault {
-        match error {
-            FromHexError::OutOfMemory => Fault::NoMemory,
-            _ => Fault::Line,
-        }
     }
 }

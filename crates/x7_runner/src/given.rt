@@ -1,13 +1,13 @@
 //! What a run is given: words, inputs, a flash, and what fails.
 use crate::damage::{Damage, Damaged};
 use crate::fault::Fault;
-use crate::named::{Named, put_bytes, put_slice, put_text, put_texts};
-use crate::token::{positive, put_numbers};
+use crate::named::{Named, put, put_named};
+use crate::token::{first_word, positive, put_numbers};
 use crate::writing::Writing;
 use std::alloc::Global;
 
 /// An object that a run works on, and whose calls can fail.
-#[derive(Clone, Copy, Drop, PartialEq, Eq)]
+#[derive(Clone, Copy, Drop)]
 pub(crate) enum Object {
     /// The inputs.
     In,
@@ -51,7 +51,7 @@ pub(crate) struct Failing {
     /// Whose call fails.
     pub(crate) object: Object,
     /// Its number, from 1, among the calls of the object.
-    pub(crate) call: u64,
+    pub(crate) call: u32,
 }
 
 /// What a case gives to a run.
@@ -62,10 +62,10 @@ pub(crate) struct Given {
     pub(crate) words: Vec<String>,
     /// The case's own inputs, beside those of its file.
     pub(crate) inputs: Vec<Named>,
-    /// At most one: an input that has another damage in each run.
-    pub(crate) damaged: Vec<Damaged>,
-    /// The flash of the run; at most one.
-    pub(crate) flash: Vec<Named>,
+    /// An input that has another damage in each run.
+    pub(crate) damaged: Damaged,
+    /// The flash of the run: without bytes and a name where the case has none.
+    pub(crate) flash: Named,
     /// How much the flash records of its writes, and which of them is torn.
     pub(crate) writing: Writing,
     /// The most bytes of one read: a run for each, or one run without a limit.
@@ -82,6 +82,39 @@ pub(crate) struct Given {
     pub(crate) room: u32,
 }
 
+/// Takes a number from 1.
+fn put_positive(number: &mut u32, token: &str) -> Result<(), Fault> {
+    *number = positive(token)?;
+    Ok(())
+}
+
+/// Appends an object whose calls fail in turn.
+fn put_each(list: &mut Vec<Object>, name: &str) -> Result<(), Fault> {
+    list.push(object_of(name)?)?;
+    Ok(())
+}
+
+/// Appends words.
+fn put_words(alloc: Global, list: &mut Vec<String>, words: &str) -> Result<(), Fault> {
+    for word in words.split(' ') {
+        list.push(String::from_str(alloc, word)?)?;
+    }
+    Ok(())
+}
+
+/// Appends the calls that fail, of the object that the key names.
+fn put_failing(list: &mut Vec<Failing>, key: &str, numbers: &str) -> Result<(), Fault> {
+    let Some(name) = key.strip_suffix("_fails") else {
+        return Err(Fault::Key);
+    };
+    let object = object_of(name)?;
+    for number in numbers.split(' ') {
+        let call = positive(number)?;
+        list.push(Failing { object, call })?;
+    }
+    Ok(())
+}
+
 impl Given {
     /// No words and no inputs, and nothing fails.
     pub(crate) fn new(alloc: Global) -> Given {
@@ -89,8 +122,11 @@ impl Given {
             alloc,
             words: Vec::new(alloc),
             inputs: Vec::new(alloc),
-            damaged: Vec::new(alloc),
-            flash: Vec::new(alloc),
+            damaged: Damaged::new(alloc),
+            flash: Named {
+                name: String::new(alloc),
+                bytes: Vec::new(alloc),
+            },
             writing: Writing::new(),
             pieces: Vec::new(alloc),
             alike: Vec::new(alloc),
@@ -101,97 +137,44 @@ impl Given {
         }
     }
 
-    /// Appends words.
-    pub(crate) fn put_words(&mut self, words: &str) -> Result<(), Fault> {
-        for word in words.split(' ') {
-            self.words.push(String::from_str(self.alloc, word)?)?;
+    /// Appends to the flash, which has one name.
+    fn put_flash(&mut self, shared: &[Named], key: &str, line: &str) -> Result<(), Fault> {
+        let (name, rest) = first_word(line);
+        let flash = &mut self.flash;
+        if flash.name.is_empty() {
+            flash.name.push_str(name)?;
         }
-        Ok(())
-    }
-
-    /// Takes an input that is damaged in many ways; there is at most one.
-    pub(crate) fn put_damaged(
-        &mut self,
-        damage: Damage,
-        shared: &[Named],
-        line: &str,
-    ) -> Result<(), Fault> {
-        if !self.damaged.is_empty() {
+        if flash.name.as_str() != name {
             return Err(Fault::Line);
         }
-        self.damaged
-            .push(Damaged::new(self.alloc, damage, shared, line)?)?;
-        Ok(())
-    }
-
-    /// Appends calls of the object that fail.
-    fn put_failing(&mut self, object: Object, numbers: &str) -> Result<(), Fault> {
-        for number in numbers.split(' ') {
-            let call = u64::from(positive(number)?);
-            self.failing.push(Failing { object, call })?;
-        }
-        Ok(())
-    }
-
-    /// Refuses a second name of the flash.
-    fn refuse_second_flash(&self) -> Result<(), Fault> {
-        if self.flash.len() > 1 {
-            return Err(Fault::Line);
-        }
-        Ok(())
-    }
-
-    /// Appends to the flash.
-    fn put_flash(&mut self, line: &str) -> Result<(), Fault> {
-        put_bytes(self.alloc, &mut self.flash, line)?;
-        self.refuse_second_flash()
-    }
-
-    /// Appends bytes of a shared input to the flash.
-    pub(crate) fn put_flash_slice(&mut self, shared: &[Named], line: &str) -> Result<(), Fault> {
-        put_slice(self.alloc, &mut self.flash, shared, line)?;
-        self.refuse_second_flash()
-    }
-
-    /// Appends an object whose calls fail in turn.
-    fn put_each(&mut self, name: &str) -> Result<(), Fault> {
-        self.each.push(object_of(name)?)?;
-        Ok(())
-    }
-
-    /// Takes a line that says what fails.
-    fn take_failing(&mut self, key: &str, rest: &str) -> Result<(), Fault> {
-        match key {
-            "in_fails" => self.put_failing(Object::In, rest),
-            "flash_fails" => self.put_failing(Object::Flash, rest),
-            "out_fails" => self.put_failing(Object::Out, rest),
-            "err_fails" => self.put_failing(Object::Err, rest),
-            "fails_each" => self.put_each(rest),
-            _ => Err(Fault::Key),
-        }
+        put(self.alloc, &mut flash.bytes, shared, key, rest)
     }
 
     /// Takes a line that says what a run is given.
-    pub(crate) fn take(&mut self, key: &str, rest: &str) -> Result<(), Fault> {
+    pub(crate) fn take(&mut self, shared: &[Named], key: &str, rest: &str) -> Result<(), Fault> {
         match key {
-            "words" => self.put_words(rest),
-            "bytes" => put_bytes(self.alloc, &mut self.inputs, rest),
-            "text" => put_text(self.alloc, &mut self.inputs, rest),
-            "text_lines" => put_texts(self.alloc, &mut self.inputs, rest),
-            "flash" => self.put_flash(rest),
+            "words" => put_words(self.alloc, &mut self.words, rest),
+            "bytes" | "text" | "text_lines" | "slice" => {
+                put_named(self.alloc, &mut self.inputs, shared, key, rest)
+            }
+            "flash" | "flash_slice" => self.put_flash(shared, key, rest),
+            "cut_each" => self.damaged.put(Damage::Cut, shared, rest),
+            "change_each" => self.damaged.put(Damage::Bit, shared, rest),
+            _ => self.take_limit(key, rest),
+        }
+    }
+
+    /// Takes a line that says what calls take and give, and which of them fail.
+    fn take_limit(&mut self, key: &str, rest: &str) -> Result<(), Fault> {
+        match key {
             "flash_room" => self.writing.put_room(rest),
             "flash_tears" => self.writing.put_tear(rest),
             "piece" => put_numbers(&mut self.pieces, rest),
             "alike" => put_numbers(&mut self.alike, rest),
-            "write_piece" => {
-                self.write_piece = positive(rest)?;
-                Ok(())
-            }
-            "room" => {
-                self.room = positive(rest)?;
-                Ok(())
-            }
-            _ => self.take_failing(key, rest),
+            "write_piece" => put_positive(&mut self.write_piece, rest),
+            "room" => put_positive(&mut self.room, rest),
+            "fails_each" => put_each(&mut self.each, rest),
+            _ => put_failing(&mut self.failing, key, rest),
         }
     }
 }

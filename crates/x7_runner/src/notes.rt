@@ -82,7 +82,7 @@ impl Notes {
     }
 
     /// Adds a number to the name of the run, and texts before and after it.
-    pub(crate) fn add_number(&mut self, before: &str, number: u64, after: &str) {
+    pub(crate) fn add_number(&mut self, before: &str, number: u32, after: &str) {
         let done = write!(self.run, "{before}{number}{after}");
         self.lacks_memory |= done.is_err();
     }
@@ -159,13 +159,6 @@ impl Notes {
         if expected != came {
             let done = self.put_place(what, expected, came);
             self.take(done);
-        }
-    }
-
-    /// Notes that a text is no prefix of the whole one, if it isn't.
-    pub(crate) fn compare_prefix(&mut self, what: &str, whole: &[u8], came: &[u8]) {
-        if !whole.starts_with(came) {
-            self.compare_texts(what, whole, came);
         }
     }
 }

@@ -1,13 +1,13 @@
 //! One run of the command over objects in memory.
 use crate::command::Command;
-use crate::damage::Damaged;
 use crate::fault::Fault;
 use crate::given::{Given, Object};
 use crate::named::Named;
 use crate::notes::Notes;
+use crate::token::append;
 use std::alloc::Global;
 use x7_in_memory::{MemoryFlash, MemoryInputs, MemorySink};
-use x7_words::{Flash, Inputs, SelectFault, Sink};
+use x7_words::{Flash, Inputs, NoMemory, SelectFault, Sink};
 
 /// The most bytes that `err` takes.
 const ERR_ROOM: usize = 1_000;
@@ -16,20 +16,20 @@ const ERR_ROOM: usize = 1_000;
 #[derive(Clone, Copy, Drop)]
 pub(crate) struct Variation {
     /// The number of the damage that an input has, where the case damages one.
-    damage: Option<u32>,
+    pub(crate) damage: u32,
     /// The most bytes of one read.
-    piece: u32,
+    pub(crate) piece: u32,
     /// The object whose call fails.
     pub(crate) object: Object,
     /// The number of that call, 0 for none.
-    call: u64,
+    pub(crate) call: u32,
     /// Whether the first call of `err` fails too.
-    is_mute: bool,
+    pub(crate) is_mute: bool,
 }
 
 impl Variation {
     /// A variation with this damage, reads of at most `piece` bytes, and no call that fails.
-    pub(crate) fn new(damage: Option<u32>, piece: u32) -> Variation {
+    pub(crate) fn new(damage: u32, piece: u32) -> Variation {
         Variation {
             damage,
             piece,
@@ -39,35 +39,13 @@ impl Variation {
         }
     }
 
-    /// This variation, but with this call of the object failing.
-    pub(crate) fn failing(self, object: Object, call: u64) -> Variation {
-        Variation {
-            object,
-            call,
-            ..self
-        }
-    }
-
-    /// This variation, but with reads of at most `piece` bytes.
-    pub(crate) fn in_pieces(self, piece: u32) -> Variation {
-        Variation { piece, ..self }
-    }
-
-    /// This variation, but with the first call of `err` failing too.
-    pub(crate) fn mute(self) -> Variation {
-        Variation {
-            is_mute: true,
-            ..self
-        }
-    }
-
     /// Adds what differs to the name of the run, as it is printed after a case's name.
-    pub(crate) fn put_name(&self, notes: &mut Notes) {
-        if let Some(number) = self.damage {
-            notes.add_number(", damage ", u64::from(number), "");
+    pub(crate) fn put_name(&self, given: &Given, notes: &mut Notes) {
+        if given.damaged.has_input() {
+            notes.add_number(", damage ", self.damage, "");
         }
         if self.piece != u32::MAX {
-            notes.add_number(", piece ", u64::from(self.piece), "");
+            notes.add_number(", piece ", self.piece, "");
         }
         if self.call > 0 {
             notes.add(self.object.call_name());
@@ -78,13 +56,9 @@ impl Variation {
         }
     }
 
-    /// The number of the object's call that fails, 0 for none.
-    pub(crate) fn call_of(&self, object: Object) -> u64 {
-        if self.object == object && self.call > 0 {
-            self.call
-        } else {
-            u64::from(self.is_mute && object == Object::Err)
-        }
+    /// Whether a call of `err` fails.
+    pub(crate) fn fails_err(&self) -> bool {
+        self.is_mute || self.call > 0 && matches!(self.object, Object::Err)
     }
 }
 
@@ -133,91 +107,61 @@ fn put_all(inputs: &mut MemoryInputs, list: &[Named]) -> Result<(), Fault> {
     Ok(())
 }
 
-/// Puts the damaged input, where the case has one.
-fn put_damaged(
-    inputs: &mut MemoryInputs,
-    alloc: Global,
-    damaged: &[Damaged],
-    variation: &Variation,
-) -> Result<(), Fault> {
-    if let (Some(damaged), Some(number)) = (damaged.first(), variation.damage) {
-        let bytes = damaged.bytes_of(alloc, number)?;
-        inputs.put(damaged.named.name.as_str(), &bytes)?;
-    }
-    Ok(())
-}
-
-/// Puts the inputs of the file of cases, and the case's own, which come before them.
-fn put_inputs(
-    inputs: &mut MemoryInputs,
-    alloc: Global,
-    shared: &[Named],
-    given: &Given,
-    variation: &Variation,
-) -> Result<(), Fault> {
-    put_all(inputs, shared)?;
-    put_all(inputs, &given.inputs)?;
-    put_damaged(inputs, alloc, &given.damaged, variation)?;
-    if variation.piece > 0 {
-        inputs.piece(variation.piece as usize);
-    }
-    inputs.fail_at(variation.call_of(Object::In))?;
-    Ok(())
-}
-
-/// The case's flash, or an empty one.
-fn flash_of(alloc: Global, given: &[Named]) -> Result<MemoryFlash, Fault> {
-    match given.first() {
-        Some(named) => Ok(MemoryFlash::new(alloc, named.name.as_str(), &named.bytes)?),
-        None => Ok(MemoryFlash::new(alloc, "", &[])?),
-    }
-}
-
-/// Says to a sink how many bytes a write takes at most, and which of its calls fails; 0 is no limit, and no call.
-fn limit(sink: &mut MemorySink, piece: u32, fails: u64) -> Result<(), Fault> {
-    if piece > 0 {
-        sink.piece(piece as usize);
-    }
-    sink.fail_at(fails)?;
-    Ok(())
-}
-
 /// Puts the bytes in place of those that were there.
 fn replace(old: &mut Vec<u8>, bytes: &[u8]) -> Result<(), Fault> {
     old.clear();
-    old.extend_from_slice(bytes)?;
-    Ok(())
+    append(old, bytes)
 }
 
 impl Objects {
     /// Objects without inputs, and no call that fails.
     fn new(alloc: Global, given: &Given) -> Result<Objects, Fault> {
+        let flash = &given.flash;
         let out = MemorySink::new(alloc, given.room as usize)?;
         let err = MemorySink::new(alloc, ERR_ROOM)?;
-        let flash = flash_of(alloc, &given.flash)?;
-        let inputs = MemoryInputs::new(alloc);
+        let flash = MemoryFlash::new(alloc, flash.name.as_str(), &flash.bytes)?;
         Ok(Objects {
-            inputs,
+            inputs: MemoryInputs::new(alloc),
             flash,
             out,
             err,
         })
     }
 
-    /// Puts the inputs, and says what each call takes and which of them fails.
+    /// The call of this number is to fail; 0 is no call.
+    fn fail(&mut self, object: Object, call: u32) -> Result<(), NoMemory> {
+        let call = u64::from(call);
+        match object {
+            Object::In => self.inputs.fail_at(call),
+            Object::Flash => self.flash.fail_at(call),
+            Object::Out => self.out.fail_at(call),
+            Object::Err => self.err.fail_at(call),
+        }
+    }
+
+    /// Says how many bytes each call takes or gives at most, and which of them fails.
+    fn limit(&mut self, given: &Given, variation: &Variation) -> Result<(), NoMemory> {
+        self.inputs.piece((variation.piece as usize).max(1));
+        let piece = (given.write_piece as usize).max(1);
+        self.out.piece(piece);
+        self.err.piece(piece);
+        self.fail(variation.object, variation.call)?;
+        self.fail(Object::Err, u32::from(variation.is_mute))
+    }
+
+    /// Puts the inputs of the file of cases, and the case's own, which come before them, and prepares the calls.
     fn prepare(
         &mut self,
-        alloc: Global,
         shared: &[Named],
         given: &Given,
         variation: &Variation,
     ) -> Result<(), Fault> {
-        put_inputs(&mut self.inputs, alloc, shared, given, variation)?;
-        self.flash.fail_at(variation.call_of(Object::Flash))?;
+        put_all(&mut self.inputs, shared)?;
+        put_all(&mut self.inputs, &given.inputs)?;
+        given.damaged.give(&mut self.inputs, variation.damage)?;
         given.writing.prepare(&mut self.flash)?;
-        let piece = given.write_piece;
-        limit(&mut self.out, piece, variation.call_of(Object::Out))?;
-        limit(&mut self.err, piece, variation.call_of(Object::Err))
+        self.limit(given, variation)?;
+        Ok(())
     }
 
     /// Whether the call that was to fail came after all calls of the run: one more call of its object fails.
@@ -232,11 +176,10 @@ impl Objects {
 
     /// What the objects hold after a run.
     fn leave(&mut self, variation: &Variation, ending: &mut Ending) -> Result<(), Fault> {
+        ending.is_spared = self.is_spared(variation.object);
         replace(&mut ending.out, self.out.bytes())?;
         replace(&mut ending.err, self.err.bytes())?;
-        replace(&mut ending.flash, self.flash.bytes())?;
-        ending.is_spared = variation.call > 0 && self.is_spared(variation.object);
-        Ok(())
+        replace(&mut ending.flash, self.flash.bytes())
     }
 
     /// Runs the command once over the objects.
@@ -249,7 +192,7 @@ impl Objects {
         variation: &Variation,
         ending: &mut Ending,
     ) -> Result<(), Fault> {
-        self.prepare(alloc, shared, given, variation)?;
+        self.prepare(shared, given, variation)?;
         ending.status = command.run(
             alloc,
             &given.words,

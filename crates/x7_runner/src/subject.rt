@@ -2,13 +2,12 @@
 use crate::case::Case;
 use crate::command::Command;
 use crate::fault::Fault;
-use crate::named::{Named, has_name, put_bytes, put_under};
+use crate::named::{Named, has_name, put_named, put_under};
 use crate::notes::Notes;
 use crate::running::Ending;
 use crate::token::first_word;
 use crate::trial::Trial;
 use std::alloc::Global;
-use std::mem::swap;
 
 /// A file of cases, by the lines taken so far.
 #[derive(Drop)]
@@ -24,42 +23,28 @@ struct Subject {
     notes: Notes,
     /// How many cases came as they are written.
     good: u32,
+    /// What the case that ran last keeps of its runs.
+    kept: Ending,
+    /// The last run.
+    came: Ending,
 }
 
-/// Makes the text of a case's run, or what its flash holds, an input of later cases, under a name that none has yet.
-fn keep(alloc: Global, shared: &mut Vec<Named>, case: &Case, ending: &Ending) -> Result<(), Fault> {
+/// Makes the text of a case's run, or what its flash holds, an input of later cases, under a name that none has yet,
+/// where the case says so.
+fn keep(alloc: Global, shared: &mut Vec<Named>, case: &Case, kept: &Ending) -> Result<(), Fault> {
     let name = case.kept.as_str();
+    if name.is_empty() {
+        return Ok(());
+    }
     if has_name(shared, name) {
         return Err(Fault::Line);
     }
     let bytes = if case.keeps_flash {
-        &ending.flash
+        &kept.flash
     } else {
-        &ending.out
+        &kept.out
     };
     put_under(alloc, shared, name, bytes)
-}
-
-/// All runs of a case. The ending takes what later cases may have of it.
-fn run_case<C: Command>(
-    command: &C,
-    alloc: Global,
-    shared: &[Named],
-    case: &Case,
-    notes: &mut Notes,
-    ending: &mut Ending,
-) {
-    let mut trial = Trial {
-        command,
-        alloc,
-        shared,
-        case,
-        notes,
-        kept: Ending::new(alloc),
-        came: Ending::new(alloc),
-    };
-    trial.run();
-    swap(ending, &mut trial.kept);
 }
 
 impl Subject {
@@ -72,49 +57,41 @@ impl Subject {
             case: Case::new(alloc),
             notes: Notes::new(alloc),
             good: 0,
+            kept: Ending::new(alloc),
+            came: Ending::new(alloc),
         }
     }
 
-    /// Runs the case, and counts it where it came as it is written. The ending takes what later cases may have of it.
-    fn run<C: Command>(&mut self, command: &C, ending: &mut Ending) {
+    /// Runs the case.
+    fn run<C: Command>(&mut self, command: &C) {
         let length = self.notes.text.len();
-        run_case(
+        let mut trial = Trial {
             command,
-            self.alloc,
-            &self.shared,
-            &self.case,
-            &mut self.notes,
-            ending,
-        );
+            alloc: self.alloc,
+            shared: &self.shared,
+            case: &self.case,
+            notes: &mut self.notes,
+            kept: &mut self.kept,
+            came: &mut self.came,
+        };
+        trial.run();
         if self.notes.text.len() == length {
             self.good = self.good.saturating_add(1);
         }
-    }
-
-    /// Runs the case, and keeps what it left where it says so.
-    fn close<C: Command>(&mut self, command: &C) -> Result<(), Fault> {
-        self.is_open = false;
-        let mut ending = Ending::new(self.alloc);
-        self.run(command, &mut ending);
-        if self.case.kept.is_empty() {
-            return Ok(());
-        }
-        keep(self.alloc, &mut self.shared, &self.case, &ending)
     }
 
     /// Opens a case of this name.
     fn open(&mut self, name: &str) -> Result<(), Fault> {
         self.is_open = true;
         self.case = Case::new(self.alloc);
-        self.case.name.push_str(name)?;
-        Ok(())
+        self.case.name.push_str(name).or(Err(Fault::NoMemory))
     }
 
     /// Takes a line outside a case.
     fn take_outside(&mut self, key: &str, rest: &str) -> Result<(), Fault> {
         match key {
             "case" => self.open(rest),
-            "stream" => put_bytes(self.alloc, &mut self.shared, rest),
+            "stream" => put_named(self.alloc, &mut self.shared, &[], key, rest),
             _ => Err(Fault::Line),
         }
     }
@@ -129,7 +106,9 @@ impl Subject {
             return self.take_outside(key, rest);
         }
         if line == "end" {
-            return self.close(command);
+            self.is_open = false;
+            self.run(command);
+            return keep(self.alloc, &mut self.shared, &self.case, &self.kept);
         }
         self.case.take(&self.shared, key, rest)
     }
@@ -178,8 +157,9 @@ impl Subject {
         if self.notes.lacks_memory {
             return Err(Fault::NoMemory);
         }
-        report.push_str(self.notes.text.as_str())?;
-        Ok(())
+        report
+            .push_str(self.notes.text.as_str())
+            .or(Err(Fault::NoMemory))
     }
 }
 

@@ -1,20 +1,18 @@
 //! The parts of a line: words, numbers and hex digits.
 use crate::fault::Fault;
+use hex::FromHexError;
 use std::alloc::Global;
 
 /// The text before the first space, and the text after it.
 pub(crate) fn first_word(line: &str) -> (&str, &str) {
-    match line.split_once(' ') {
-        Some((word, rest)) => (word, rest),
-        None => (line, ""),
-    }
+    line.split_once(' ').unwrap_or((line, ""))
 }
 
 /// A number from 1.
 pub(crate) fn positive(token: &str) -> Result<u32, Fault> {
-    match token.parse::<u32>()? {
-        0 => Err(Fault::Line),
-        number => Ok(number),
+    match token.parse::<u32>() {
+        Ok(0) | Err(_) => Err(Fault::Line),
+        Ok(number) => Ok(number),
     }
 }
 
@@ -27,17 +25,30 @@ pub(crate) fn put_numbers(list: &mut Vec<u32>, numbers: &str) -> Result<(), Faul
 }
 
 /// The numbers of `FROM TO`.
-pub(crate) fn range_of(places: &str) -> Result<(u32, u32), Fault> {
+pub(crate) fn range_of(places: &str) -> Option<(u32, u32)> {
     let (from, to) = first_word(places);
-    Ok((from.parse::<u32>()?, to.parse::<u32>()?))
+    match (from.parse::<u32>(), to.parse::<u32>()) {
+        (Ok(from), Ok(to)) => Some((from, to)),
+        _ => None,
+    }
 }
 
-/// Appends the text N times for `TEXT*N`.
-fn put_repeated(text: &mut Vec<u8>, repeated: &str) -> Result<(), Fault> {
-    let Some((piece, times)) = repeated.split_once('*') else {
-        return Err(Fault::Line);
-    };
-    put_times(text, piece.as_bytes(), positive(times)?)
+/// Appends bytes.
+pub(crate) fn append(bytes: &mut Vec<u8>, more: &[u8]) -> Result<(), Fault> {
+    bytes.extend_from_slice(more).or(Err(Fault::NoMemory))
+}
+
+/// Appends the bytes as often as the number says.
+fn put_times(bytes: &mut Vec<u8>, piece: &[u8], times: &str) -> Result<(), Fault> {
+    let times = positive(times)?;
+    if let [byte] = piece {
+        let length = bytes.len().saturating_add(times as usize);
+        return bytes.resize(length, *byte).or(Err(Fault::NoMemory));
+    }
+    for _ in 0..times {
+        append(bytes, piece)?;
+    }
+    Ok(())
 }
 
 /// Appends the text N times and then the rest for `TEXT*N>REST`.
@@ -45,65 +56,45 @@ fn put_group(text: &mut Vec<u8>, group: &str) -> Result<(), Fault> {
     let Some((repeated, rest)) = group.split_once('>') else {
         return Err(Fault::Line);
     };
-    put_repeated(text, repeated)?;
-    text.extend_from_slice(rest.as_bytes())?;
-    Ok(())
+    let Some((piece, times)) = repeated.split_once('*') else {
+        return Err(Fault::Line);
+    };
+    put_times(text, piece.as_bytes(), times)?;
+    append(text, rest.as_bytes())
 }
 
 /// Appends a line, in which `<TEXT*N>` is the text N times, and its end.
 pub(crate) fn put_line(text: &mut Vec<u8>, line: &str) -> Result<(), Fault> {
     for (place, group) in line.split('<').enumerate() {
-        if place == 0 {
-            text.extend_from_slice(group.as_bytes())?;
+        let put = if place == 0 {
+            append(text, group.as_bytes())
         } else {
-            put_group(text, group)?;
-        }
+            put_group(text, group)
+        };
+        put?;
     }
-    text.push(b'\n')?;
-    Ok(())
+    append(text, b"\n")
 }
 
 /// Appends the line of `N LINE`, and its end, N times.
 pub(crate) fn put_lines(alloc: Global, text: &mut Vec<u8>, lines: &str) -> Result<(), Fault> {
     let (times, line) = first_word(lines);
-    let times = positive(times)?;
     let mut copy = Vec::new(alloc);
     put_line(&mut copy, line)?;
     put_times(text, &copy, times)
 }
 
-/// Appends the bytes `times` times.
-fn put_times(bytes: &mut Vec<u8>, piece: &[u8], times: u32) -> Result<(), Fault> {
-    for _ in 0..times {
-        bytes.extend_from_slice(piece)?;
-    }
-    Ok(())
-}
-
-/// Appends a byte `times` times.
-fn put_byte(bytes: &mut Vec<u8>, byte: u8, times: u32) -> Result<(), Fault> {
-    let length = bytes.len().saturating_add(times as usize);
-    bytes.resize(length, byte)?;
-    Ok(())
-}
-
-/// Appends a piece `times` times; one without bytes is refused.
-fn put_piece(bytes: &mut Vec<u8>, piece: &[u8], times: u32) -> Result<(), Fault> {
-    match piece {
-        [] => Err(Fault::Line),
-        [byte] => put_byte(bytes, *byte, times),
-        piece => put_times(bytes, piece, times),
-    }
-}
-
 /// Appends the bytes of one token: hex digits, and after a star how many times they come.
 fn put_token(alloc: Global, bytes: &mut Vec<u8>, token: &str) -> Result<(), Fault> {
-    let (digits, times) = match token.split_once('*') {
-        Some((digits, times)) => (digits, positive(times)?),
-        None => (token, 1),
-    };
-    let piece = hex::decode(alloc, digits.as_bytes())?;
-    put_piece(bytes, &piece, times)
+    let (digits, times) = token.split_once('*').unwrap_or((token, "1"));
+    if digits.is_empty() {
+        return Err(Fault::Line);
+    }
+    match hex::decode(alloc, digits.as_bytes()) {
+        Ok(piece) => put_times(bytes, &piece, times),
+        Err(FromHexError::OutOfMemory) => Err(Fault::NoMemory),
+        Err(_) => Err(Fault::Line),
+    }
 }
 
 /// Appends the bytes of all tokens, of which there may be none.

@@ -11,7 +11,7 @@ use std::alloc::Global;
 use std::mem::swap;
 
 /// The most calls of an object that fail in turn.
-const MOST_CALLS: u64 = 1_000_000;
+const MOST_CALLS: u32 = 1_000_000;
 
 /// A case and the inputs that it shares with others of its file, the command, and what its runs left.
 #[derive(Drop)]
@@ -21,27 +21,26 @@ pub(crate) struct Trial<'a, C: Command> {
     pub(crate) shared: &'a [Named],
     pub(crate) case: &'a Case,
     pub(crate) notes: &'a mut Notes,
-    /// What is kept of the case: what the run without a failing call left, beside which others stand, or, where the
-    /// case names the calls that fail, what the last run with one of them left.
-    pub(crate) kept: Ending,
-    /// What the last run left.
-    pub(crate) came: Ending,
+    /// What is kept of the case: the run without a failing call, beside which others stand, or, where the case names
+    /// the calls that fail, the last run with one of them.
+    pub(crate) kept: &'a mut Ending,
+    /// The last run.
+    pub(crate) came: &'a mut Ending,
 }
 
 impl<'a, C: Command> Trial<'a, C> {
     /// One run, which the notes that follow are of.
     fn run_once(&mut self, variation: &Variation) {
-        let case = self.case;
-        self.notes.begin(case.name.as_str());
-        variation.put_name(self.notes);
-        let given = &case.given;
+        let given = &self.case.given;
+        self.notes.begin(self.case.name.as_str());
+        variation.put_name(given, self.notes);
         let done = run_command(
             self.command,
             self.alloc,
             self.shared,
             given,
             variation,
-            &mut self.came,
+            self.came,
         );
         self.notes.take(done);
     }
@@ -55,28 +54,36 @@ impl<'a, C: Command> Trial<'a, C> {
             &case.given,
             &case.expected,
             variation,
-            &self.came,
+            self.came,
         );
+    }
+
+    /// A run that is kept.
+    fn run_kept(&mut self, variation: &Variation) {
+        self.run_compared(variation);
+        swap(self.kept, self.came);
     }
 
     /// One run in which a call fails, beside the whole run. True where no later call is to fail: the run had no such
     /// call, or memory lacks.
     fn run_call(&mut self, variation: &Variation, blamed: &mut Blamed) -> bool {
         self.run_once(variation);
+        let object = variation.object;
         if self.came.is_spared {
-            compare_alike(self.notes, &self.kept, &self.came);
+            compare_alike(self.notes, self.kept, self.came);
         } else {
             let words = &self.case.given.words;
-            let object = variation.object;
-            compare_failed(self.notes, words, blamed, object, &self.kept, &self.came);
+            compare_failed(self.notes, words, blamed, object, self.kept, self.came);
         }
         self.came.is_spared || self.notes.lacks_memory
     }
 
     /// Runs with each call of the object failing in turn, until a run has no such call.
     fn run_calls(&mut self, variation: &Variation, blamed: &mut Blamed) {
+        let mut variation = *variation;
         for call in 1..=MOST_CALLS {
-            if self.run_call(&variation.failing(variation.object, call), blamed) {
+            variation.call = call;
+            if self.run_call(&variation, blamed) {
                 return;
             }
         }
@@ -88,68 +95,70 @@ impl<'a, C: Command> Trial<'a, C> {
     fn run_each(&mut self, variation: &Variation) {
         let mut blamed = Blamed::new(self.alloc);
         self.run_calls(variation, &mut blamed);
-        if variation.object == Object::In && self.kept.status <= 1 {
+        if matches!(variation.object, Object::In) && self.kept.status <= 1 {
             let given = &self.case.given;
             blamed.compare_all(self.notes, &given.words, self.shared);
             blamed.compare_all(self.notes, &given.words, &given.inputs);
         }
     }
 
-    /// Runs in pieces of other sizes, which should come to the same as the whole run.
-    fn run_alike(&mut self, variation: &Variation) {
-        for piece in &self.case.given.alike {
-            self.run_once(&variation.in_pieces(*piece));
-            compare_alike(self.notes, &self.kept, &self.came);
-        }
-    }
-
-    /// The run without a failing call, and those that stand beside it.
+    /// The run without a failing call, and those that stand beside it: in pieces of other sizes, which should come to
+    /// the same, and with the calls of objects failing in turn.
     fn run_whole(&mut self, variation: &Variation) {
-        self.run_compared(variation);
-        swap(&mut self.kept, &mut self.came);
-        self.run_alike(variation);
+        self.run_kept(variation);
+        let mut variation = *variation;
         for object in &self.case.given.each {
-            self.run_each(&variation.failing(*object, 0));
+            variation.object = *object;
+            self.run_each(&variation);
+        }
+        for piece in &self.case.given.alike {
+            variation.piece = *piece;
+            self.run_once(&variation);
+            compare_alike(self.notes, self.kept, self.came);
         }
     }
 
     /// A run in which a call fails, and, where the case lets `err` fail in turn, a second one in which also the first
     /// call of `err` fails.
     fn run_failing(&mut self, variation: &Variation) {
-        self.run_compared(variation);
-        swap(&mut self.kept, &mut self.came);
-        if self.case.given.each.contains(&Object::Err) {
-            self.run_compared(&variation.mute());
+        self.run_kept(variation);
+        let mut variation = *variation;
+        variation.is_mute = true;
+        for object in &self.case.given.each {
+            if let Object::Err = object {
+                self.run_compared(&variation);
+            }
         }
     }
 
     /// All runs with the reads and the damage of one variation.
-    fn run_piece(&mut self, variation: &Variation) {
+    fn run_piece(&mut self, damage: u32, piece: u32) {
+        let mut variation = Variation::new(damage, piece);
         if self.case.given.failing.is_empty() {
-            self.run_whole(variation);
+            self.run_whole(&variation);
         }
         for failing in &self.case.given.failing {
-            self.run_failing(&variation.failing(failing.object, failing.call));
+            variation.object = failing.object;
+            variation.call = failing.call;
+            self.run_failing(&variation);
         }
     }
 
-    /// All runs with one damage of an input, or with none.
-    fn run_pieces(&mut self, damage: Option<u32>) {
+    /// All runs with one damage of an input.
+    fn run_pieces(&mut self, damage: u32) {
         if self.case.given.pieces.is_empty() {
-            self.run_piece(&Variation::new(damage, u32::MAX));
+            self.run_piece(damage, u32::MAX);
         }
         for piece in &self.case.given.pieces {
-            self.run_piece(&Variation::new(damage, *piece));
+            self.run_piece(damage, *piece);
         }
     }
 
     /// All runs of the case.
     pub(crate) fn run(&mut self) {
-        let Some(damaged) = self.case.given.damaged.first() else {
-            return self.run_pieces(None);
-        };
+        let damaged = &self.case.given.damaged;
         for number in damaged.from..damaged.to {
-            self.run_pieces(Some(number));
+            self.run_pieces(number);
         }
     }
 }

@@ -4,7 +4,7 @@ use crate::token::{first_word, positive};
 use x7_in_memory::MemoryFlash;
 
 /// How much a flash records of its writes, and which of them is torn.
-#[derive(Clone, Copy, Drop)]
+#[derive(Drop)]
 pub(crate) struct Writing {
     /// How many writes the flash has room to record.
     writes: u32,
