@@ -109,7 +109,7 @@ unless_run false x y e f = f
 
 nothing_said : (k : List ℕ) (x : Option Statement) → is_keyword k (codes "RUNTEST") ≡ false
     → (if is_keyword k (codes "STATE") then None else (if is_keyword k (codes "RUNTEST") then x else (if is_keyword k (codes "ENDIR") || is_keyword k (codes "ENDDR") then None
-        else (if is_keyword k (codes "HIR") || is_keyword k (codes "HDR") || is_keyword k (codes "TIR") || is_keyword k (codes "TDR") then None else (if is_keyword k (codes "TRST") then None else None))))) ≡ None
+    else (if is_keyword k (codes "HIR") || is_keyword k (codes "HDR") || is_keyword k (codes "TIR") || is_keyword k (codes "TDR") then None else (if is_keyword k (codes "TRST") then None else None))))) ≡ None
 nothing_said k x h =
     none_if (is_keyword k (codes "STATE")) _ (unless_run (is_keyword k (codes "RUNTEST")) x _ h (none_if (is_keyword k (codes "ENDIR") || is_keyword k (codes "ENDDR")) _
     (none_if (is_keyword k (codes "HIR") || is_keyword k (codes "HDR") || is_keyword k (codes "TIR") || is_keyword k (codes "TDR")) _ (none_if (is_keyword k (codes "TRST")) None refl))))
