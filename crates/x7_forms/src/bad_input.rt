@@ -2,7 +2,7 @@
 ghost use Rattle.std.specs.Prelude.{◌≡◌, ◌++◌, codes, decimal};
 ghost use Rattle.x7_words.specs.Sink.{PutsOrFails};
 ghost use Rattle.x7_text.specs.Digits.{hex_byte};
-ghost use Rattle.x7_forms.specs.Event.{bad_input, event_line, input_fault_text, told_text};
+ghost use Rattle.x7_forms.specs.Event.{bad_input, event_line, input_fault_text, detail_text};
 
 use itoa::Buffer;
 use x7_text::{hex_of_byte, hex_of_word};
@@ -107,7 +107,7 @@ fn say_sum<'x, E: Sink>(
 
 /// What the line of a fault says after its label.
 #[derive(Clone, Copy, Drop)]
-enum Told {
+enum Detail {
     /// Nothing.
     Nothing,
     /// A number: that of a line, or of a byte of the input.
@@ -126,25 +126,25 @@ enum Told {
 }
 
 /// What the line of a fault says after the name of the input: its label, and what comes after that.
-fn told_of(fault: InputFault) -> (&'static [u8], Told)
-    ensures { codes ": " ++ input_fault_text fault ≡ result.0.now ++ told_text result.1 }
+fn label_and_detail(fault: InputFault) -> (&'static [u8], Detail)
+    ensures { codes ": " ++ input_fault_text fault ≡ result.0.now ++ detail_text result.1 }
 {
     match fault {
-        InputFault::Byte(place) => (b": byte ", Told::Number(place)),
-        InputFault::Line(line) => (b": line ", Told::Number(line)),
-        InputFault::LongLine(line) => (b": long line ", Told::Number(line)),
-        InputFault::Sum { line, want, got } => (b": sum line ", Told::Sum { line, want, got }),
-        InputFault::LargeLine(line) => (b": large line ", Told::Number(line)),
-        InputFault::Overlap(place) => (b": overlap ", Told::Word(place)),
-        InputFault::NoEnd => (b": no end", Told::Nothing),
-        InputFault::AddressLine(line) => (b": address line ", Told::Number(line)),
-        InputFault::TwiceLine(line) => (b": twice line ", Told::Number(line)),
-        InputFault::Empty => (b": empty", Told::Nothing),
-        InputFault::Foreign => (b": foreign", Told::Nothing),
-        InputFault::Range => (b": range", Told::Nothing),
-        InputFault::Image => (b": image", Told::Nothing),
-        InputFault::Long => (b": long", Told::Nothing),
-        InputFault::Layout(place) => (b": layout byte ", Told::Number(place)),
+        InputFault::Byte(place) => (b": byte ", Detail::Number(place)),
+        InputFault::Line(line) => (b": line ", Detail::Number(line)),
+        InputFault::LongLine(line) => (b": long line ", Detail::Number(line)),
+        InputFault::Sum { line, want, got } => (b": sum line ", Detail::Sum { line, want, got }),
+        InputFault::LargeLine(line) => (b": large line ", Detail::Number(line)),
+        InputFault::Overlap(place) => (b": overlap ", Detail::Word(place)),
+        InputFault::NoEnd => (b": no end", Detail::Nothing),
+        InputFault::AddressLine(line) => (b": address line ", Detail::Number(line)),
+        InputFault::TwiceLine(line) => (b": twice line ", Detail::Number(line)),
+        InputFault::Empty => (b": empty", Detail::Nothing),
+        InputFault::Foreign => (b": foreign", Detail::Nothing),
+        InputFault::Range => (b": range", Detail::Nothing),
+        InputFault::Image => (b": image", Detail::Nothing),
+        InputFault::Long => (b": long", Detail::Nothing),
+        InputFault::Layout(place) => (b": layout byte ", Detail::Number(place)),
     }
 }
 
@@ -156,11 +156,11 @@ pub(crate) fn say_bad_input<E: Sink>(
 ) -> Result<(), Failed>
     ensures { PutsOrFails (E.state err.old) (event_line (bad_input name.now fault)) (E.state err.new) }
 {
-    let (label, told) = told_of(fault);
-    match told {
-        Told::Nothing => say_fault(err, name, label, b""),
-        Told::Number(number) => say_number(err, name, label, number),
-        Told::Word(word) => say_fault(err, name, label, &hex_of_word(word)),
-        Told::Sum { line, want, got } => say_sum(err, name, label, line, want, got),
+    let (label, detail) = label_and_detail(fault);
+    match detail {
+        Detail::Nothing => say_fault(err, name, label, b""),
+        Detail::Number(number) => say_number(err, name, label, number),
+        Detail::Word(word) => say_fault(err, name, label, &hex_of_word(word)),
+        Detail::Sum { line, want, got } => say_sum(err, name, label, line, want, got),
     }
 }
