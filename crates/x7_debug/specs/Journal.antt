@@ -15,8 +15,8 @@ record_room = 64
 abbrev pub record_reach : ℕ
 record_reach = undo_reach
 
--- how many bytes before a position records lead back at least, where all of them are in use: four bytes for each but
--- the newest, which may be one byte before the position
+-- how many bytes records lead back at least after one move forward by so many bytes or more: four for each but the
+-- newest, which may be one byte before the position. After several shorter moves they may lead back less.
 abbrev pub reach : ℕ
 reach = (record_room - 1) * record_reach + 1
 

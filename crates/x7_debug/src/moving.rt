@@ -13,8 +13,8 @@ use x7_engine::{Device, ON_THE_BENCH, ReadBuf, UNDO_REACH};
 /// How many bytes a record leads back at most.
 pub(crate) const RECORD_REACH: u64 = UNDO_REACH;
 
-/// How many bytes before a position records lead back at least, where all of them are in use: four bytes for each but
-/// the newest, which may be one byte before the position.
+/// How many bytes records lead back at least after one move forward by so many bytes or more: four for each but the
+/// newest, which may be one byte before the position. After several shorter moves they may lead back less.
 pub(crate) const REACH: u64 = (RECORD_ROOM as u64 - 1) * RECORD_REACH + 1;
 
 /// How many bytes before its end a move forward makes records, one each four bytes: as many as there is room for, so

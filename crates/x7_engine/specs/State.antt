@@ -1,4 +1,5 @@
--- The state of a device as a function of all bytes since its reset (this project's choice where UG470 leaves it open).
+-- The state of a device as a function of all bytes since its reset, of what the reset kept, and of whether the flash
+-- has ended (this project's choice where UG470 leaves it open).
 -- What ends in `_by` here is a function of the first stop, if there is one, or of why it came; what ends in `_of` or
 -- `_in`, of all bytes since the reset, with the part and what the reset kept (`memory_of` and `attempt_of`, of other
 -- files, take a history); what ends in `_taken`, of the bytes up to that stop. So `state_of` is `state_by` of the

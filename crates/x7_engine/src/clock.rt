@@ -195,7 +195,7 @@ impl Clock {
         then.has_ended()
     }
 
-    /// Whether bytes leave the clock as it is: startup hasn't begun, and the watchdog doesn't run.
+    /// True only where bytes leave the clock as it is: startup hasn't begun, and the watchdog doesn't run.
     #[inline(always)]
     pub(crate) fn is_idle(&self) -> bool
         ensures not_begun { IsTrue result → self.now.startup.begun_with ≡ None }

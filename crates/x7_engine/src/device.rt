@@ -46,7 +46,8 @@ pub(crate) const WORD_BYTES: usize = 4;
 /// How many bytes the write of one word takes: those of its header and of the word.
 const WRITE_BYTES: usize = 8;
 
-/// A device of a part: its state is a function of all bytes since its reset, and of what the reset kept.
+/// A device of a part: its state is a function of all bytes since its reset, of what the reset kept, and of whether the
+/// flash has ended.
 #[derive(Drop)]
 pub struct Device {
     part: Part,
@@ -226,7 +227,8 @@ impl Device {
         self.registers.give(&self.part, read)
     }
 
-    /// Takes the no-ops that come next in a session, all at once, up to a byte at which the watchdog fires.
+    /// Takes no-ops that come next in a session, all at once, up to a byte at which the watchdog fires. There may be
+    /// more of them.
     fn pass_nops(&mut self, piece: &[u8], at: &mut usize)
         requires { MayTakePiece self.old piece.now at.old }
         ensures turned { TurnMoves self.old self.new piece.now at.old at.new }
@@ -258,7 +260,7 @@ impl Device {
     }
 
     /// Takes the write of one word that comes next, where it lies whole in the piece and no byte moves the clock. Moves
-    /// `at` past it, and says whether there is one.
+    /// `at` past it, and says whether it took one; what it leaves, `take_next` takes.
     #[inline(always)]
     fn take_write(&mut self, piece: &[u8], at: &mut usize) -> bool
         requires { MayTakePiece self.old piece.now at.old }
@@ -295,8 +297,9 @@ impl Device {
         self.take_next(piece, at)
     }
 
-    /// Takes the no-ops that come next, and then the next run. Moves `at` past the bytes taken. The answer is `true`
-    /// only where the piece is used up; after `false` the piece's next turn may find nothing left.
+    /// Takes no-ops that come next and then, unless the watchdog fired at one, the next run. Moves `at` past the bytes
+    /// taken. The answer is `true` only where the piece is used up; after `false` the piece's next turn may find
+    /// nothing left.
     #[inline(never)]
     fn take_next(&mut self, piece: &[u8], at: &mut usize) -> bool
         requires { MayTakePiece self.old piece.now at.old }
@@ -350,8 +353,8 @@ impl Device {
         self.registers.frames.memory()
     }
 
-    /// The registers and all else that a report shows but the memory. While words of frame data are still due, FAR is
-    /// that of the words given so far.
+    /// What a report shows beside the part's name, the words read out and the frames: the registers, where the bytes
+    /// end, and startup. While words of frame data are still due, FAR is that of the words given so far.
     pub fn state(&self) -> Regs
         ensures owing { OfPast self.now (λ p. result ≡ state_owing p.part p.kept p.wrapped p.bytes (frames_due self.now.registers.due)) }
         ensures value { OfPast self.now (λ p. NoWordDue self.now → result ≡ state_at p) }

@@ -1,4 +1,5 @@
-//! A device: its state is a function of all bytes since its reset, in whatever pieces they come.
+//! A device: its state is a function of all bytes since its reset, in whatever pieces they come, of what the reset
+//! kept, and of whether the flash has ended.
 #![tactic(auto)]
 
 mod clock;

@@ -1,4 +1,4 @@
-//! The state of a device but its memory, as a report shows it.
+//! The state of a device but its memory and the words read out, as a report shows it.
 
 use crate::fault::Fault;
 use x7_startup::Lines;

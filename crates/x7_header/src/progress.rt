@@ -60,7 +60,7 @@ fn whole_number(bytes: &[u8], letter: u8) -> Result<(), usize>
     }
 }
 
-/// Whether the fields after the fixed bytes are whole, or how many bytes they wait for: 0 where a letter is wrong.
+/// Ok where the fields after the fixed bytes lack nothing; else how many bytes they wait for, 0 at a wrong letter.
 fn whole_fields(bytes: &[u8]) -> Result<(), usize>
     ensures waits { IfErr result (λ lack. HeaderFieldsWait bytes.now lack) }
     ensures whole { IfOk result (λ _. fields_lack header_fields bytes.now ≡ 0) }

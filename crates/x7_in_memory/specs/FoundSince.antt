@@ -15,8 +15,8 @@ abbrev pub WithinOneOf : List PastWrite → List ℕ → List ℕ → Type 0
 WithinOneOf [] now found = ⊥
 WithinOneOf (write ∷ writes) now found = IsTorn write.place write.target (whole_before (write ∷ writes) now) found ⊎ WithinOneOf writes now found
 
--- The bytes `found` may have been found after a stop since `moment` writes were done: they are the present ones, or may
--- have been found within a later write.
+-- The bytes `found` may have been found after a power loss since `moment` writes were done: they are the present ones,
+-- or may have been found within a later write.
 -- What a flash had between two writes is among what may be found within the second.
 abbrev pub FoundSince : List PastWrite → List ℕ → ℕ → List ℕ → Type 0
 FoundSince past now moment found = (found ≡ now) ⊎ WithinOneOf (drop moment past) now found
@@ -25,11 +25,11 @@ none_later : (past : List PastWrite) (now found : List ℕ) → WithinOneOf (dro
 none_later [] now found within = within
 none_later (write ∷ past) now found within = none_later past now found within
 
--- after a stop at the present moment only the present bytes are found
+-- after a power loss at the present moment only the present bytes are found
 pub only_bytes : (past : List PastWrite) (now found : List ℕ) → FoundSince past now (length past) found → found ≡ now
 only_bytes past now found (inl is) = is
 only_bytes past now found (inr within) = absurd (none_later past now found within)
 
--- after a stop since any moment the present bytes may be found
+-- after a power loss since any moment the present bytes may be found
 pub found_last : (past : List PastWrite) (now : List ℕ) (moment : ℕ) (all : List ℕ) → Some now ≡ Some all → FoundSince past now moment all
 found_last past now moment all is = inl (sym (ap (λ (o : Option (List ℕ)). unwrap_or o []) is))

@@ -10,7 +10,8 @@ use x7_words::{Failed, NoMemory, Sink, raised};
 
 /// A sink in memory with a fixed room, known whole.
 ///
-/// Each write has the next number, from 1, and those that are to fail fail.
+/// Each write has the next number, from 1. Those that are to fail fail, and so does one of a byte or more once the room
+/// is full.
 #[derive(Drop)]
 pub struct MemorySink {
     // what was written

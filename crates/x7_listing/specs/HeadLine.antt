@@ -41,7 +41,8 @@ HasRegister (Write register count) = register < reg_number_count
 HasRegister (Read register count) = register < reg_number_count
 HasRegister _ = Unit {0}
 
--- a bound on the bytes of the line of one word, with its end (the longest, `write BOOTSTS 2047`, has 19)
+-- a bound on the bytes of the line of one word, with its end, its count with as many digits as a decimal may have (the
+-- longest, `write BOOTSTS 2047`, has 19)
 abbrev pub line_size : ℕ
 line_size = 47
 

@@ -1,7 +1,7 @@
 //! The text of a flash's bytes, written block by block in one buffer.
 ghost use Rattle.std.specs.Prelude.{◌≡◌, ℕ, List, ◌≤◌, length, vec_capacity, IfOk, OnOk, OnErr};
 ghost use Rattle.x7_text.specs.Row.{rows};
-ghost use Rattle.x7_words.specs.Sink.{SinkFaultsRise, PutsAll, PutsSome, SinkFails};
+ghost use Rattle.x7_words.specs.Sink.{SinkFaultsNeverFall, PutsAll, PutsSome, SinkFails};
 ghost use Rattle.x7_words.specs.Flash.{flash_limit};
 ghost use Rattle.x7_mcs.specs.Text.{block_room, mcs_text, row_lines, row_size};
 
@@ -22,7 +22,7 @@ fn write_rows<S: Sink>(out: &mut S, flash: &[u8], block: &mut Vec<u8>) -> Result
     ensures whole { OnOk result (PutsAll (S.state out.old) (row_lines 0 (rows row_size flash.now)) (S.state out.new)) }
     ensures prefix { PutsSome (S.state out.old) (row_lines 0 (rows row_size flash.now)) (S.state out.new) }
     ensures failed { OnErr result (SinkFails (S.state out.old) (S.state out.new)) }
-    ensures counts { SinkFaultsRise (S.state out.old) (S.state out.new) }
+    ensures counts { SinkFaultsNeverFall (S.state out.old) (S.state out.new) }
     ensures room { block_room ≤ vec_capacity block.new }
 {
     let mut place = 0u32;

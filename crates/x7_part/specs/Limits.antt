@@ -13,7 +13,7 @@ greatest_mode = 7
 abbrev pub greatest_bus_width : ℕ
 greatest_bus_width = 3
 
--- the greatest block type of a row
+-- the greatest block type of a row: 0 is logic, 1 the contents of block RAM, 2 CFG_CLB (UG470, frame address register)
 abbrev pub greatest_block : ℕ
 greatest_block = 2
 

@@ -1,6 +1,6 @@
 //! The report of a device, ready to be written: the lines of its frames are made as they are written, some at a time.
 ghost use Rattle.std.specs.Prelude.{◌≡◌, ◌++◌, ◌*◌, ◌≤◌, length, vec_capacity, IfOk, OnErr, OnOk};
-ghost use Rattle.x7_words.specs.Sink.{SinkFaultsRise, PutsAll, PutsSome, SinkFails};
+ghost use Rattle.x7_words.specs.Sink.{SinkFaultsNeverFall, PutsAll, PutsSome, SinkFails};
 ghost use Rattle.x7_text.specs.Appends.{Appends, HasSpareRoom};
 ghost use Rattle.x7_memory.specs.PartFrames.{AreFramesOf, frame_at};
 ghost use Rattle.x7_engine.specs.Past.{OfPast, memory_at, state_at};
@@ -66,7 +66,7 @@ fn write_lines<S: Sink>(
     ensures whole { OnOk result (PutsAll (S.state out.old) (frame_lines_text (frame_at part.now memory.now) fars.now) (S.state out.new)) }
     ensures prefix { PutsSome (S.state out.old) (frame_lines_text (frame_at part.now memory.now) fars.now) (S.state out.new) }
     ensures failed { OnErr result (SinkFails (S.state out.old) (S.state out.new)) }
-    ensures counts { SinkFaultsRise (S.state out.old) (S.state out.new) }
+    ensures counts { SinkFaultsNeverFall (S.state out.old) (S.state out.new) }
     ensures room { room_at_once ≤ vec_capacity buffer.new }
 {
     let mut rest = fars;

@@ -1,4 +1,4 @@
--- The startup fields of COR0: the codes of phases (UG470, configuration options register 0).
+-- The startup fields of COR0: phases and their codes (UG470, configuration options register 0).
 use Rattle.std.specs.Prelude.{ℕ}
 use Rattle.x7_regs.specs.StartupOptions.{done_cycle, gts_cycle, gwe_cycle, lock_cycle, match_cycle}
 use Rattle.x7_words.specs.Word.{field_of}
@@ -7,11 +7,11 @@ use Rattle.x7_words.specs.Word.{field_of}
 abbrev pub done_cycle_of : ℕ → ℕ
 done_cycle_of = field_of done_cycle 3
 
--- MATCH_CYCLE, bits 11:9: the phase that waits for the impedance (DCI) to match
+-- MATCH_CYCLE, bits 11:9: the phase, 0 to 6, that waits for the impedance (DCI) to match; none waits at 7
 abbrev pub match_cycle_of : ℕ → ℕ
 match_cycle_of = field_of match_cycle 3
 
--- LOCK_CYCLE, bits 8:6: the phase that waits for the clocks (MMCM) to lock
+-- LOCK_CYCLE, bits 8:6: the phase, 0 to 6, that waits for the clocks (MMCM) to lock; none waits at 7
 abbrev pub lock_cycle_of : ℕ → ℕ
 lock_cycle_of = field_of lock_cycle 3
 

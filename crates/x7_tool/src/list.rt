@@ -1,6 +1,6 @@
 //! The command `list`.
 ghost use Rattle.std.specs.Prelude.{◌≡◌, ℕ, List, [], ◌++◌, ◌⊎◌, false, Option, Ok, Err, OnErr, OnOk, IfErr, ◌+◌};
-ghost use Rattle.x7_words.specs.Sink.{SinkFaultsRise, PutsPrefix, SinkFails, appended};
+ghost use Rattle.x7_words.specs.Sink.{SinkFaultsNeverFall, PutsPrefix, SinkFails, appended};
 ghost use Rattle.x7_words.specs.Word.{AreBytes};
 ghost use Rattle.x7_listing.specs.Listing.{listing_of};
 ghost use Rattle.x7_tool.specs.Ahead.{ExtendsOutput};
@@ -23,7 +23,7 @@ fn put_turn<'w, O: Sink>(lister: &mut Lister, out: &mut O, piece: &[u8]) -> Resu
     ensures prefix { OnErr result (StopsIn lister.old (O.state out.old).written piece.now (O.state out.new).written) }
     ensures refused { IfErr result (λ r. IsUnlisted (O.state out.old) (O.state out.new) (event_of r)) }
     ensures extends { ExtendsOutput (O.state out.old) (O.state out.new) }
-    ensures counts { SinkFaultsRise (O.state out.old) (O.state out.new) }
+    ensures counts { SinkFaultsNeverFall (O.state out.old) (O.state out.new) }
 {
     if lister.feed(piece).is_err() {
         return Err(Refusal::unnamed(Why::NoMemory));
@@ -72,7 +72,7 @@ fn put_beginning<'w, O: Sink>(
     ensures prefix { IfErr result (λ r. (rest : List ℕ) → AreBytes (content.now ++ rest)
         → PutsPrefix (O.state out.old).written (line.now ++ listing_of (content.now ++ rest)) (O.state out.new).written) }
     ensures refused { IfErr result (λ r. (event_of r ≡ no_memory) ⊎ ((event_of r ≡ writing_failed) × SinkFails (O.state out.old) (O.state out.new))) }
-    ensures counts { SinkFaultsRise (O.state out.old) (O.state out.new) }
+    ensures counts { SinkFaultsNeverFall (O.state out.old) (O.state out.new) }
 {
     if write_all(out, line).is_err() {
         return Err(Refusal::unnamed(Why::WriteFault));

@@ -2,7 +2,7 @@
 use Rattle.std.proofs.Common.{◌≡◌, ℕ, List, [], ◌∷◌, ◌++◌, ◌+◌, ◌<◌, take, drop, length, Option, None, Some, refl, ap, append_assoc, append-nil, sym, ◌∙◌, arith, inr, flat_map, zero, suc, get_or}
 use Rattle.std.proofs.Math.Seq.{take-add}
 use Rattle.std.proofs.lemmas.List.{take-append-drop}
-use Rattle.x7_words.specs.Sink.{appended, SinkFaultsRise, PutsAll, PutsPrefix, PutsSome, SinkFails, SinkState, PutsOrFails}
+use Rattle.x7_words.specs.Sink.{appended, PutsAll, PutsOrFails, PutsPrefix, PutsSome, SinkFails, SinkFaultsNeverFall, SinkState}
 
 -- nothing more leaves what was written
 pub appended_nil : (known : Option (List ℕ)) → appended known [] ≡ known
@@ -39,8 +39,8 @@ pub puts_a_prefix : (first mid last : SinkState) (all a b c : List ℕ) → all 
 puts_a_prefix first mid last all a b c e p q r = inr (r, rw e (prefix_more first.written mid.written last.written a b c p q))
 
 -- a count that does not fall over one call and over the next does not fall over both
-pub counts_on : (a b c : SinkState) → SinkFaultsRise a b → SinkFaultsRise b c → SinkFaultsRise a c
+pub counts_on : (a b c : SinkState) → SinkFaultsNeverFall a b → SinkFaultsNeverFall b c → SinkFaultsNeverFall a c
 counts_on a b c p q = record { faults = omega (arith, p.faults, q.faults); fits = λ h. q.fits (p.fits h) }
 
-pub counts_at : (s : SinkState) → SinkFaultsRise s s
+pub counts_at : (s : SinkState) → SinkFaultsNeverFall s s
 counts_at s = record { faults = omega arith; fits = λ h. h }

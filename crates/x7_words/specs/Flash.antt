@@ -68,8 +68,8 @@ KnowsBytes state = IfKnown state.bytes AreBytes
 abbrev pub SeesBytes : FlashState → ℕ → List ℕ → Type 0
 SeesBytes state place read = (i : ℕ) → i < length read → IsTrue (state.seen (place + i) (get_or read i 0))
 
--- No time passed and nothing was written: after a stop since any moment the same bytes may be found after a call as
--- before it.
+-- No time passed and nothing was written: after a power loss since any moment the same bytes may be found after a call
+-- as before it.
 pub record Unwritten (old new : FlashState) (found_before found_after : ℕ → List ℕ → Type 0) : Type 0 where
   pub write_faults : new.write_faults ≡ old.write_faults
   pub moments : new.moments ≡ old.moments
@@ -83,7 +83,8 @@ pub record FlashStays (old new : FlashState) (found_before found_after : ℕ →
   pub absences : old.absences ≤ new.absences
   pub unwritten : Unwritten old new found_before found_after
 
--- nothing was written, what was seen stays so, and nothing else changed but the count of faults, which does not fall
+-- nothing was written, what was seen stays so and more may be, and nothing else changed but the count of faults, which
+-- does not fall
 pub record OnlyReads (old new : FlashState) (found_before found_after : ℕ → List ℕ → Type 0) : Type 0 where
   pub bytes : new.bytes ≡ old.bytes
   pub extent : new.extent ≡ old.extent
@@ -160,8 +161,8 @@ TornFrom place target (Some old) new = (now : List ℕ) × (new ≡ Some now) ×
 abbrev pub WithinWrite : ℕ → (List ℕ → List ℕ) → Option (List ℕ) → List ℕ → Type 0
 WithinWrite place target known found = IfKnown known (λ old. IsTorn place (target old) old found)
 
--- Time went on over a write, from moment `before` to moment `now`: what may be found after a stop since a moment up to
--- `before` is what might have been found before the write, or what may be found within it.
+-- Time went on over a write, from moment `before` to moment `now`: what may be found after a power loss since a moment
+-- up to `before` is what might have been found before the write, or what may be found within it.
 pub record TimeElapses (before now : ℕ) (found_before found_after : ℕ → List ℕ → Type 0) (within : List ℕ → Type 0) : Type 0 where
   pub later : before ≤ now
   pub nothing_else : (moment : ℕ) (found : List ℕ) → moment ≤ before → found_after moment found → found_before moment found ⊎ within found

@@ -1,18 +1,18 @@
--- What a call did to a flash, whichever type of flash that is (this project's choice). Each definition takes the model
--- of the type, in a clause `F.Flash`, and the flash before and after the call.
+-- What a call did to a flash, whichever type of flash that is (this project's choice). Each definition but `FlashModel`
+-- takes the model of the type, in a clause `F.Flash`, and the flash before and after the call.
 use Rattle.x7_words.specs.Flash.{FlashStays, OnlyReads, Unwritten}
 use Rattle.x7_words.specs.declared.flash.Flash.{Ghosts}
 
--- the model of a type of flashes: what a flash has come to, and what may be found of it after a stop
+-- the model of a type of flashes: what a flash has come to, and what may be found of it after a power loss
 abbrev pub FlashModel : Type 0 → Type 1
 FlashModel F = Ghosts F
 
--- the call only read: nothing was written, what was seen stays so, and nothing else changed but the count of faults,
--- which does not fall
+-- the call only read: nothing was written, what was seen stays so and more may be, and nothing else changed but the
+-- count of faults, which does not fall
 abbrev pub CallOnlyReads : {F : Type 0} → FlashModel F → F → F → Type 0
 CallOnlyReads f old new = OnlyReads (f.state old) (f.state new) (f.found_since old) (f.found_since new)
 
--- the call wrote nothing: after a stop since any moment the same bytes may be found after the call as before it
+-- the call wrote nothing: after a power loss since any moment the same bytes may be found after the call as before it
 abbrev pub CallWritesNothing : {F : Type 0} → FlashModel F → F → F → Type 0
 CallWritesNothing f old new = Unwritten (f.state old) (f.state new) (f.found_since old) (f.found_since new)
 

@@ -31,7 +31,7 @@ abbrev pub SinkFails : SinkState → SinkState → Type 0
 SinkFails old new = HasRisen old.faults new.faults
 
 -- the count of faults doesn't fall, and fits a u64 where it did before
-pub record SinkFaultsRise (old new : SinkState) : Type 0 where
+pub record SinkFaultsNeverFall (old new : SinkState) : Type 0 where
   pub faults : old.faults ≤ new.faults
   pub fits : old.faults < 2 ^ 64 → new.faults < 2 ^ 64
 

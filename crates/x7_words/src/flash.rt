@@ -26,7 +26,7 @@ pub trait Flash {
     /// What the flash has come to.
     ghost state: { Self → FlashState };
 
-    /// Whether bytes may be found after a stop at some moment from the given one on.
+    /// Whether bytes may be found after a power loss at some moment from the given one on.
     ghost found_since: { Self → ℕ → List ℕ → Type 0 };
 
     /// Attaches the flash of this name. After an error none is attached.
@@ -98,11 +98,12 @@ pub trait Flash {
     /// Where the bytes are known, the size is their number.
     ghost counted: { (flash : Self) → IsSized (state flash) };
 
-    /// After a stop since any moment up to the present one, the bytes that the flash has now may be found.
+    /// After a power loss since any moment up to the present one, the bytes that the flash has now may be found.
     ghost found_now: { (flash : Self) (moment : ℕ) (all : List ℕ) → moment ≤ (state flash).moments
         → (state flash).bytes ≡ Some all → found_since flash moment all };
 
-    /// After a stop at the present moment no other bytes are found than those that the flash has, where they are known.
+    /// After a power loss at the present moment no other bytes are found than those that the flash has, where they are
+    /// known.
     ghost only_now: { (flash : Self) (found : List ℕ) → found_since flash (state flash).moments found
         → IfKnown (state flash).bytes (λ all. found ≡ all) };
 }

@@ -1,6 +1,6 @@
 //! Where text is written, and writing all of a text.
 ghost use Rattle.std.specs.Prelude.{◌≡◌, ◌<◌, ◌≤◌, ◌^◌, length, take, flat_map, IfOk, OnOk, OnErr};
-ghost use Rattle.x7_words.specs.Sink.{SinkFaultsRise, PutsAll, PutsSome, SinkFails, SinkState, PutsOrFails};
+ghost use Rattle.x7_words.specs.Sink.{SinkFaultsNeverFall, PutsAll, PutsSome, SinkFails, SinkState, PutsOrFails};
 
 use crate::input::Failed;
 
@@ -20,7 +20,7 @@ pub trait Sink {
         ensures appends { IfOk result (λ n. PutsAll (state self.old) (take n piece.now) (state self.new)) }
         ensures nothing_written { OnErr result ((state self.new).written ≡ (state self.old).written) }
         ensures failed { OnErr result (SinkFails (state self.old) (state self.new)) }
-        ensures counts { SinkFaultsRise (state self.old) (state self.new) }
+        ensures counts { SinkFaultsNeverFall (state self.old) (state self.new) }
         ensures fits { (state self.new).faults < 2 ^ 64 };
 }
 
@@ -30,7 +30,7 @@ pub fn write_all<S: Sink>(sink: &mut S, text: &[u8]) -> Result<(), Failed>
     ensures appends { OnOk result (PutsAll (S.state sink.old) text.now (S.state sink.new)) }
     ensures prefix { PutsSome (S.state sink.old) text.now (S.state sink.new) }
     ensures failed { OnErr result (SinkFails (S.state sink.old) (S.state sink.new)) }
-    ensures counts { SinkFaultsRise (S.state sink.old) (S.state sink.new) }
+    ensures counts { SinkFaultsNeverFall (S.state sink.old) (S.state sink.new) }
 {
     let mut at = 0;
     while at < text.len() {
@@ -45,7 +45,7 @@ pub fn write_pieces<S: Sink>(sink: &mut S, pieces: &[&[u8]]) -> Result<(), Faile
     ensures appends { OnOk result (PutsAll (S.state sink.old) (flat_map (λ p. p.now) pieces.now) (S.state sink.new)) }
     ensures puts { PutsOrFails (S.state sink.old) (flat_map (λ p. p.now) pieces.now) (S.state sink.new) }
     ensures failed { OnErr result (SinkFails (S.state sink.old) (S.state sink.new)) }
-    ensures counts { SinkFaultsRise (S.state sink.old) (S.state sink.new) }
+    ensures counts { SinkFaultsNeverFall (S.state sink.old) (S.state sink.new) }
 {
     for piece in pieces {
         write_all(sink, piece)?;

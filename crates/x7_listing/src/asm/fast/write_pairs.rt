@@ -1,4 +1,5 @@
 //! A write of one word read at once: its two lines are compared with a row of the tables that list writes them from.
+//! `None` promises nothing: what is left is read line by line.
 ghost use Rattle.std.specs.Prelude.{◌≡◌, ◌<◌, ◌≤◌, ◌+◌, ◌++◌, take, IfSome};
 ghost use Rattle.std.specs.Simd.Lanes.{chunk, mask_l, zip2};
 ghost use Rattle.x7_words.specs.Word.{bytes_of_word};

@@ -1,6 +1,6 @@
 use Rattle.std.proofs.Common.{◌≡◌, ◌+◌, ◌%◌, ◌<◌, ◌≤◌, length, vec_capacity}
 use Rattle.x7_mcs.specs.Record.{block_size}
-use Rattle.x7_words.specs.Sink.{SinkFaultsRise}
+use Rattle.x7_words.specs.Sink.{SinkFaultsNeverFall}
 use Rattle.x7_mcs.proofs.BlockLemmas.{Goes}
 use Rattle.x7_mcs.proofs.blocks.write_rows.Given as goal
 
@@ -12,7 +12,7 @@ invariant-loop-rest g l =
       left : l.place + length l.rest ≡ length l.flash;
       begins : 0 < length l.rest → l.place % block_size ≡ 0;
       room : 262204 ≤ vec_capacity l.block;
-      counts : SinkFaultsRise (s.state l.fn.out) (s.state l.out);
+      counts : SinkFaultsNeverFall (s.state l.fn.out) (s.state l.out);
     }
 
 abbrev pub decreases-loop-rest : goal.decreases-loop-rest

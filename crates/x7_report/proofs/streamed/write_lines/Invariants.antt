@@ -1,5 +1,5 @@
 use Rattle.std.proofs.Common.{◌≤◌, length, vec_capacity}
-use Rattle.x7_words.specs.Sink.{SinkFaultsRise}
+use Rattle.x7_words.specs.Sink.{SinkFaultsNeverFall}
 use Rattle.x7_memory.specs.PartFrames.{frame_at}
 use Rattle.x7_report.specs.Frames.{room_at_once}
 use Rattle.x7_report.proofs.LinesLemmas.{Sent}
@@ -11,7 +11,7 @@ invariant-loop-rest g l =
     record {
       sent : Sent (s.state l.fn.out).written (s.state l.out).written (frame_at l.part l.memory) l.fars l.rest;
       room : room_at_once ≤ vec_capacity l.buffer;
-      counts : SinkFaultsRise (s.state l.fn.out) (s.state l.out);
+      counts : SinkFaultsNeverFall (s.state l.fn.out) (s.state l.out);
     }
 
 abbrev pub decreases-loop-rest : goal.decreases-loop-rest

@@ -1,5 +1,5 @@
 use Rattle.std.proofs.Common.{◌≤◌, vec_capacity}
-use Rattle.x7_words.specs.Sink.{SinkFaultsRise}
+use Rattle.x7_words.specs.Sink.{SinkFaultsNeverFall}
 use Rattle.x7_planner.specs.FullStreamPieces.{puts_left, piece_limit}
 use Rattle.x7_tool.proofs.FullTextLemmas.{Sent}
 use Rattle.x7_tool.proofs.full_text.write_stream.Given as goal
@@ -10,7 +10,7 @@ invariant-loop-more g l =
     record {
       sent : Sent l.fn.stream.part l.fn.stream.plan l.stream (s.state l.fn.out).written (s.state l.out).written;
       room : piece_limit ≤ vec_capacity l.piece;
-      counts : SinkFaultsRise (s.state l.fn.out) (s.state l.out);
+      counts : SinkFaultsNeverFall (s.state l.fn.out) (s.state l.out);
     }
 
 abbrev pub decreases-loop-more : goal.decreases-loop-more

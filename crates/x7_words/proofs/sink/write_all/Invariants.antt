@@ -1,5 +1,5 @@
 use Rattle.std.proofs.Common.{length, take, ◌-◌, ◌≤◌}
-use Rattle.x7_words.specs.Sink.{SinkFaultsRise, PutsAll}
+use Rattle.x7_words.specs.Sink.{SinkFaultsNeverFall, PutsAll}
 use Rattle.x7_words.proofs.sink.write_all.Given as goal
 
 abbrev pub invariant-loop-at : goal.invariant-loop-at
@@ -8,7 +8,7 @@ invariant-loop-at g l =
     record {
       within : l.at ≤ length l.text;
       written : PutsAll (s.state l.fn.sink) (take l.at l.text) (s.state l.sink);
-      counts : SinkFaultsRise (s.state l.fn.sink) (s.state l.sink);
+      counts : SinkFaultsNeverFall (s.state l.fn.sink) (s.state l.sink);
     }
 
 abbrev pub decreases-loop-at : goal.decreases-loop-at
