@@ -4,7 +4,7 @@ use Rattle.std.proofs.lemmas.Grind.{flat_map-append}
 use Rattle.std.specs.List.{AllByRecursion, flat_map}
 use Rattle.x7_words.specs.Word.{AreBytes, AreWords, bytes_of_word}
 use Rattle.x7_words.proofs.ListLemmas.{all_append, all_back, all_prefix}
-use Rattle.x7_packets.specs.Packet.{named_by, Packet, register_of, type1_count_of, type2_count_of, type_and_opcode_of, words}
+use Rattle.x7_packets.specs.Packet.{named_by, Packet, register_of, type1_count_of, type2_count_of, header_kind_of, words}
 use Rattle.x7_packets.specs.PacketWords.{no_op, sync_word, type1_read_header, type1_write_header, type2_read_kind, type2_write_kind}
 use Rattle.x7_packets.specs.Reading.{EndedSession, IsEndedSession, IsPlace, IsReading, packet_bytes, Place, place_bytes, Searching, session_bytes, Synced}
 use Rattle.x7_packets.specs.SyncWord.{sync_bytes}
@@ -97,8 +97,8 @@ best w h =
     (pick (IsHeadOf w) (w == sync_word) head.Sync _ (λ e. (sym (is_eq w sync_word e), (tt, tt)))
     (pick (IsHeadOf w) (w == type1_write_header (register_of w) (type1_count_of w)) (head.Write (register_of w) (type1_count_of w)) _ (λ e. (sym (is_eq w (type1_write_header (register_of w) (type1_count_of w)) e), ((r, omega arith), tt)))
     (pick (IsHeadOf w) (w == type1_read_header (register_of w) (type1_count_of w)) (head.Read (register_of w) (type1_count_of w)) _ (λ e. (sym (is_eq w (type1_read_header (register_of w) (type1_count_of w)) e), ((r, omega arith), tt)))
-    (pick (IsHeadOf w) (type_and_opcode_of w == type2_write_kind) (head.Write2 (type2_count_of w)) _ (λ e. let k : type_and_opcode_of w ≡ type2_write_kind = is_eq (type_and_opcode_of w) type2_write_kind e in (omega arith, (omega arith, tt)))
-    (pick (IsHeadOf w) (type_and_opcode_of w == type2_read_kind) (head.Read2 (type2_count_of w)) (head.Word w) (λ e. let k : type_and_opcode_of w ≡ type2_read_kind = is_eq (type_and_opcode_of w) type2_read_kind e in (omega arith, (omega arith, tt))) (refl, (h, tt)))))))
+    (pick (IsHeadOf w) (header_kind_of w == type2_write_kind) (head.Write2 (type2_count_of w)) _ (λ e. let k : header_kind_of w ≡ type2_write_kind = is_eq (header_kind_of w) type2_write_kind e in (omega arith, (omega arith, tt)))
+    (pick (IsHeadOf w) (header_kind_of w == type2_read_kind) (head.Read2 (type2_count_of w)) (head.Word w) (λ e. let k : header_kind_of w ≡ type2_read_kind = is_eq (header_kind_of w) type2_read_kind e in (omega arith, (omega arith, tt))) (refl, (h, tt)))))))
 
 head_of : (s : Step) (w : ℕ) → w < 2 ^ 32 → IsHeadOf w (line_of_head s w)
 head_of (step.Bad x) w h = (refl, (h, tt))

@@ -1,7 +1,7 @@
 -- The lines of words in a header's place (this project's choice).
 use Rattle.std.specs.Prelude.{ℕ, ◌<◌, ◌==◌, if◌then◌else◌, List}
 use Rattle.x7_regs.specs.Register.{reg_number_count}
-use Rattle.x7_packets.specs.Packet.{register_of, type1_count_of, type2_count_of, type_and_opcode_of}
+use Rattle.x7_packets.specs.Packet.{register_of, type1_count_of, type2_count_of, header_kind_of}
 use Rattle.x7_packets.specs.PacketWords.{no_op, sync_word, type1_read_header, type1_write_header, type2_read_header, type2_read_kind, type2_write_header, type2_write_kind}
 use Rattle.x7_packets.specs.declared.header.Step.{Step}
 use Rattle.x7_packets.specs.declared.header.Step.TheVariants.{Bad}
@@ -27,8 +27,8 @@ best_line w =
     if w == sync_word then Sync else
     if w == type1_write_header (register_of w) (type1_count_of w) then Write (register_of w) (type1_count_of w) else
     if w == type1_read_header (register_of w) (type1_count_of w) then Read (register_of w) (type1_count_of w) else
-    if type_and_opcode_of w == type2_write_kind then Write2 (type2_count_of w) else
-    if type_and_opcode_of w == type2_read_kind then Read2 (type2_count_of w) else Word w
+    if header_kind_of w == type2_write_kind then Write2 (type2_count_of w) else
+    if header_kind_of w == type2_read_kind then Read2 (type2_count_of w) else Word w
 
 -- the line of a word in a header's place, by its step
 abbrev pub line_of_head : Step → ℕ → HeadLine

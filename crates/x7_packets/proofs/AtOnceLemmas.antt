@@ -15,7 +15,7 @@ use Rattle.x7_packets.specs.Mode.{Mode}
 use Rattle.x7_packets.specs.AtOnce.{BeginsWrite, EndsGap, in_write, longest_gap_and_sync, longest_short_write, most_short_words, short_gap_room, WritesShort, WritesOne}
 use Rattle.x7_packets.specs.Cutter.{AtPlace, CutterState, CutterStandsFor, LongerSession, AfterRun, TakesAsOneRun}
 use Rattle.x7_packets.specs.PacketWords.{dummy_word, no_op, sync_word, type1_counts, type1_write_header, type1_write_kind}
-use Rattle.x7_packets.specs.Packet.{Packet, ends_session, meaning, packet_type_of, payload_steps, register_of, type1_count_of, type_and_opcode_of}
+use Rattle.x7_packets.specs.Packet.{Packet, ends_session, meaning, packet_type_of, payload_steps, register_of, type1_count_of, header_kind_of}
 use Rattle.x7_packets.specs.Reading.{EndedSession, Place, Searching, Synced, packet_bytes, session_bytes}
 use Rattle.x7_packets.specs.Machine.{HasTakenWords, MachineStandsFor, MachineState, ends_by, is_end}
 use Rattle.x7_packets.proofs.CutLemmas.{body_more, joined_more, packet_bytes_grown, skip_found, sync_given, word_more}
@@ -32,7 +32,7 @@ write_means latest register count h k =
     let sync : (type1_write_header register count == sync_word) ≡ false = grind (arith, nat_tests) in
     let ones : (type1_write_header register count == dummy_word) ≡ false = grind (arith, nat_tests) in
     let zero_type : (packet_type_of (type1_write_header register count) == 0) ≡ false = grind (arith, nat_tests) in
-    let kind : type_and_opcode_of (type1_write_header register count) ≡ type1_write_kind = omega arith in
+    let kind : header_kind_of (type1_write_header register count) ≡ type1_write_kind = omega arith in
     let named : register_of (type1_write_header register count) ≡ register = omega arith in
     let number : type1_count_of (type1_write_header register count) ≡ count = omega arith in
     rw (sync, ones, zero_type, kind, named, number) refl

@@ -5,7 +5,7 @@ use Rattle.x7_words.specs.Word.{AreWords}
 use Rattle.x7_words.proofs.ListLemmas.{all_append}
 use Rattle.x7_packets.specs.declared.header.Step.{Step}
 use Rattle.x7_packets.specs.declared.header.Step.TheVariants.{Filler, Nop, Open, Payload, Read, Bad}
-use Rattle.x7_packets.specs.Packet.{Packet, EachPacket, IsPacket, type_and_opcode_of, register_of, type2_meaning, meaning, named_by, payload_steps, stepped, latest_after, packet_type_of, type1_count_of, type2_count_of}
+use Rattle.x7_packets.specs.Packet.{Packet, EachPacket, IsPacket, header_kind_of, register_of, type2_meaning, meaning, named_by, payload_steps, stepped, latest_after, packet_type_of, type1_count_of, type2_count_of}
 use Rattle.x7_packets.specs.Reading.{Place, Searching, Synced, EndedSession, IsReading, IsEndedSession, IsPlace, session_bytes}
 use Rattle.x7_packets.specs.History as access
 use Rattle.x7_packets.specs.History.{History, AllFit, entry, entered, entered_all, entered_sessions, entered_place, history}
@@ -34,15 +34,15 @@ by_test false s t f g = g
 long_fits : (latest : Option ℕ) (w : ℕ) → w < 2 ^ 32 → FitsLatest latest → FitsStep (type2_meaning latest w)
 long_fits None w f l = f
 long_fits (Some register) w f l =
-    by_test (type_and_opcode_of w == type2_write_kind) (Open register (type2_count_of w)) _ l
-    (by_test (type_and_opcode_of w == type2_read_kind) (Read register (type2_count_of w)) (Bad w) (l, omega arith) f)
+    by_test (header_kind_of w == type2_write_kind) (Open register (type2_count_of w)) _ l
+    (by_test (header_kind_of w == type2_read_kind) (Read register (type2_count_of w)) (Bad w) (l, omega arith) f)
 
 meaning_fits : (latest : Option ℕ) (w : ℕ) → w < 2 ^ 32 → FitsLatest latest → FitsStep (meaning latest w)
 meaning_fits latest w f l =
     by_test (w == sync_word || w == dummy_word || packet_type_of w == 0) Filler _ tt
-    (by_test (type_and_opcode_of w == no_op_kind) Nop _ tt
-    (by_test (type_and_opcode_of w == type1_write_kind) (Open (register_of w) (type1_count_of w)) _ (omega arith)
-    (by_test (type_and_opcode_of w == type1_read_kind) (Read (register_of w) (type1_count_of w)) _ (omega arith, omega arith) (long_fits latest w f l))))
+    (by_test (header_kind_of w == no_op_kind) Nop _ tt
+    (by_test (header_kind_of w == type1_write_kind) (Open (register_of w) (type1_count_of w)) _ (omega arith)
+    (by_test (header_kind_of w == type1_read_kind) (Read (register_of w) (type1_count_of w)) _ (omega arith, omega arith) (long_fits latest w f l))))
 
 latest_fits : (latest : Option ℕ) (s : Step) → FitsLatest latest → FitsStep s → FitsLatest (latest_after latest s)
 latest_fits latest (Open register count) l f = f

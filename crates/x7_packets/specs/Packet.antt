@@ -16,9 +16,9 @@ use Rattle.x7_packets.specs.declared.header.Step.TheVariants.{Filler, Nop, Open,
 abbrev pub packet_type_of : ℕ → ℕ
 packet_type_of word = word / 2 ^ 29
 
--- packet type 31:29 and opcode 28:27 of a header word, as one number
-abbrev pub type_and_opcode_of : ℕ → ℕ
-type_and_opcode_of word = word / 2 ^ 27
+-- the kind of a header word: its packet type 31:29 and opcode 28:27, as one number
+abbrev pub header_kind_of : ℕ → ℕ
+header_kind_of word = word / 2 ^ 27
 
 -- register 17:13 of a type 1 header
 abbrev pub register_of : ℕ → ℕ
@@ -36,16 +36,16 @@ type2_count_of word = word % type2_counts
 abbrev pub type2_meaning : Option ℕ → ℕ → Step
 type2_meaning None w = Bad w
 type2_meaning (Some register) w =
-    if type_and_opcode_of w == type2_write_kind then Open register (type2_count_of w) else
-    if type_and_opcode_of w == type2_read_kind then Read register (type2_count_of w) else Bad w
+    if header_kind_of w == type2_write_kind then Open register (type2_count_of w) else
+    if header_kind_of w == type2_read_kind then Read register (type2_count_of w) else Bad w
 
 -- what a word in a header's place means, where the nearest type 1 read or write named this register
 abbrev pub meaning : Option ℕ → ℕ → Step
 meaning latest w =
     if w == sync_word || w == dummy_word || packet_type_of w == 0 then Filler else
-    if type_and_opcode_of w == no_op_kind then Nop else
-    if type_and_opcode_of w == type1_write_kind then Open (register_of w) (type1_count_of w) else
-    if type_and_opcode_of w == type1_read_kind then Read (register_of w) (type1_count_of w) else
+    if header_kind_of w == no_op_kind then Nop else
+    if header_kind_of w == type1_write_kind then Open (register_of w) (type1_count_of w) else
+    if header_kind_of w == type1_read_kind then Read (register_of w) (type1_count_of w) else
     type2_meaning latest w
 
 -- a header word with its meaning, and the words of its payload

@@ -1,7 +1,7 @@
 //! The words of packets, and those that stand between packets (UG470, packet types; configuration sequence).
 ghost use Rattle.std.specs.Prelude.{◌≡◌, ◌<◌};
 ghost use Rattle.x7_regs.specs.Register.{reg_number_count};
-ghost use Rattle.x7_packets.specs.Packet.{packet_type_of, register_of, type1_count_of, type2_count_of, type_and_opcode_of};
+ghost use Rattle.x7_packets.specs.Packet.{packet_type_of, register_of, type1_count_of, type2_count_of, header_kind_of};
 ghost use Rattle.x7_packets.specs.PacketWords.{command, frame_data_headers, frame_read_headers, type1_counts, type1_read_header, type1_write_header, type2_counts, type2_read_header, type2_write_header, write_one};
 
 use x7_regs::{Command, Reg};
@@ -71,10 +71,10 @@ pub(crate) fn packet_type_in(word: u32) -> u32
     word >> BELOW_TYPE
 }
 
-/// The packet type and the opcode of a header as one number, bits 31:27.
+/// The kind of a header: its packet type and opcode as one number, bits 31:27.
 #[inline(always)]
 pub fn kind_in(header: u32) -> u32
-    ensures { result ≡ type_and_opcode_of header }
+    ensures { result ≡ header_kind_of header }
 {
     header >> BELOW_KIND
 }
