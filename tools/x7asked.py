@@ -1,7 +1,7 @@
 """What a stream asks of a device: its IDCODEs, commands and checks, and whether it is whole. python3 (3.8) and its library
 alone."""
 from x7device import Device
-from x7formats import CALLED, CMD, CODES, REGISTERS, SYNC, Refused, payload, read_file, steps, stream_named
+from x7formats import CALLED, CMD, CODES, REGISTERS, SYNC, Refused, payload, read_file, steps, stream_alone
 from x7parts import is_7_series
 
 ConfigFallback = 1 << 10
@@ -82,7 +82,7 @@ class Asked:
 
 def asked_of(path):
     """What the stream of a file asks."""
-    return Asked(stream_named(path, read_file(path)))
+    return Asked(stream_alone(path, read_file(path)))
 
 
 def whole(path):

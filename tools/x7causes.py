@@ -206,6 +206,18 @@ def idcodes_of(source):
 SAME = ("CTL0", "MASK", "COR0", "AXSS", "COR1", "WBSTAR", "TIMER", "CTL1", "BSPI")
 
 
+# faults of the streams themselves, which each device has at the same byte
+OWN_FAULTS = ("Id", "Crc", "Packet", "Encrypted")
+
+
+def ends_otherwise(report, device):
+    """Whether a report ends elsewhere or as something else than a device does that takes these streams."""
+    is_alike = report.end[:2] == device.end[:2]
+    if report.end[0] == "fault" and report.end[1] in OWN_FAULTS and not (is_alike and report.taken == device.taken):
+        return True
+    return device.has_stopped and (device.taken < report.taken or is_alike and report.end[1:2] != ["Id"] and report.end != device.end)
+
+
 def of_belonging(subject):
     """The cause where the report of a play isn't one of these streams, or none."""
     report, total = subject.report, len(subject.data)
@@ -223,7 +235,7 @@ def of_belonging(subject):
             again, None,
         )
     stopped = subject.device
-    if stopped.has_stopped and (stopped.taken < report.taken or report.end[:2] == ["fault", "Crc"] != stopped.end[:2] or report.end[:2] == stopped.end[:2] != ["fault", "Id"] and report.end != stopped.end):
+    if ends_otherwise(report, stopped):
         return cause(
             f"the report is of other streams than these: it took {report.taken} bytes of data and ends as "
             f"'{' '.join(report.end)}', and these end at byte {stopped.taken} as '{' '.join(stopped.end)}'",

@@ -99,6 +99,13 @@ def stream_named(path, raw):
         raise Refused(f"{path}: {refused}") from None
 
 
+def stream_alone(path, raw):
+    """The stream of the bytes of a file, which is no listing, and whose path stands before what is refused."""
+    if is_listing(raw):
+        raise Refused(f"{path} is a listing: x7 asm {path} > STREAM makes the stream")
+    return stream_named(path, raw)
+
+
 def text_of(field):
     """A text of a header without its closing zero."""
     return field.rstrip(b"\0").decode("ascii", "replace")
@@ -312,6 +319,12 @@ def is_listing(raw):
     return bool(re.match(rb"(bit|bytes|sync|nop|write|read|write2|read2|word|data|cmd)( [^\n]*)?\r?\n", raw))
 
 
+def not_listed(path, number, line):
+    """The refusal of a line that no listing has."""
+    ends = ", which ends with 0D 0A (tr -d '\\r' makes the listing)" if line.endswith(b"\r") else ""
+    return Refused(f"{path} is no listing of `x7 list`: line {number}{ends}")
+
+
 def read_listing(path):
     """The stream of a listing, or of a text for `x7 asm`: its lines `crc` are made, comments and empty lines mean
     nothing."""
@@ -333,9 +346,9 @@ def read_listing(path):
                 elif number == 1 and line.startswith(b"bit "):
                     header = header_of_line(line)
                     if header is None:
-                        raise Refused(f"{path} is no listing of `x7 list`: line 1")
+                        raise not_listed(path, 1, line)
                 elif line and not line.startswith(b"#"):
-                    raise Refused(f"{path} is no listing of `x7 list`: line {number}")
+                    raise not_listed(path, number, line)
             if len(data) > MOST_BYTES:
                 raise Refused(f"{path} stands for more than {MOST_BYTES} bytes, which x7 doesn't take: line {number}")
     return Stream(header, with_checks(bytes(data), made))

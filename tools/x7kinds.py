@@ -21,6 +21,7 @@ MAGIC = [
     (b"version https://git-lfs", "it is a pointer of git-lfs, and not the file", "git lfs pull"),
 ]
 TEXTS = [
+    (rb"x7: ", "it is the line with which x7 refused something", "mend what it says: x7 --help has the statuses"),
     (rb"(?i)\s*<(!doctype html|html|\?xml|head|body)", "it is a page of HTML, as a server sends in place of a file", "take the file again: look at what was downloaded"),
     (rb":[0-9A-F]{10}", "it seems to be Intel HEX", "x7 unmcs FILE > NEW"),
     (rb"S[0-9][0-9A-F]{6}", "it is a file of S-records", "srec_cat FILE -o NEW -binary"),

@@ -41,7 +41,7 @@ def texts(bench):
     same("region", lines_of(tool("frames", "region", "frames", "block=0,half=top,row=0")), text_of_frames(in_row).splitlines())
     two = {far: one[far] for far in ("00000080", "00000082", "00800004")}
     same("regions", lines_of(tool("frames", "region", "frames", "block=0,half=0,column=1-1", "far=00800001-00800010")), text_of_frames(two).splitlines())
-    for wrong in ("", "column", "column=", "column=3-1", "column=1,column=2", "minor=x", "far=xyz", "colour=1", "column=-1", "row=top", "far=bottom", "column=1_0", "half=left"):
+    for wrong in ("", "column", "column=", "column=3-1", "column=1,column=2", "minor=x", "far=xyz", "colour=1", "column=-1", "row=top", "far=bottom", "column=1_0", "half=left", "half=2", "half=0-2"):
         bench.refuses("frames", "region", "frames", wrong, what="no region")
     bench.put("row", text_of_frames(in_row))
     moved = {f"{int(far, 16) | 0x400000:08X}": frame for far, frame in in_row.items()}

@@ -19,7 +19,8 @@ with tempfile.TemporaryDirectory() as folder:
         came = run(folder, [install, "there"])
         tally.same("install, status", came.status, 0)
         files = came.out.decode().split("\n")[:-1]
-        tally.check("the pages are put too", b"there/share/doc/x7/BOARD.md\n" in came.out, came.out)
+        for page in ("README", "FORMATS", "PARTS", "BOARD", "FLOWS", "FIELD"):
+            tally.check(f"{page} is put too", f"there/share/doc/x7/{page}.md\n".encode() in came.out, came.out)
         tally.check("install says what it put", files and all(os.path.isfile(os.path.join(folder, it)) for it in files), files)
         tools = sorted(it for it in files if it.startswith("there/bin/x7-"))
         tally.same("the tools that are put", len(tools), 9)

@@ -117,6 +117,8 @@ def bad():
     refused("a Spartan-6 by its header", s.bit(SMALL, "6slx9tqg144"), "which is a Spartan-6, and no 7-series device")
     refused("no frames", s.data_of(s.HEAD + s.command("RCRC") + s.command("DESYNC")), "writes no IDCODE, or no frames")
     refused("no sync word", b"\xff" * 4000, "no sync word")
+    refused("a header of another device", s.bit(SMALL, "7k325tffg900"), "names a 7k325tffg900, and it writes 0362D093")
+    refused("a listing of another system", listing.replace("\n", "\r\n"), "line 1, which ends with 0D 0A")
     refused("a header that is cut", raw[:30], "ends inside its header")
     refused("IPROG", s.data_of([*s.HEAD, *s.command("IPROG")]), "leads on")
     refused("an empty file", b"", "no sync word")

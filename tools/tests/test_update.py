@@ -128,6 +128,9 @@ def layouts(bench):
         bench.tally.check(f"check_update {name}", came.status == 1 and f"fails: layout: layout byte {place}:".encode() in came.out, came.out[:200])
     bench.put("long", bytes(4 * SECTOR))
     bench.refuses("flash_steps", "image", "long", what="truncate")
+    bench.put("listing", bench.x7("list", "next").out)
+    bench.refuses("flash_steps", "image", "listing", what="is a listing: x7 asm")
+    bench.refuses("allow_fallback", "listing", what="is a listing: x7 asm")
 
 
 # ---- a stream that is allowed to fall back

@@ -182,6 +182,10 @@ def with_reports():
     asked("a report of a longer stream", [cut, report], "the report is of other streams than these: it took", 1)
     asked("a report of another stream", [two, report], "the report is of other streams than these: it has COR0", 1)
     asked("a report of one of two", [full, full, report], "the report is of other streams than these", 1)
+    wrong = {"Crc": "fault Crc 0000ABCD 0000DCBA", "Packet": "fault Packet 0000ABCD", "Id": f"fault Id {s.IDCODE:08X} 03651093"}
+    for fault, line in wrong.items():
+        damaged = in_file(report_text(good).replace("end searching", f"end {line}").encode(), f"{fault}.report")
+        asked(f"a report of a damaged stream, {fault}", [full, damaged], f"the report is of other streams than these: it took .* and ends as '{line}'", 1)
     asked("an empty report", [full, in_file(b"", "empty")], "there is no report", 1)
     waits = Device(s.IDCODE, 60000).play(s.data_of(s.with_data(FULL, "COR0", "02003EA5")))
     report = in_file(report_text(waits).replace("0000190C", "00001908").replace("reg STAT 000019EC", "reg STAT 00001988").replace("reg STAT 0000198C", "reg STAT 00001988").encode(), "waits.report")
