@@ -204,18 +204,22 @@ def idcodes_of(source):
 # ---- whether report and streams belong together
 
 SAME = ("CTL0", "MASK", "COR0", "AXSS", "COR1", "WBSTAR", "TIMER", "CTL1", "BSPI")
-
-
-# faults of the streams themselves, which each device has at the same byte
-OWN_FAULTS = ("Id", "Crc", "Packet", "Encrypted")
+# faults at a byte that the streams and the IDCODE of the device settle
+SETTLED = ("Id", "Crc", "Packet", "Encrypted")
 
 
 def ends_otherwise(report, device):
     """Whether a report ends elsewhere or as something else than a device does that takes these streams."""
     is_alike = report.end[:2] == device.end[:2]
-    if report.end[0] == "fault" and report.end[1] in OWN_FAULTS and not (is_alike and report.taken == device.taken):
+    if report.end[0] == "fault" and report.end[1] in SETTLED and not (is_alike and report.taken == device.taken):
         return True
     return device.has_stopped and (device.taken < report.taken or is_alike and report.end[1:2] != ["Id"] and report.end != device.end)
+
+
+def of_others(what):
+    """The cause where a report is of other streams."""
+    again = "x7 play PART STREAM.. > REPORT, and give all of its streams in their order"
+    return cause(f"the report is of other streams than these: it {what}", again, None)
 
 
 def of_belonging(subject):
@@ -223,32 +227,18 @@ def of_belonging(subject):
     report, total = subject.report, len(subject.data)
     if not subject.is_play:
         return None
-    again = "x7 play PART STREAM.. > REPORT, and give all of its streams in their order"
+    took = f"took {report.taken} bytes of data"
     if report.taken > total:
-        return cause(
-            f"the report is of other streams than these: it took {report.taken} bytes of data, and these have {total}", again, None,
-        )
+        return of_others(f"{took}, and these have {total}")
     if report.end[0] in ("searching", "synced") and report.taken != total:
-        return cause(
-            f"the report is of other streams than these: it took {report.taken} bytes of data, all that there were, and these "
-            f"have {total}",
-            again, None,
-        )
+        return of_others(f"{took}, all that there were, and these have {total}")
     stopped = subject.device
     if ends_otherwise(report, stopped):
-        return cause(
-            f"the report is of other streams than these: it took {report.taken} bytes of data and ends as "
-            f"'{' '.join(report.end)}', and these end at byte {stopped.taken} as '{' '.join(stopped.end)}'",
-            again, None,
-        )
-    played = subject.device if report.taken == subject.device.taken else Device(report.registers.get("IDCODE")).play(subject.data[: report.taken])
+        return of_others(f"{took} and ends as '{' '.join(report.end)}', and these end at byte {stopped.taken} as '{' '.join(stopped.end)}'")
+    played = stopped if report.taken == stopped.taken else Device(report.registers.get("IDCODE")).play(subject.data[: report.taken])
     for name in SAME:
         if name in report.registers and report.registers[name] != played.registers[name]:
-            return cause(
-                f"the report is of other streams than these: it has {name} {report.registers[name]:08X}, and these make it "
-                f"{played.registers[name]:08X}",
-                again, None,
-            )
+            return of_others(f"has {name} {report.registers[name]:08X}, and these make it {played.registers[name]:08X}")
     return None
 
 
