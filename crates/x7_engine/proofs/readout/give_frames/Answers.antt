@@ -3,18 +3,6 @@ use Rattle.x7_flow.specs.Standing.{FramesStandFor, words_due}
 use Rattle.x7_engine.proofs.FeedLemmas.{got_dropped, got_more, one_due}
 use Rattle.x7_engine.proofs.readout.give_frames.Goals as goal
 
-pub drop_words-requires-clause-part : goal.drop_words-requires-clause-part
-drop_words-requires-clause-part c = c.requires.frames
-
-pub returns-then-drops-clause-within : goal.returns-then-drops-clause-within
-returns-then-drops-clause-within c = omega arith
-
-pub returns-then-drops-clause-full : goal.returns-then-drops-clause-full
-returns-then-drops-clause-full c = λ l. absurd (omega (arith, l))
-
-pub returns-then-drops-clause-frames : goal.returns-then-drops-clause-frames
-returns-then-drops-clause-frames c = c.drop_words.ensures.part
-
 pub returns-then-drops-clause-given : goal.returns-then-drops-clause-given
 returns-then-drops-clause-given c = λ h s. got_dropped (words_due c.args.part.now h c.args.count) c.args.read.now (c.drops.ensures c.if-drops.true)
 
@@ -27,27 +15,6 @@ pub drop_words-requires-clause-due : goal.drop_words-requires-clause-due
 drop_words-requires-clause-due c =
     let due = c.requires.due in
     (0, record { history = due.history; stands = subst (FramesStandFor c.args.part.now c.args.frames.now due.history) (let all : c.args.count ≡ 0 + c.args.count = omega arith in all) due.stands })
-
-pub returns-then-is_full-clause-within : goal.returns-then-is_full-clause-within
-returns-then-is_full-clause-within c = omega arith
-
-pub returns-then-is_full-clause-full : goal.returns-then-is_full-clause-full
-returns-then-is_full-clause-full c = λ l. c.is_full.ensures.yes c.if-is_full.true
-
-pub returns-then-is_full-clause-given : goal.returns-then-is_full-clause-given
-returns-then-is_full-clause-given c = c.loop-i.invariant.given
-
-pub returns-then-is_full-clause-stands : goal.returns-then-is_full-clause-stands
-returns-then-is_full-clause-stands c = c.loop-i.invariant.stands
-
-pub returns-then-is_full-clause-frames : goal.returns-then-is_full-clause-frames
-returns-then-is_full-clause-frames c = c.loop-i.invariant.frames
-
-pub read_word-requires-clause-part : goal.read_word-requires-clause-part
-read_word-requires-clause-part c = c.loop-i.invariant.frames
-
-pub push-requires : goal.push-requires
-push-requires c = record { room = c.is_full.ensures.no c.if-is_full.false }
 
 pub read_word-requires-clause-due : goal.read_word-requires-clause-due
 read_word-requires-clause-due c =
@@ -66,12 +33,3 @@ loop-i-preserved c = record {
       (c.loop-i.invariant.given h s) (c.loop-i.invariant.stands h s) (c.read_word.ensures.word h) c.push.ensures;
   stands = λ h s. c.read_word.ensures.stands h (c.args.count - (c.loop-i.i + 1)) (one_due c.args.part.now c.loop-i.frames h c.args.count c.loop-i.i c.loop-i-test.true (c.loop-i.invariant.stands h s));
 }
-
-pub returns-clause-within : goal.returns-clause-within
-returns-clause-within c = omega arith
-
-pub returns-clause-full : goal.returns-clause-full
-returns-clause-full c = λ l. absurd (omega (arith, l))
-
-pub returns-clause-frames : goal.returns-clause-frames
-returns-clause-frames c = c.loop-i.invariant.frames

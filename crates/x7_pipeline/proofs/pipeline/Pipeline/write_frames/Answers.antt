@@ -14,12 +14,6 @@ place_of-first-requires c =
     let slot = c.requires.slot in
     record { address = rw (ap (λ (v : PipelineData). v.base) c.self.view_is) (has_address c.args.part.now c.args.self.now.base (lt-ltb 0 (length (slots_from c.args.part.now c.args.self.now.base)) (omega arith))) }
 
-pub write_frame-requires-clause-part : goal.write_frame-requires-clause-part
-write_frame-requires-clause-part c = c.requires.part
-
-pub write_frame-requires-clause-slot : goal.write_frame-requires-clause-slot
-write_frame-requires-clause-slot c = c.requires.slot
-
 pub frames-init : goal.frames-init
 frames-init c =
     let some = c.self.invariant.some in
@@ -76,12 +70,6 @@ frames-preserved c =
 
 pub returns-clause-stands : goal.returns-clause-stands
 returns-clause-stands c = λ f s. (c.frames.invariant.went f.command f.base f.run f.source f.given s).stands
-
-pub returns-clause-lands : goal.returns-clause-lands
-returns-clause-lands c = λ f s. (c.frames.invariant.went f.command f.base f.run f.source f.given s).lands
-
-pub returns-clause-part : goal.returns-clause-part
-returns-clause-part c = c.frames.invariant.part
 
 pub returns-clause-passes : goal.returns-clause-passes
 returns-clause-passes c = λ f s. (c.frames.invariant.went f.command f.base f.run f.source f.given s).passes
