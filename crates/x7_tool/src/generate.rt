@@ -240,7 +240,7 @@ fn summarized(
 }
 
 /// The summary of the full stream of the plan of a seed, played on a new device.
-fn played_text(alloc: Global, part: &Part, seed: u32, plan: &Plan) -> Result<Vec<u8>, NoMemory>
+fn summary_of_plan(alloc: Global, part: &Part, seed: u32, plan: &Plan) -> Result<Vec<u8>, NoMemory>
     requires part { IsPart part.now }
     requires width { plan.now.width ≡ frame_words part.now }
     requires addresses { AreAddressed part.now plan.now.rows }
@@ -263,7 +263,7 @@ pub fn gen_text(alloc: Global, part: &Part, seed: u32) -> Result<Vec<u8>, NoMemo
     let plan = generated(alloc, part, seed)?;
     // for the proof alone: a part has a frame
     let _frames = part.frames();
-    played_text(alloc, part, seed, &plan)
+    summary_of_plan(alloc, part, seed, &plan)
 }
 
 /// The text of `gen` for a part and a seed, or that memory was wanting.

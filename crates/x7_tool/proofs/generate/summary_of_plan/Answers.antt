@@ -2,7 +2,7 @@ use Rattle.std.proofs.Common.{length, refl}
 use Rattle.x7_planner.specs.FullStream.{full_stream}
 use Rattle.x7_tool.proofs.GenerateLemmas.{few_reads, planned_as}
 use Rattle.x7_forms.proofs.ResultLemmas.{ok_weaker}
-use Rattle.x7_tool.proofs.generate.played_text.Goals as goal
+use Rattle.x7_tool.proofs.generate.summary_of_plan.Goals as goal
 
 pub returns : goal.returns
 returns c =
