@@ -80,16 +80,6 @@ fn write_lines<S: Sink>(
     Ok(())
 }
 
-/// Room for the lines that are written at once.
-fn line_buffer(alloc: Global) -> Result<Vec<u8>, NoMemory>
-    ensures { IfOk result (λ buffer. room_at_once ≤ vec_capacity buffer) }
-{
-    match Vec::with_capacity(alloc, ROOM_AT_ONCE) {
-        Ok(buffer) => Ok(buffer),
-        Err(_) => Err(NoMemory),
-    }
-}
-
 /// What a report has before the lines of its frames, and the addresses of the frames that it shows.
 fn head_and_frames(
     alloc: Global,
@@ -145,7 +135,7 @@ impl PlayText {
         ensures owing { IfOk result (λ text. OfPast device (λ p.
             text ≡ record { stopped = stopped; text = report_text p.part (state_reported device p) reads.now (memory_at p) })) }
     {
-        let buffer = line_buffer(alloc)?;
+        let buffer = Vec::with_capacity(alloc, ROOM_AT_ONCE)?;
         let begun = head_and_frames(alloc, &device, reads)?;
         Ok(PlayText {
             stopped,
