@@ -3,7 +3,7 @@ use Rattle.std.proofs.Common.{◌≡◌, ℕ, List, Option, None, Some, subst, s
 use Rattle.x7_forms.specs.declared.status.Status.{Status}
 use Rattle.x7_forms.specs.Form.{form_of_words}
 use Rattle.x7_forms.specs.Status.{status_number}
-use Rattle.x7_tool.specs.Outside.{Outside}
+use Rattle.x7_outcome.specs.Outside.{Outside}
 use Rattle.x7_tool.specs.Runs.{Runs}
 use Rattle.x7.specs.Command.{ProgramEndsBy, WritesPage}
 

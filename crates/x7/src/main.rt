@@ -5,7 +5,7 @@ ghost use Rattle.std.specs.Prelude.{◌≡◌, map, string_bytes};
 ghost use Rattle.std.specs.Process.{exit_status};
 ghost use Rattle.x7.specs.Command.{ProgramEnds, WritesPage};
 ghost use Rattle.x7_forms.specs.Status.{status_number};
-ghost use Rattle.x7_tool.specs.Outside.{outside};
+ghost use Rattle.x7_outcome.specs.Outside.{outside};
 
 mod page;
 

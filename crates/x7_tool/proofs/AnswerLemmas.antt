@@ -9,9 +9,9 @@ use Rattle.x7_forms.specs.Event.{Event, event_line, status_of_event, usage}
 use Rattle.x7_forms.specs.Form.{AskedForm, Unused, flash_use, listed_by, updated_by}
 use Rattle.x7_forms.specs.Known.{Answer}
 use Rattle.x7_forms.specs.Status.{text_status}
-use Rattle.x7_tool.specs.Leaving.{UsesFlash}
-use Rattle.x7_tool.specs.Outside.{Outside, sources}
-use Rattle.x7_tool.specs.Run.{Answered, AnswersOver, JudgesFlash, MakesReady, MakesReadyFrom, PutsAnswer}
+use Rattle.x7_outcome.specs.Leaving.{UsesFlash}
+use Rattle.x7_outcome.specs.Outside.{Outside, sources}
+use Rattle.x7_outcome.specs.Ending.{Answered, AnswersOver, JudgesFlash, MakesReady, MakesReadyFrom, PutsAnswer}
 use Rattle.x7_tool.proofs.RunLemmas.{RanAs, ready_ends, streamed, text_ends}
 use Rattle.x7_tool.proofs.StopLemmas.{done_judges, puts_stop, refused_judges, unused_judges}
 

@@ -10,9 +10,10 @@ use Rattle.x7_recovery.proofs.GoldenLemmas.{found_alike}
 use Rattle.x7_forms.specs.Event.{Event}
 use Rattle.x7_forms.specs.Form.{AskedForm, updated_by}
 use Rattle.x7_forms.specs.Known.{Known}
-use Rattle.x7_tool.specs.Leaving.{IsUpdateOf, MayBeFound, PowerLossMayLeave, UsesFlash}
-use Rattle.x7_tool.specs.Outcome.{stream_data}
-use Rattle.x7_tool.specs.Outside.{known_from, sources}
+use Rattle.x7_tool.specs.PowerLoss.{IsUpdateOf, PowerLossMayLeave}
+use Rattle.x7_outcome.specs.Leaving.{MayBeFound, UsesFlash}
+use Rattle.x7_outcome.specs.Outcome.{stream_data}
+use Rattle.x7_outcome.specs.Outside.{known_from, sources}
 use Rattle.x7_tool.proofs.FlashLemmas.{found_same}
 
 -- what may be found since a run began is what the flash held then, or was found within the run

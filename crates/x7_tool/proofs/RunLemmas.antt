@@ -18,18 +18,20 @@ use Rattle.x7_forms.specs.declared.status.Status.TheVariants as status
 use Rattle.x7_forms.specs.Event.{Event, ReasonCause, Wording, Want, Fault, Absence, Break, Contents, Difference, cause_of_event, no_memory, status_of_event, usage, writing_failed}
 use Rattle.x7_forms.specs.Form.{AskedForm, Assembling, FlashUse, FromMcs, Unused, flash_use, listed_by, names_of, names_used, updated_by}
 use Rattle.x7_forms.specs.Status.{final_status, text_status}
-use Rattle.x7_forms.specs.Known.{Answer, Failing, Known, Lacking, Mishap, mishap_event, and_so, input_found, known_of, taken_whole, whole_known, with_inputs, if_within}
-use Rattle.x7_forms.specs.Step.{Among, DecidedBy, IsCausedBy, IsDue, IsFromOutside, PossibleBy}
-use Rattle.x7_tool.specs.Ahead.{StaysNear, StaysNearIn}
-use Rattle.x7_tool.specs.Leaving.{UpdateLeaves}
-use Rattle.x7_tool.specs.Outcome.{AssembledAs, FormGives, IsOutcome, mcs_image, text_limit}
-use Rattle.x7_tool.specs.Outside.{CameInRun, IsQuiet, UsesFlashAs, Outside, known_in, sources}
+use Rattle.x7_forms.specs.Known.{Answer, Failing, Known, Lacking, Mishap, and_so, input_found, known_of, taken_whole, whole_known, with_inputs, if_within}
+use Rattle.x7_forms.specs.Step.{Among}
+use Rattle.x7_outcome.specs.Ahead.{StaysNear}
+use Rattle.x7_outcome.specs.Leaving.{UpdateLeaves}
+use Rattle.x7_outcome.specs.Outcome.{AssembledAs, FormGives, IsOutcome, mcs_image, text_limit}
+use Rattle.x7_outcome.specs.Outside.{CameInRun, IsQuiet, UsesFlashAs, Outside, known_in, sources}
 use Rattle.x7_tool.specs.Promise.{Promise}
-use Rattle.x7_tool.specs.Run.{GivesIfKnown, AnswersForm, AnswersOver, CausedBy, EndIsCaused, CommandEnds, CommandEndsAs, FailsLast, GetsPrefixOfKnown, GetsPrefixOfText, ReportsMishap, IsMeasured, JudgesFlash, OutputAfterEvent, OutputAfterFailure, OutputByCause, PutsAnswer, SaysEnd}
+use Rattle.x7_outcome.specs.Ending.{GivesIfKnown, AnswersForm, AnswersOver, CausedBy, EndIsCaused, CommandEnds, CommandEndsAs, FailsLast, GetsPrefixOfKnown, GetsPrefixOfText, IsMeasured, JudgesFlash, OutputAfterFailure, PutsAnswer}
+use Rattle.x7_tool.specs.Runs.{SaysEnd}
 use Rattle.x7_tool.specs.Runs.{TextsLeadBack, Runs}
-use Rattle.x7_tool.specs.Stopping.{StopsReading}
-use Rattle.x7_tool.proofs.FlashLemmas.{answers_over, not_fault, not_large}
+use Rattle.x7_outcome.specs.Stopping.{StopsReading}
+use Rattle.x7_outcome.proofs.FlashLemmas.{answers_over, not_fault, not_large}
 use Rattle.x7_tool.proofs.PromiseLemmas.{promised}
+use Rattle.x7_outcome.proofs.EndingLemmas.{has_cause, leaves_all, near_all, no_break}
 
 -- ---- which status an event has
 
@@ -71,47 +73,6 @@ outcome_is (Some form) old new s (Err event) e h known k q = by (event_by known 
 no_form_is : (form : Option AskedForm) (old new : Outside) (s : Status) (end : Result Answer Event) → s ≡ final_status end → EndIsCaused form old new end → form ≡ None → s ≡ status.Usage
 no_form_is None old new s end e h n = e ∙ ap final_status h
 no_form_is (Some form) old new s end e h n = absurd (cc)
-
--- ---- the cause of an end
-
--- the event of a result
-abbrev event_in : {A : Type 0} → Result A Event → Event
-event_in (Ok a) = usage
-event_in (Err event) = event
-
-abbrev is_ok : {A : Type 0} → Result A Event → Bool
-is_ok (Ok a) = true
-is_ok (Err event) = false
-
--- an event of a mishap, by that
-mishap_cause : (m : Mishap) (form : AskedForm) (old new : Outside) (event : Event) → mishap_event m ≡ event → ReportsMishap form old new event → CausedBy (cause_of_event event) form old new event
-mishap_cause (Failing name given) form old new event e h = subst (λ (c : ReasonCause). CausedBy c form old new event) (ap cause_of_event e) h
-mishap_cause (Lacking name) form old new event e h = subst (λ (c : ReasonCause). CausedBy c form old new event) (ap cause_of_event e) (inl h)
-
-outside_cause : (form : AskedForm) (old new : Outside) (event : Event) → IsFromOutside {A = Answer} (known_in old) (CameInRun (Some form) old new) (λ t end. FormGives t form end) (Err event) → CausedBy (cause_of_event event) form old new event
-outside_cause form old new event (inl e) = subst (λ (x : Event). CausedBy (cause_of_event x) form old new x) (sym e) refl
-outside_cause form old new event (inr h) = mishap_cause h.mishap form old new event h.reports h
-
-known_cause : (cause : ReasonCause) (known : Known) (form : AskedForm) (old new : Outside) (event : Event) → known_in old ≡ Some known → DecidedBy cause → FormGives known form (Err event) → CausedBy cause form old new event
-known_cause Absence known form old new event k d h = inr (rw k h)
-known_cause Contents known form old new event k d h = rw k h
-known_cause cause known form old new event k d h = absurd d
-
-open_cause : (cause : ReasonCause) (form : AskedForm) (old new : Outside) (event : Event) → known_in old ≡ None → PossibleBy cause → CausedBy cause form old new event
-open_cause Contents form old new event k o = rw k tt
-open_cause cause form old new event k o = absurd o
-
-due_cause : (known : Option Known) (form : AskedForm) (old new : Outside) (got : Result Answer Event) → known_in old ≡ known → IsDue known (λ t end. FormGives t form end) got → EndIsCaused (Some form) old new got
-due_cause None form old new (Ok answer) k h = rw k tt
-due_cause (Some known) form old new (Ok answer) k h = rw k h.1
-due_cause None form old new (Err event) k h = open_cause (cause_of_event event) form old new event k h
-due_cause (Some known) form old new (Err event) k h = known_cause (cause_of_event event) known form old new event k h.0 h.1
-
--- a text that is ready, or none, has its cause
-pub has_cause : (form : AskedForm) (old new : Outside) (got : Result Answer Event) → AnswersOver form old new got → EndIsCaused (Some form) old new got
-has_cause form old new (Ok answer) (inl h) = absurd h
-has_cause form old new (Err event) (inl h) = outside_cause form old new event h
-has_cause form old new got (inr h) = due_cause (known_in old) form old new got refl h
 
 -- ---- texts that lead back
 
@@ -215,39 +176,19 @@ runs form old new s r f =
 
 -- ---- a text that is whole before it is written
 
--- what other forms leave where nothing was written
-pub leaves_all : (form : AskedForm) (cause : ReasonCause) (old new : Outside) (event : Event) → listed_by (Some form) ≡ None → (cause ≡ Break → ⊥) → new.out.written ≡ old.out.written → OutputByCause cause (Some form) old new event
-leaves_all form Break old new event l n e = absurd (n refl)
-leaves_all form cause old new event l n e = subst (λ (s : Option (List ℕ)). OutputAfterEvent s event old new) (sym l) e
+-- the event of a result
+abbrev event_in : {A : Type 0} → Result A Event → Event
+event_in (Ok a) = usage
+event_in (Err event) = event
 
-outside_by : (known : Option Known) (C : Mishap → Type 0) (Due : Known → Result Answer Event → Type 0) (event : Event) → IsFromOutside {A = Answer} known C Due (Err event) → cause_of_event event ≡ Break → ⊥
-outside_by known C Due event (inl e) b = let c : Want ≡ Break = sym (ap cause_of_event e) ∙ b in absurd (cc)
-outside_by known C Due event (inr h) b = by h.mishap h.reports
-  where
-    by : (m : Mishap) → mishap_event m ≡ event → ⊥
-    by (Failing name given) e = let c : Fault ≡ Break = ap cause_of_event e ∙ b in absurd (cc)
-    by (Lacking name) e = let c : Absence ≡ Break = ap cause_of_event e ∙ b in absurd (cc)
-
-decided_by : (cause : ReasonCause) → DecidedBy cause → cause ≡ Break → ⊥
-decided_by Break h e = h
-decided_by cause h e = absurd (cc)
-
-open_by : (cause : ReasonCause) → PossibleBy cause → cause ≡ Break → ⊥
-open_by Break h e = h
-open_by cause h e = absurd (cc)
-
--- a text that isn't ready was not refused by the output
-pub no_break : (known : Option Known) (C : Mishap → Type 0) (Due : Known → Result Answer Event → Type 0) (event : Event) → IsCausedBy known C Due (Err event) → cause_of_event event ≡ Break → ⊥
-no_break known C Due event (inl h) = outside_by known C Due event h
-no_break None C Due event (inr h) = open_by (cause_of_event event) h
-no_break (Some t) C Due event (inr h) = decided_by (cause_of_event event) h.0
+-- whether a result is no event
+abbrev is_ok : {A : Type 0} → Result A Event → Bool
+is_ok (Ok a) = true
+is_ok (Err event) = false
 
 gets_by : (known : Option Known) (form : AskedForm) (answer : Answer) (old new : SinkState) → listed_by (Some form) ≡ None → GivesIfKnown known form (Ok answer) → PutsSome old answer.text new → GetsPrefixOfText known form old new
 gets_by None form answer old new l h p = (answer.text, p)
 gets_by (Some known) form answer old new l h p = subst (λ (s : Option (List ℕ)). GetsPrefixOfKnown s known form old new) (sym l) (answer, (h, p))
-
-pub near_all : (form : AskedForm) (s : Status) (old new : Outside) → listed_by (Some form) ≡ None → StaysNear s (Some form) old new
-near_all form s old new l = subst (λ (x : Option (List ℕ)). StaysNearIn s x old new) (sym l) tt
 
 -- the stream that a form lists, or else the one with which it updates its flash
 abbrev pub streamed : Option (List ℕ) → Option (List ℕ) → Option (List ℕ)

@@ -22,11 +22,11 @@ use Rattle.x7_jtag.specs.Shown.{bytes_taken, state_shown}
 use Rattle.x7_svf.specs.Svf.{IsSvfOf}
 use Rattle.x7_effects.specs.Played.{PlaysFull, PlaysPartial, PlaysRead, device_after}
 use Rattle.x7_forms.specs.Event.{Event}
-use Rattle.x7_tool.specs.Generate.{generated, planned_summary}
+use Rattle.x7_outcome.specs.Generate.{generated, planned_summary}
 use Rattle.x7_forms.specs.Form.{AskedForm, Booting, Generating, Imaging, ImagingFor, PlanningFull, PlanningPartial, PlanningRead, Playing, PlayingSvf}
 use Rattle.x7_forms.specs.Known.{Answer, Held, Known, streams_known, part_known, stream_limit}
-use Rattle.x7_tool.specs.Play.{report_of}
-use Rattle.x7_tool.specs.Outcome.{ImageStreams, PartAndText, image_streams, part_and_text, svf_answer, IsBootText}
+use Rattle.x7_outcome.specs.Play.{report_of}
+use Rattle.x7_outcome.specs.Outcome.{ImageStreams, PartAndText, image_streams, part_and_text, svf_answer, IsBootText}
 
 -- The report of `play`: it is that of the streams' data, and startup has begun only where these made their checks.
 pub record PromisesPlayed (known : Known) (part : List ℕ) (streams : List (List ℕ)) (answer : Answer) : Type 0 where

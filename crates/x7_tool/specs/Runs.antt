@@ -1,23 +1,36 @@
 -- What a run comes to: how it ended and why, its status, and what the outside holds then (this project's choice).
-use Rattle.std.specs.Prelude.{◌≡◌, ◌≤◌, ℕ, length, List, Option, None, Some, ◌⊎◌, false, Result, Ok}
+use Rattle.std.specs.Prelude.{◌≡◌, ◌≤◌, ℕ, length, List, Option, None, Some, ◌⊎◌, Bool, false, Result, Ok, Err}
 use Rattle.x7_words.specs.Input.{AsksAtMost, InputsStay}
+use Rattle.x7_words.specs.Sink.{PutsOrFails, SinkState}
 use Rattle.x7_words.specs.Word.{AreBytes}
 use Rattle.x7_listing.specs.StreamListing.{stream_listing}
 use Rattle.x7_mcs.specs.Text.{mcs_text}
 use Rattle.x7_boot.specs.Image.{flash_limit}
+use Rattle.x7_forms.specs.declared.refusal.Refusal.{Refusal}
 use Rattle.x7_forms.specs.declared.status.Status.{Status}
 use Rattle.x7_forms.specs.declared.status.Status.TheVariants as status
-use Rattle.x7_forms.specs.Event.{Event}
+use Rattle.x7_forms.specs.Event.{Event, event_line}
 use Rattle.x7_forms.specs.Form.{AskedForm, Assembling, FromMcs, flash_use, names_of, updated_by}
 use Rattle.x7_forms.specs.Status.{final_status}
 use Rattle.x7_forms.specs.Known.{Answer, Known, stream_limit}
-use Rattle.x7_tool.specs.Ahead.{StaysNear}
-use Rattle.x7_tool.specs.Leaving.{UpdateLeaves}
-use Rattle.x7_tool.specs.Outcome.{IsOutcome}
-use Rattle.x7_tool.specs.Outside.{IsQuiet, UsesFlashAs, Outside, known_in, sources}
+use Rattle.x7_forms.specs.Step.{result_by}
+use Rattle.x7_outcome.specs.Ahead.{StaysNear}
+use Rattle.x7_outcome.specs.Leaving.{UpdateLeaves}
+use Rattle.x7_outcome.specs.Outcome.{IsOutcome}
+use Rattle.x7_outcome.specs.Outside.{IsQuiet, UsesFlashAs, Outside, known_in, sources}
 use Rattle.x7_tool.specs.Promise.{Promise}
-use Rattle.x7_tool.specs.Stopping.{StopsReading}
-use Rattle.x7_tool.specs.Run.{EndIsCaused, FailsLast, IsMeasured, JudgesFlash, SaysEnd, OutputGets}
+use Rattle.x7_outcome.specs.Stopping.{StopsReading}
+use Rattle.x7_outcome.specs.Ending.{EndIsCaused, FailsLast, IsMeasured, JudgesFlash, OutputGets}
+
+-- by the result of a call that writes: whether what it reports stopped, or the event of its refusal
+abbrev pub written_by : Result Bool Refusal → Result Bool Event
+written_by result = result_by (λ stopped. stopped) result
+
+-- what the sink of messages got: nothing after a whole text, and else the event's
+-- line, or a prefix of it where the sink failed
+abbrev pub SaysEnd : SinkState → SinkState → Result Answer Event → Type 0
+SaysEnd old new (Ok answer) = new.written ≡ old.written
+SaysEnd old new (Err event) = PutsOrFails old (event_line event) new
 
 -- an input has this text
 abbrev pub HasText : Outside → List ℕ → List ℕ → Type 0

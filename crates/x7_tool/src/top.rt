@@ -1,27 +1,28 @@
-//! The top call.
+//! The call that runs a command: the form of its words is carried out.
 ghost use Rattle.std.specs.Prelude.{◌≡◌, ℕ, List, Some, false};
 ghost use Rattle.x7_words.specs.Sink.{SinkState};
 ghost use Rattle.x7_forms.specs.Form.{asked_by, form_of_strings};
 ghost use Rattle.x7_forms.specs.Step.{result_by};
-ghost use Rattle.x7_tool.specs.Leaving.{EachBoots, PowerLossMayLeave, CallUsesFlash};
-ghost use Rattle.x7_tool.specs.Outside.{outside, sources};
-ghost use Rattle.x7_tool.specs.Run.{Answered, written_by};
-ghost use Rattle.x7_tool.specs.Runs.{Runs};
+ghost use Rattle.x7_tool.specs.PowerLoss.{EachBoots, PowerLossMayLeave};
+ghost use Rattle.x7_outcome.specs.Leaving.{CallUsesFlash};
+ghost use Rattle.x7_outcome.specs.Outside.{outside, sources};
+ghost use Rattle.x7_outcome.specs.Ending.{Answered};
+ghost use Rattle.x7_tool.specs.Runs.{Runs, written_by};
 
-use crate::asm::asm;
-use crate::boot::boot;
-use crate::debug::debug;
-use crate::generate::generate;
-use crate::image::{image, image_for};
-use crate::list::list;
-use crate::mcs::{mcs, unmcs};
-use crate::plan::{plan_full, plan_partial, plan_read};
-use crate::play::play;
-use crate::svf::svf;
-use crate::text::put_whole;
-use crate::update::update;
 use std::alloc::Global;
+use x7_device_forms::boot::boot;
+use x7_device_forms::debug::debug;
+use x7_device_forms::generate::generate;
+use x7_device_forms::play::play;
+use x7_device_forms::svf::svf;
+use x7_device_forms::update::update;
 use x7_forms::{Form, Refusal, Status, Why, words_of};
+use x7_outcome::put_whole;
+use x7_stream_forms::asm::asm;
+use x7_stream_forms::image::{image, image_for};
+use x7_stream_forms::list::list;
+use x7_stream_forms::mcs::{mcs, unmcs};
+use x7_stream_forms::plan::{plan_full, plan_partial, plan_read};
 use x7_words::{Flash, Inputs, Sink};
 
 /// The answer of a form that reports nothing that could stop.

@@ -1,5 +1,5 @@
 use Rattle.std.proofs.Common.{map, string_bytes, refl}
-use Rattle.x7_tool.specs.Outside.{outside}
+use Rattle.x7_outcome.specs.Outside.{outside}
 use Rattle.x7.specs.Command.{page_of}
 use Rattle.x7.proofs.CommandLemmas.{page_ends, run_ends}
 use Rattle.x7.proofs.command.Goals as goal

@@ -1,10 +1,10 @@
 use Rattle.std.proofs.Common.{refl, Some, map, string_bytes, ap}
 use Rattle.x7_forms.specs.Form.{Assembling, Booting, Debugging, FromMcs, Generating, Imaging, ImagingFor, Listing, PlanningFull, PlanningPartial, PlanningRead, Playing, PlayingSvf, ToMcs, UpdatingFlash, asked_by}
 use Rattle.x7_forms.specs.Step.{result_by}
-use Rattle.x7_tool.specs.FullText.{full_answer}
-use Rattle.x7_tool.specs.Outside.{outside, sources}
-use Rattle.x7_tool.specs.Play.{play_answer}
-use Rattle.x7_tool.specs.Ready.{bytes_answer, mcs_answer, text_answer}
+use Rattle.x7_stream_forms.specs.FullText.{full_answer}
+use Rattle.x7_outcome.specs.Outside.{outside, sources}
+use Rattle.x7_outcome.specs.Play.{play_answer}
+use Rattle.x7_outcome.specs.Ready.{bytes_answer, mcs_answer, text_answer}
 use Rattle.x7_tool.proofs.AnswerLemmas.{flash_answered, ready_answered, silent_answered, uses_as}
 use Rattle.x7_tool.proofs.FlashLemmas.{uses_read, uses_same}
 use Rattle.x7_tool.proofs.StopLemmas.{boot_judges}

@@ -2,7 +2,7 @@ use Rattle.std.proofs.Common.{◌≡◌, Some, ap, refl, subst, sym, ◌∙◌}
 use Rattle.x7_words.specs.Sink.{PutsOrFails}
 use Rattle.x7_forms.specs.Event.{Event, event_line, event_of, status_of_event}
 use Rattle.x7_forms.specs.Form.{asked_by, flash_use, form_asked, form_of_strings}
-use Rattle.x7_tool.specs.Outside.{outside}
+use Rattle.x7_outcome.specs.Outside.{outside}
 use Rattle.x7_tool.proofs.AnswerLemmas.{ran_done, ran_none, ran_refused, uses_as}
 use Rattle.x7_tool.proofs.FlashLemmas.{kept_same, uses_same}
 use Rattle.x7_tool.proofs.RunLemmas.{runs}

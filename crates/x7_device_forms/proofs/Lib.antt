@@ -1,0 +1,9 @@
+pub mod BootTextLemmas
+pub mod DebugLemmas
+pub mod FlashLemmas
+pub mod GenerateLemmas
+pub mod PlayLemmas
+pub mod ReadyLemmas
+pub mod StopLemmas
+pub mod SvfLemmas
+pub mod UpdateLemmas

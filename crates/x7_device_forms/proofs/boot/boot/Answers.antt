@@ -1,0 +1,51 @@
+use Rattle.std.proofs.Common.{[], ◌∷◌, None, Some, inl, refl}
+use Rattle.x7_forms.specs.Form.{Booting}
+use Rattle.x7_forms.specs.Event.{event_of}
+use Rattle.x7_outcome.specs.Play.{play_answer}
+use Rattle.x7_forms.specs.Step.{CameIn, result_by, step_over}
+use Rattle.x7_device_forms.proofs.FlashLemmas.{boot_last, boot_measured, booted_ends, no_part_last, no_part_measured, part_good, part_refused}
+use Rattle.x7_forms.specs.Known.{part_limit}
+use Rattle.x7_device_forms.proofs.StopLemmas.{boot_stops, comes_judges, untouched_judges}
+use Rattle.x7_outcome.proofs.StopLemmas.{first_stops}
+use Rattle.x7_forms.proofs.AskedLemmas.{no_part_about}
+use Rattle.x7_forms.specs.ReadingStops.{limited}
+use Rattle.x7_forms.proofs.ResultLemmas.{handed_on}
+use Rattle.x7_device_forms.proofs.boot.boot.Goals as goal
+
+pub returns-clause-ready : goal.returns-clause-ready
+returns-clause-ready g c =
+    let old = g.I.Inputs.state c.args.inputs.now in
+    let new = g.I.Inputs.state c.read_part.new.inputs in
+    let first = g.F.Flash.state c.args.flash.now in
+    let last = g.F.Flash.state c.boot_from.new.flash in
+    let name = c.args.flash_name.now in
+    let part_name = c.args.part.now in
+    let part = c.in_ok-part.part in
+    let made = result_by play_answer c.boot_from.result in
+    let C = CameIn (step_over (part_name ∷ []) old new) in
+    record {
+      caused = λ before after. booted_ends (record before { inputs = old; flash = first }) (record after { inputs = new; flash = last }) name part_name part C made (c.in_ok-part.ensures.caused first.bytes) c.boot_from.ensures.caused;
+      stops = boot_stops name part_name part old new first last made c.boot_from.ensures.caused;
+      measured = boot_measured (Some (Booting part_name name)) name part first last made c.boot_from.ensures.caused;
+      fails_last = boot_last play_answer name part_name old last c.boot_from.result c.boot_from.ensures.failed (part_good old.contents C name part_name part (c.in_ok-part.ensures.caused None));
+      judges = comes_judges part_name name part old new first last made c.boot_from.ensures.caused;
+      asks = c.read_part.ensures.asks;
+      stays = c.read_part.ensures.inputs;
+    }
+
+pub returns-in_err-part-clause-ready : goal.returns-in_err-part-clause-ready
+returns-in_err-part-clause-ready g c = rw (handed_on c.from_residual.result c.in_err-part.field-0.0 c.from_residual.ensures) (let old = g.I.Inputs.state c.args.inputs.now in
+    let new = g.I.Inputs.state c.read_part.new.inputs in
+    let flash = g.F.Flash.state c.args.flash.now in
+    let name = c.args.flash_name.now in
+    let part_name = c.args.part.now in
+    let event = event_of c.in_err-part.field-0.0 in
+    record {
+      caused = λ before after. part_refused (record before { inputs = old; flash = flash }) (record after { inputs = new; flash = flash }) name part_name event (c.in_err-part.ensures.caused flash.bytes);
+      stops = first_stops (Booting part_name name) (limited part_limit part_name) [] old new event refl c.read_part.ensures.last_asked c.read_part.ensures.asks (no_part_about part_name event c.in_err-part.ensures.named);
+      measured = no_part_measured (Some (Booting part_name name)) flash part_name event (inl refl) c.in_err-part.ensures.named;
+      fails_last = no_part_last (Booting part_name name) old flash part_name event (inl refl) c.in_err-part.ensures.named;
+      judges = untouched_judges part_name name old new flash event;
+      asks = c.read_part.ensures.asks;
+      stays = c.read_part.ensures.inputs;
+    })

@@ -1,0 +1,42 @@
+use Rattle.std.proofs.Common.{◌<◌, rules, arith, ap, inl, inr}
+use Rattle.std.specs.Prelude.{Err}
+use Rattle.x7_words.proofs.FlashLemmas.{unwritten_on}
+use Rattle.x7_boot.specs.Image.{flash_limit}
+use Rattle.x7_forms.specs.Event.{event_of}
+use Rattle.x7_device_forms.proofs.FlashLemmas.{reads_on}
+use Rattle.x7_device_forms.proofs.BootTextLemmas.{text_boots, short_flash, fault_boots}
+use Rattle.x7_forms.proofs.ResultLemmas.{handed_on}
+use Rattle.x7_device_forms.proofs.boot.boot_from.Goals as goal
+
+pub returns-in_err-attach-clause-caused : goal.returns-in_err-attach-clause-caused
+returns-in_err-attach-clause-caused g c = rw (handed_on c.from_residual.result c.in_err-attach.field-0.0 c.from_residual.ensures) (inr (inl c.in_err-attach.ensures.refused))
+
+pub returns-in-Ok-clause-reads : goal.returns-in-Ok-clause-reads
+returns-in-Ok-clause-reads g c = let f = g.F.Flash in
+    reads_on c.args.flash_name.now (f.state c.args.flash.now) (f.state c.attach.new.flash) (f.state c.boot.new.flash) (f.found_since c.attach.new.flash) (f.found_since c.boot.new.flash) c.in_ok-attach.ensures.reads c.in-Ok.ensures.only_reads
+
+pub returns-in-Ok-clause-unwritten : goal.returns-in-Ok-clause-unwritten
+returns-in-Ok-clause-unwritten g c = let f = g.F.Flash in
+    unwritten_on (f.state c.args.flash.now) (f.state c.attach.new.flash) (f.state c.boot.new.flash) (f.found_since c.args.flash.now) (f.found_since c.attach.new.flash) (f.found_since c.boot.new.flash) c.in_ok-attach.ensures.stays.unwritten c.in-Ok.ensures.only_reads.unwritten
+
+pub returns-in-Err-clause-reads : goal.returns-in-Err-clause-reads
+returns-in-Err-clause-reads g c = let f = g.F.Flash in
+    reads_on c.args.flash_name.now (f.state c.args.flash.now) (f.state c.attach.new.flash) (f.state c.boot.new.flash) (f.found_since c.attach.new.flash) (f.found_since c.boot.new.flash) c.in_ok-attach.ensures.reads c.in-Err.ensures.only_reads
+
+pub returns-in-Err-clause-unwritten : goal.returns-in-Err-clause-unwritten
+returns-in-Err-clause-unwritten g c = let f = g.F.Flash in
+    unwritten_on (f.state c.args.flash.now) (f.state c.attach.new.flash) (f.state c.boot.new.flash) (f.found_since c.args.flash.now) (f.found_since c.attach.new.flash) (f.found_since c.boot.new.flash) c.in_ok-attach.ensures.stays.unwritten c.in-Err.ensures.only_reads.unwritten
+
+pub returns-in-Err-clause-caused : goal.returns-in-Err-clause-caused
+returns-in-Err-clause-caused g c = let f = g.F.Flash in
+    let b = c.in-Err.ensures in
+    fault_boots c.args.flash_name.now c.args.part.now (f.state c.args.flash.now) (f.state c.attach.new.flash) (f.state c.boot.new.flash) (f.found_since c.attach.new.flash) (f.found_since c.boot.new.flash) c.in-Err.fault (event_of c.refusal_of.result)
+    c.in_ok-attach.ensures.reads c.in_ok-attach.ensures.asks c.in_ok-attach.ensures.sized b.only_reads c.refusal_of.ensures (λ e. b.failed (search (rules, e))) (λ e. b.too_large.0 (ap Err e))
+
+pub returns-in-Ok-clause-caused : goal.returns-in-Ok-clause-caused
+returns-in-Ok-clause-caused g c = let f = g.F.Flash in
+    let mid = f.state c.attach.new.flash in
+    let b = c.in-Ok.ensures in
+    let small : flash_limit < mid.extent → ⊥ = λ large. grind (arith, b.too_large.1 large) in
+    text_boots c.args.flash_name.now c.args.part.now (f.state c.args.flash.now) mid (f.state c.boot.new.flash) c.in-Ok.booted c.text_of.result
+    c.in_ok-attach.ensures.reads (short_flash mid c.in_ok-attach.ensures.sized small) b.booted b.no_word_due c.text_of.ensures.text c.text_of.ensures.refused (grind (arith, b.only_reads.extent, small))

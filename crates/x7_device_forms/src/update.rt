@@ -1,0 +1,71 @@
+//! The command `update`: a flash gets another update stream, and may lose its power at any moment.
+ghost use Rattle.std.specs.Prelude.{◌≡◌, ℕ, List, Some, false};
+ghost use Rattle.x7_forms.specs.Form.{UpdatingFlash};
+ghost use Rattle.x7_forms.specs.Event.{event_of};
+ghost use Rattle.x7_forms.specs.Step.{result_by};
+ghost use Rattle.x7_outcome.specs.Leaving.{CallUsesFlash};
+ghost use Rattle.x7_outcome.specs.Outcome.{update_event};
+ghost use Rattle.x7_outcome.specs.Outside.{sources};
+ghost use Rattle.x7_outcome.specs.Ending.{AnsweredSilently};
+ghost use Rattle.x7_update.specs.declared.fault.UpdateFault.TheVariants.{Failed};
+
+use std::alloc::Global;
+use x7_forms::{InputFault, Refusal, Why};
+use x7_outcome::{open_flash, read_stream};
+use x7_update::UpdateFault;
+use x7_words::{Flash, Inputs};
+
+/// A write of the flash failed, or a read.
+fn failed<'w>(flash: &'w str, writing: bool) -> Refusal<'w>
+    ensures { (stream : List ℕ) → event_of result ≡ update_event (record { flash = flash.now; stream = stream }) (Failed writing) }
+{
+    if writing {
+        return Refusal::unnamed(Why::WriteFault);
+    }
+    Refusal {
+        reason: Why::ReadFault,
+        name: flash,
+    }
+}
+
+/// Why a flash wasn't updated.
+fn refusal_of<'w>(flash: &'w str, stream: &'w str, fault: UpdateFault) -> Refusal<'w>
+    ensures { event_of result ≡ update_event (record { flash = flash.now; stream = stream.now }) fault }
+{
+    match fault {
+        UpdateFault::Failed { writing } => failed(flash, writing),
+        UpdateFault::TooLong => Refusal {
+            reason: Why::BadInput(InputFault::Long),
+            name: stream,
+        },
+        UpdateFault::NoLayout(place) => Refusal {
+            reason: Why::BadInput(InputFault::Layout(place)),
+            name: flash,
+        },
+        UpdateFault::Differs { place, .. } => Refusal {
+            reason: Why::Differs(place),
+            name: flash,
+        },
+        UpdateFault::NoMemory => Refusal::unnamed(Why::NoMemory),
+    }
+}
+
+/// Updates the flash of `update FLASH STREAM` with the stream's data. No text is written.
+pub fn update<'w, I: Inputs, F: Flash>(
+    alloc: Global,
+    inputs: &mut I,
+    flash: &mut F,
+    flash_name: &'w str,
+    stream: &'w str,
+) -> Result<(), Refusal<'w>>
+    ensures answered { AnsweredSilently (UpdatingFlash flash_name.now stream.now) (sources (I.state inputs.old) (F.state flash.old))
+        (sources (I.state inputs.new) (F.state flash.new)) (result_by (λ _. false) result) }
+    ensures flash { CallUsesFlash F.Flash (Some (UpdatingFlash flash_name.now stream.now)) (I.state inputs.old) flash.old flash.new }
+{
+    open_flash(flash, flash_name)?;
+    let read = read_stream(alloc, inputs, stream)?;
+    match x7_update::update(alloc, flash, &read.bytes[read.start..]) {
+        Ok(()) => Ok(()),
+        Err(fault) => Err(refusal_of(flash_name, stream, fault)),
+    }
+}

@@ -1,0 +1,95 @@
+-- How far `list` reads ahead of what it writes (this project's choice).
+use Rattle.std.specs.Prelude.{◌≡◌, ℕ, ◌+◌, ◌<◌, ◌≤◌, List, ◌++◌, length, Option, None, Some, Ok, Err}
+use Rattle.x7_words.specs.Sink.{SinkState, appended}
+use Rattle.x7_words.specs.Word.{AreBytes}
+use Rattle.x7_listing.specs.StreamListing.{stream_listing}
+use Rattle.x7_forms.specs.Form.{AskedForm, listed_by}
+use Rattle.x7_forms.specs.declared.status.Status.{Status}
+use Rattle.x7_forms.specs.declared.status.Status.TheVariants as status
+use Rattle.x7_outcome.specs.Outside.{Outside}
+
+-- the most by which the bytes read of a stream exceed the bytes of text written: half a MiB (this project's choice)
+abbrev pub most_ahead : ℕ
+most_ahead = 524288
+
+-- the most bytes of a listing that are held of it: those of bytes that may yet be a sync
+-- word, or the rest of a word, and line ends
+abbrev pub most_held : ℕ
+most_held = 64
+
+-- The listing of these first bytes of a stream is written, but for what is held of it; `before` and `after` are the
+-- sink's bytes.
+pub record HasWritten (early before after : List ℕ) : Type 0 where
+  pub text : List ℕ
+  pub lists : stream_listing early ≡ Ok text
+  pub written : length before + length text ≤ length after + most_held
+
+-- A stream's bytes are early ones, which are listed, late ones, at most `most_ahead`, and those that are left. The
+-- bytes read, early and late, are at most `most_ahead` more than the sink got.
+pub record ReadsNear (bytes left before after : List ℕ) : Type 0 where
+  pub early : List ℕ
+  pub late : List ℕ
+  pub split : bytes ≡ early ++ (late ++ left)
+  pub not_far : length late ≤ most_ahead
+  pub written : HasWritten early before after
+  pub near : length bytes + length before ≤ length left + length after + most_ahead
+
+-- The early bytes of a stream are listed, and at most `most_ahead` bytes more than these were given.
+pub record GivesNear (bytes : List ℕ) (given : ℕ) (before after : List ℕ) : Type 0 where
+  pub early : List ℕ
+  pub others : List ℕ
+  pub split : bytes ≡ early ++ others
+  pub not_far : given ≤ length early + most_ahead
+  pub written : HasWritten early before after
+
+-- where the stream, what is left of it, and what the sink got are known, few bytes more were read than are listed
+abbrev pub IsNear : List ℕ → Outside → Outside → Type 0
+IsNear stream old new =
+    (inputs : List ℕ → Option (List ℕ)) (bytes left before after : List ℕ) → old.inputs.contents ≡ Some inputs → inputs stream ≡ Some bytes → new.inputs.rest ≡ Some left
+    → old.out.written ≡ Some before → new.out.written ≡ Some after → ReadsNear bytes left before after
+
+-- where the stream and what the sink got are known, few bytes more were given than are listed: after
+-- a fault nothing may be known of the rest
+abbrev pub IsGivenNear : List ℕ → Outside → Outside → Type 0
+IsGivenNear stream old new =
+    (inputs : List ℕ → Option (List ℕ)) (bytes before after : List ℕ) → old.inputs.contents ≡ Some inputs → inputs stream ≡ Some bytes
+    → old.out.written ≡ Some before → new.out.written ≡ Some after → GivesNear bytes new.inputs.given before after
+
+-- where the stream and what is left of it are known, and its header is refused
+-- at a byte, no byte after that one was read
+abbrev pub IsRefusedSoon : List ℕ → Outside → Outside → Type 0
+IsRefusedSoon stream old new =
+    (inputs : List ℕ → Option (List ℕ)) (bytes left : List ℕ) (place : ℕ) → old.inputs.contents ≡ Some inputs → inputs stream ≡ Some bytes → new.inputs.rest ≡ Some left → stream_listing bytes ≡ Err place
+    → length bytes ≤ length left + (place + 1)
+
+-- where the stream is known and made of bytes, and its header is refused at one that it has, no more are counted as
+-- given than stand before that one
+abbrev pub IsUnjudged : List ℕ → Outside → Outside → Type 0
+IsUnjudged stream old new =
+    (inputs : List ℕ → Option (List ℕ)) (bytes : List ℕ) (place : ℕ) → old.inputs.contents ≡ Some inputs → inputs stream ≡ Some bytes
+    → AreBytes bytes → stream_listing bytes ≡ Err place → place < length bytes
+    → new.inputs.given ≤ place
+
+-- by the status: where the sink failed, the stream is too large, it failed or memory is wanting, few bytes more were
+-- read or given than are listed; where a header is refused, no byte after that one was read; where the stream failed,
+-- the byte at which its header would be refused was not given
+abbrev pub StaysNearBy : Status → List ℕ → Outside → Outside → Type 0
+StaysNearBy status.WriteFault stream old new = IsNear stream old new
+StaysNearBy status.TooLarge stream old new = IsNear stream old new
+StaysNearBy status.BadInput stream old new = IsRefusedSoon stream old new
+StaysNearBy status.ReadFault stream old new = IsUnjudged stream old new × IsGivenNear stream old new
+StaysNearBy status.NoMemory stream old new = IsGivenNear stream old new
+StaysNearBy s stream old new = Unit {0}
+
+-- by the status, how far the stream that a form lists was read; other forms read each input whole, and write at the end
+abbrev pub StaysNearIn : Status → Option (List ℕ) → Outside → Outside → Type 0
+StaysNearIn s None old new = Unit {0}
+StaysNearIn s (Some stream) old new = StaysNearBy s stream old new
+
+-- how far the stream of a form that lists one was read, by how the run ended
+abbrev pub StaysNear : Status → Option AskedForm → Outside → Outside → Type 0
+StaysNear s form old new = StaysNearIn s (listed_by form) old new
+
+-- what the sink has begins with what it had
+abbrev pub ExtendsOutput : SinkState → SinkState → Type 0
+ExtendsOutput old new = (more : List ℕ) × (new.written ≡ appended old.written more)

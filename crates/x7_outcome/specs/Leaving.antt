@@ -1,0 +1,49 @@
+-- What a run leaves of a flash, and what may be found of it after a power loss at any moment (this project's choice).
+use Rattle.std.specs.Prelude.{◌≡◌, ℕ, List, Option, None, Some, Result, Ok, Err, ◌⊎◌}
+use Rattle.x7_words.specs.Flash.{FlashFails, FlashState}
+use Rattle.x7_words.specs.FlashCalls.{FlashModel}
+use Rattle.x7_words.specs.Input.{InputsState}
+use Rattle.x7_update.specs.After.{IsAfterUpdate, MayBeLeft}
+use Rattle.x7_update.specs.Writing.{AtAnyMoment, Becomes}
+use Rattle.x7_forms.specs.declared.refusal.Why.{Why}
+use Rattle.x7_forms.specs.declared.refusal.Why.TheVariants as why
+use Rattle.x7_forms.specs.Event.{Event}
+use Rattle.x7_forms.specs.Form.{AskedForm, flash_use, updated_by}
+use Rattle.x7_forms.specs.Known.{Answer, Known}
+use Rattle.x7_outcome.specs.Outcome.{stream_data}
+use Rattle.x7_outcome.specs.Outside.{UsesFlashAs, Outside, Sources, known_from, known_in, sources}
+
+-- where the contents are known, these are the data of the stream of this name
+abbrev pub HasData : Option Known → List ℕ → List ℕ → Type 0
+HasData None stream bytes = Unit {0}
+HasData (Some known) stream bytes = stream_data known stream ≡ Ok bytes
+
+-- What may be found of a flash: what it held; or, of a form with a stream for it, what an update may leave with the
+-- stream's data, or with some bytes where the contents aren't known.
+abbrev pub MayBeFound : Option Known → Option (List ℕ) → List ℕ → List ℕ → Type 0
+MayBeFound known None flash found = found ≡ flash
+MayBeFound known (Some stream) flash found = (found ≡ flash) ⊎ ((bytes : List ℕ) × HasData known stream bytes × MayBeLeft bytes flash found)
+
+-- what a run does to the flash, and what may be found of it at any moment of the run and is left of it
+pub record UsesFlash (form : Option AskedForm) (old : Sources) (new : FlashState) (past since : ℕ → List ℕ → Type 0) : Type 0 where
+  pub keeps : UsesFlashAs (flash_use form) old.flash new
+  pub moments : AtAnyMoment old.flash new past since (MayBeFound (known_from old) (updated_by form))
+
+-- what a call for a form does to the flash, over these inputs, and what may be found of it at any moment of the call
+abbrev pub CallUsesFlash : {F : Type 0} → FlashModel F → Option AskedForm → InputsState → F → F → Type 0
+CallUsesFlash f form inputs old new = UsesFlash form (sources inputs (f.state old)) (f.state new) (f.found_since old) (f.found_since new)
+
+-- by the reason of an update that wasn't done: the bytes stay, but where a write or a
+-- read of the flash failed, or a byte differs
+abbrev pub BytesAfterReason : Why → FlashState → FlashState → Type 0
+BytesAfterReason why.ReadFault old new = FlashFails old new ⊎ (new.bytes ≡ old.bytes)
+BytesAfterReason why.WriteFault old new = Unit {0}
+BytesAfterReason (why.Differs place) old new = Unit {0}
+BytesAfterReason reason old new = new.bytes ≡ old.bytes
+
+-- An update that is done leaves the flash as it is after one with the stream's data. One that
+-- isn't leaves its bytes, as its reason says.
+abbrev pub UpdateLeaves : Option (List ℕ) → Outside → Outside → Result Answer Event → Type 0
+UpdateLeaves None old new end = Unit {0}
+UpdateLeaves (Some stream) old new (Ok answer) = (bytes : List ℕ) × HasData (known_in old) stream bytes × Becomes old.flash new.flash (IsAfterUpdate bytes)
+UpdateLeaves (Some stream) old new (Err event) = BytesAfterReason event.reason old.flash new.flash

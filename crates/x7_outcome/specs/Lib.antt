@@ -1,0 +1,12 @@
+pub mod Ahead
+pub mod Boot
+pub mod Ending
+pub mod Feeding
+pub mod Generate
+pub mod Leaving
+pub mod Outcome
+pub mod Outside
+pub mod Play
+pub mod Ready
+pub mod Stopping
+pub mod Stream

@@ -1,0 +1,48 @@
+-- Where reading stops: which input is asked for last, how often inputs were asked for till then, and how much is given
+-- of the last (this project's choice).
+use Rattle.std.specs.Prelude.{◌≡◌, ℕ, List, [], ◌∷◌, Option, None, Some, Result, Ok, Err, ◌⊎◌}
+use Rattle.x7_words.specs.Input.{InputsState}
+use Rattle.x7_boot.specs.Image.{flash_limit}
+use Rattle.x7_forms.specs.Event.{Absence, ReasonCause, Contents, Event, Fault, cause_of_event, too_many_reads}
+use Rattle.x7_forms.specs.Form.{AskedForm, Assembling, Booting, Debugging, FromMcs, Generating, Imaging, ImagingFor, Listing, PlanningFull, PlanningPartial, PlanningRead, Playing, PlayingSvf, ToMcs, UpdatingFlash, flash_names}
+use Rattle.x7_forms.specs.Known.{part_limit, stream_limit}
+use Rattle.x7_forms.specs.Step.{Among}
+use Rattle.x7_forms.specs.ReadingStops.{Limited, StopsAt, limited, limited_together}
+use Rattle.x7_outcome.specs.Outcome.{script_limit, text_limit}
+
+-- the inputs that a form reads, in the order of its words, each with the most bytes that it may have
+abbrev pub inputs_of : Option (List ℕ → Option (List ℕ)) → AskedForm → List Limited
+inputs_of contents (Listing stream) = limited stream_limit stream ∷ []
+inputs_of contents (Assembling text) = limited text_limit text ∷ []
+inputs_of contents (Playing part streams) = limited part_limit part ∷ limited_together contents stream_limit streams
+inputs_of contents (Debugging part stream script) = limited part_limit part ∷ limited stream_limit stream ∷ limited script_limit script ∷ []
+inputs_of contents (PlayingSvf part text) = limited part_limit part ∷ limited text_limit text ∷ []
+inputs_of contents (PlanningFull part frames) = limited part_limit part ∷ limited text_limit frames ∷ []
+inputs_of contents (PlanningPartial part frames) = limited part_limit part ∷ limited text_limit frames ∷ []
+inputs_of contents (PlanningRead part far n) = limited part_limit part ∷ []
+inputs_of contents (Generating part seed) = limited part_limit part ∷ []
+inputs_of contents (Imaging golden update) = limited stream_limit golden ∷ limited stream_limit update ∷ []
+inputs_of contents (ImagingFor part golden update) = limited part_limit part ∷ limited stream_limit golden ∷ limited stream_limit update ∷ []
+inputs_of contents (Booting part flash) = limited part_limit part ∷ []
+inputs_of contents (UpdatingFlash flash stream) = limited stream_limit stream ∷ []
+inputs_of contents (ToMcs image) = limited flash_limit image ∷ []
+inputs_of contents (FromMcs text) = limited text_limit text ∷ []
+
+-- an event names the form's flash, the words that were read out, or the input at which reading stopped
+abbrev pub NamesItsStop : AskedForm → InputsState → InputsState → Event → Type 0
+NamesItsStop form old now event = Among (flash_names (Some form)) event.concerned ⊎ ((event ≡ too_many_reads) ⊎ StopsAt (inputs_of old.contents form) old now event)
+
+-- by the cause of an event: one that lies in what an input or a flash holds, in its fault or in its absence names where
+-- the command stopped; of any other nothing is said
+abbrev pub StopsBy : ReasonCause → AskedForm → InputsState → InputsState → Event → Type 0
+StopsBy Fault form old now event = NamesItsStop form old now event
+StopsBy Absence form old now event = NamesItsStop form old now event
+StopsBy Contents form old now event = NamesItsStop form old now event
+StopsBy _ form old now event = Unit {0}
+
+-- where an input ends a command, no later one was asked for, no earlier one twice, and no more
+-- than a byte over its limit was given of it
+abbrev pub StopsReading : {A : Type 0} → Option AskedForm → InputsState → InputsState → Result A Event → Type 0
+StopsReading None old now end = Unit {0}
+StopsReading (Some form) old now (Ok a) = Unit {0}
+StopsReading (Some form) old now (Err event) = StopsBy (cause_of_event event) form old now event

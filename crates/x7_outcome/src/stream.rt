@@ -1,0 +1,73 @@
+//! Streams that are read whole, each within the limit of a stream, whatever the others have.
+ghost use Rattle.std.specs.Prelude.{◌≡◌, ◌≤◌, [], ◌∷◌, IfErr, IfOk, length};
+ghost use Rattle.x7_words.specs.Input.{AsksAtMost, InputsStay};
+ghost use Rattle.x7_outcome.specs.Outcome.{stream_data};
+ghost use Rattle.x7_forms.specs.Known.{stream_limit};
+ghost use Rattle.x7_forms.specs.Event.{event_of};
+ghost use Rattle.x7_forms.specs.Turn.{IsLastAsked};
+ghost use Rattle.x7_forms.specs.Step.{AnswersAs, IsUnplayed, result_by, step_over};
+ghost use Rattle.x7_outcome.specs.Stream.{data_from};
+
+use std::alloc::Global;
+use x7_forms::{Refusal, STREAM_LIMIT, data_start, read_whole};
+use x7_words::Inputs;
+
+/// A stream that was read whole, and where its data begin.
+#[derive(Drop)]
+pub struct Stream {
+    /// All bytes of the stream.
+    pub bytes: Vec<u8>,
+    /// Where the data begin, in bytes from 0.
+    pub start: usize,
+}
+
+/// Reads a stream whole: one that is too large is refused before its header is looked at.
+pub fn read_stream<'w, I: Inputs>(
+    alloc: Global,
+    inputs: &mut I,
+    name: &'w str,
+) -> Result<Stream, Refusal<'w>>
+    ensures caused { AnswersAs (step_over (name.now ∷ []) (I.state inputs.old) (I.state inputs.new))
+        (λ known. stream_data known name.now) (result_by data_from result) }
+    ensures named { IfErr result (λ r. IsUnplayed name.now (event_of r)) }
+    ensures last_asked { IsLastAsked name.now stream_limit (I.state inputs.new) }
+    ensures within { IfOk result (λ stream. stream.start ≤ length stream.bytes.items) }
+    ensures asks { AsksAtMost (I.state inputs.old) 1 (I.state inputs.new) }
+    ensures inputs { InputsStay (I.state inputs.old) (I.state inputs.new) }
+{
+    let bytes = read_whole(alloc, inputs, name, STREAM_LIMIT)?;
+    let start = data_start(name, &bytes)?;
+    Ok(Stream { bytes, start })
+}
+
+/// The data of a stream, in the room of its bytes.
+fn into_data(stream: Stream) -> Vec<u8>
+    requires { stream.start ≤ length stream.bytes.items }
+    ensures { result.items ≡ data_from stream }
+{
+    let Stream { mut bytes, start } = stream;
+    if start == 0 {
+        return bytes;
+    }
+    let end = bytes.len();
+    bytes.copy_within(start..end, 0);
+    bytes.truncate(end - start);
+    bytes
+}
+
+/// Reads a stream, and keeps its data alone: what follows its header, where it has one.
+pub fn read_data<'w, I: Inputs>(
+    alloc: Global,
+    inputs: &mut I,
+    name: &'w str,
+) -> Result<Vec<u8>, Refusal<'w>>
+    ensures caused { AnswersAs (step_over (name.now ∷ []) (I.state inputs.old) (I.state inputs.new))
+        (λ known. stream_data known name.now) (result_by (λ bytes. bytes.items) result) }
+    ensures named { IfErr result (λ r. IsUnplayed name.now (event_of r)) }
+    ensures last_asked { IsLastAsked name.now stream_limit (I.state inputs.new) }
+    ensures asks { AsksAtMost (I.state inputs.old) 1 (I.state inputs.new) }
+    ensures inputs { InputsStay (I.state inputs.old) (I.state inputs.new) }
+{
+    let stream = read_stream(alloc, inputs, name)?;
+    Ok(into_data(stream))
+}

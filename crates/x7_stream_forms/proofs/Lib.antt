@@ -1,0 +1,9 @@
+pub mod AheadLemmas
+pub mod AsmLemmas
+pub mod Causes
+pub mod FullTextLemmas
+pub mod McsLemmas
+pub mod PlanLemmas
+pub mod ReadyLemmas
+pub mod StopLemmas
+pub mod TurnLemmas

@@ -1,0 +1,4 @@
+pub mod Between
+pub mod FullText
+pub mod Image
+pub mod Plan

@@ -1,7 +1,0 @@
--- What the command `svf` reads, a part and an SVF text, as its definitions see them (this project's choice).
-use Rattle.x7_tool.specs.declared.svf.Given.{Given}
-use Rattle.x7_tool.specs.Outcome.{PartAndText}
-
--- a part and an SVF text that were read
-abbrev pub svf_given : Given → PartAndText
-svf_given g = record { part = g.part; text = g.text.items }
