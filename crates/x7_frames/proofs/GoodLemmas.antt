@@ -1,8 +1,8 @@
 -- Good lines, one more, and the line at fault.
-use Rattle.std.proofs.Common.{◌≡◌, inl, inr, ℕ, zero, suc, ◌+◌, ◌<◌, ◌≤◌, Bool, true, false, List, [], ◌∷◌, ◌++◌, length, get_or, set, refl, sym, subst, ap, ◌∙◌, arith}
+use Rattle.std.proofs.Common.{◌≡◌, inl, inr, ℕ, zero, suc, ◌+◌, ◌<◌, ◌≤◌, Bool, true, false, List, [], ◌∷◌, ◌++◌, length, get_or, replicate, set, refl, sym, subst, ap, ◌∙◌, arith}
 use Rattle.std.specs.Prelude.{Contains, Result, Ok, Err, OnErr, OnOk, ◌↔◌, slice_index}
-use Rattle.std.proofs.lemmas.Bool.{cases_order}
-use Rattle.std.proofs.lemmas.List.{get_or_append_left, get_or_push, get_or-map, length-map, length_push, map_push, get_or-set_same, get_or-set_other, length-set}
+use Rattle.std.proofs.lemmas.Bool.{cases_order, false≢true}
+use Rattle.std.proofs.lemmas.List.{get_or_append_left, get_or_push, get_or-map, length-map, length_push, map_push, get_or-replicate, get_or-set_same, get_or-set_other, length-replicate, length-set}
 use Rattle.std.proofs.lemmas.List.Elements.{All-push, All-nil, Contains-push, Contains-push_cases, Contains-append_left}
 use Rattle.x7_part.specs.AddressOrder.{addresses_in, Rises, risen, rise}
 use Rattle.x7_part.specs.Part.{PartData, frame_words}
@@ -87,6 +87,18 @@ rises_apart least _ zero zero d (rise l x xs le more) h k e = refl
 rises_apart least _ zero (suc j) d (rise l x xs le more) h k e = let low = rises_at (x + 1) xs j d more (omega arith) in absurd (omega arith)
 rises_apart least _ (suc i) zero d (rise l x xs le more) h k e = let low = rises_at (x + 1) xs i d more (omega arith) in absurd (omega arith)
 rises_apart least _ (suc i) (suc j) d (rise l x xs le more) h k e = ap suc (rises_apart (x + 1) xs i j d more (omega arith) (omega arith) e)
+
+-- no address is marked before the first line
+pub no_marks : (part : PartData) (marks : List Bool) (count : ℕ) → Rises 0 (addresses_in part) → count ≡ length (addresses_in part) → marks ≡ replicate count false → HasMarks part [] marks
+no_marks part marks count order counted is =
+    subst (HasMarks part []) (sym is) (record {
+      order = order;
+      long = length-replicate count false ∙ counted;
+      at = λ r h. (
+        λ marked. absurd (false≢true (sym (get_or-replicate count r false false (omega (arith, h, length-replicate count false))) ∙ marked)),
+        λ has. absurd (let none = has.1 in omega (arith, none)),
+      );
+    })
 
 pub marks_more : (part : PartData) (rows new : List PlanRow) (marks : List Bool) (r : ℕ) (row : PlanRow) → HasMarks part rows marks
     → r < length (addresses_in part) → slice_index (addresses_in part) r ≡ row.far → new ≡ rows ++ row ∷ [] → HasMarks part new (set marks r true)

@@ -33,14 +33,11 @@ impl MarkedDraft {
         ensures marks { IfOk result (λ marked. HasMarks part.now [] marked.marks.items) }
         ensures room { IfOk result (λ marked. frame_words part.now ≤ vec_capacity marked.frame) }
     {
-        let width = part.words() as usize;
-        let draft = Draft::with_room(alloc, part.words(), part.frames() as usize)?;
-        let marks = vec![in alloc; false; part.frames() as usize]?;
-        let frame = Vec::with_capacity(alloc, width)?;
+        let frame_count = part.frames() as usize;
         Ok(MarkedDraft {
-            draft,
-            marks,
-            frame,
+            draft: Draft::with_room(alloc, part.words(), frame_count)?,
+            marks: vec![in alloc; false; frame_count]?,
+            frame: Vec::with_capacity(alloc, part.words() as usize)?,
         })
     }
 

@@ -1,6 +1,6 @@
 -- Values that passed the checks of their ranges.
 use Rattle.std.proofs.Common.{◌≡◌, ℕ, ◌+◌, ◌≤◌, ◌%◌, ◌==◌, ◌||◌, ℤ, pos, negsuc, List, [], ◌∷◌, length, map, Bool, Option, None, Some, true, false, inl, inr, ◌&&◌, nat_le, leb-true, refl, sym, ◌∙◌, arith}
-use Rattle.std.specs.Prelude.{All, int_le, unwrap_or, ◌⊎◌}
+use Rattle.std.specs.Prelude.{All, int_le, unwrap_or, option_and_then, not, is_some, ◌⊎◌}
 use Rattle.std.specs.List.{AllByRecursion}
 use Rattle.std.proofs.lemmas.Bool.{and_parts, false≢true}
 use Rattle.std.proofs.lemmas.Bool.Decides.{eqb_tells}
@@ -12,8 +12,10 @@ use Rattle.x7_part.specs.declared.fault.PartKey.TheVariants as key
 use Rattle.x7_part.specs.Keys.{in_row}
 use Rattle.x7_part.specs.Limits.{first_printed, greatest_block, greatest_half, greatest_idcode, greatest_row, half_width, last_printed, least_block_width, least_column_width, least_minor_width, least_row_width, most_address_width, most_block_width, most_column_width, most_columns, most_minor_width, most_minors, most_name_size, most_row_width, IsStartUnit}
 use Rattle.x7_part.specs.Address.{IsRow, AreWidths}
-use Rattle.x7_part.specs.Values.{RowValues, natural, row_by_values, widths_of}
-use Rattle.x7_part.specs.PartChecks.{unless, first_of, rows_fault, next_row_number, is_in, is_length_in, are_printed, is_name, is_odd, is_start_unit, are_in, are_minors, are_widths, are_widths_or_none, row_range_fault}
+use Rattle.x7_part.specs.Values.{under, items_under, wholes, natural, row_of, widths_of}
+use Rattle.x7_part.specs.Part.{usual_widths}
+use Rattle.toml.specs.Data.{Data, Members, no_items, as_array}
+use Rattle.x7_part.specs.PartChecks.{unless, first_of, rows_fault, next_row_number, is_in, is_length_in, are_printed, is_name, is_odd, is_start_unit, are_in, are_minors, are_widths, has_widths, is_up_to, row_range_fault}
 use Rattle.x7_part.proofs.OrderLemmas.{unless_none, first_none}
 
 -- where no check finds a fault, none of them does
@@ -86,11 +88,18 @@ widths_are (a ∷ b ∷ c ∷ d ∷ e ∷ []) h =
       sum = leb-true (natural a + natural b + natural c + natural d + natural e) most_address_width t.1;
     }
 
+usual_are : AreWidths usual_widths
+usual_are = record { minor = (omega arith, omega arith); column = (omega arith, omega arith); row = (omega arith, omega arith); half = refl; block = (omega arith, omega arith); sum = omega arith }
+
+far_by : (value : Option Data) → (not (is_some value) || are_widths (wholes (unwrap_or (option_and_then as_array value) no_items))) ≡ true →
+    AreWidths (widths_of (wholes (unwrap_or (option_and_then as_array value) no_items)))
+far_by None h = usual_are
+far_by (Some d) h = widths_are (wholes (unwrap_or (as_array d) no_items)) h
+
 -- widths in range, or the usual ones
-pub far_is : (given : Option (List ℤ)) → are_widths_or_none given ≡ true → AreWidths (widths_of (unwrap_or given []))
-unfolding are_widths_or_none
-far_is None h = record { minor = (omega arith, omega arith); column = (omega arith, omega arith); row = (omega arith, omega arith); half = refl; block = (omega arith, omega arith); sum = omega arith }
-far_is (Some zs) h = widths_are zs h
+pub far_is : (t : Members) → has_widths t ≡ true → AreWidths (widths_of (wholes (items_under key.Far t)))
+unfolding has_widths
+far_is t h = far_by (under key.Far t) h
 
 minors_in : (zs : List ℤ) → are_in 1 most_minors zs ≡ true → All (λ n. (1 ≤ n) × (n ≤ most_minors)) (map natural zs)
 minors_in [] h = All-nil (λ n. (1 ≤ n) × (n ≤ most_minors))
@@ -115,26 +124,26 @@ minors_are zs fault e =
       each = minors_in zs m.1;
     }
 
-row_is : (n : ℕ) (v : RowValues) → row_range_fault n v ≡ None → IsRow (row_by_values v)
-row_is n v e =
+row_is : (n : ℕ) (t : Members) → row_range_fault n t ≡ None → IsRow (row_of t)
+row_is n t e =
     let none = nones (
-    unless (is_in 0 greatest_block v.block) (Range (in_row n key.Block))
-    ∷ unless (is_in 0 greatest_half v.half) (Range (in_row n key.Half))
-    ∷ unless (is_in 0 greatest_row v.row) (Range (in_row n key.Row))
-    ∷ unless (are_minors v.minors) (Range (in_row n key.Minors))
+    unless (is_up_to greatest_block key.Block t) (Range (in_row n key.Block))
+    ∷ unless (is_up_to greatest_half key.Half t) (Range (in_row n key.Half))
+    ∷ unless (is_up_to greatest_row key.Row t) (Range (in_row n key.Row))
+    ∷ unless (are_minors (wholes (items_under key.Minors t))) (Range (in_row n key.Minors))
     ∷ []) e in
-    let m = minors_are v.minors (Range (in_row n key.Minors)) none.1.1.1.0 in
+    let m = minors_are (wholes (items_under key.Minors t)) (Range (in_row n key.Minors)) none.1.1.1.0 in
     record {
-      block = (in_range 0 greatest_block v.block (unless_none (is_in 0 greatest_block v.block) (Range (in_row n key.Block)) none.0)).1;
-      half = (in_range 0 greatest_half v.half (unless_none (is_in 0 greatest_half v.half) (Range (in_row n key.Half)) none.1.0)).1;
-      row = (in_range 0 greatest_row v.row (unless_none (is_in 0 greatest_row v.row) (Range (in_row n key.Row)) none.1.1.0)).1;
+      block = (in_range 0 greatest_block _ (unless_none (is_up_to greatest_block key.Block t) (Range (in_row n key.Block)) none.0)).1;
+      half = (in_range 0 greatest_half _ (unless_none (is_up_to greatest_half key.Half t) (Range (in_row n key.Half)) none.1.0)).1;
+      row = (in_range 0 greatest_row _ (unless_none (is_up_to greatest_row key.Row t) (Range (in_row n key.Row)) none.1.1.0)).1;
       some = m.some;
       columns = m.columns;
       minors = m.each;
     }
 
-pub rows_are : (n : ℕ) (vs : List RowValues) → rows_fault row_range_fault n vs ≡ None → All IsRow (map row_by_values vs)
+pub rows_are : (n : ℕ) (ts : List Members) → rows_fault row_range_fault n ts ≡ None → All IsRow (map row_of ts)
 rows_are n [] e = All-nil IsRow
-rows_are n (v ∷ vs) e =
-    let p = nones (row_range_fault n v ∷ rows_fault row_range_fault (next_row_number n) vs ∷ []) e in
-    All-cons IsRow (row_by_values v) (map row_by_values vs) (row_is n v p.0) (rows_are (next_row_number n) vs p.1.0)
+rows_are n (t ∷ ts) e =
+    let p = nones (row_range_fault n t ∷ rows_fault row_range_fault (next_row_number n) ts ∷ []) e in
+    All-cons IsRow (row_of t) (map row_of ts) (row_is n t p.0) (rows_are (next_row_number n) ts p.1.0)

@@ -10,4 +10,3 @@ pub mod Ranges
 pub mod Row
 pub mod Slot
 pub mod Values
-pub mod ValueFields

@@ -1,13 +1,19 @@
 -- The checks of a part file's keys and values, in their order (this project's choice).
-use Rattle.std.specs.Prelude.{ℕ, ◌≡◌, ◌⊎◌, ◌+◌, ◌-◌, ◌^◌, ◌%◌, min, ℤ, pos, List, [], ◌∷◌, length, Bool, true, false, ◌&&◌, ◌||◌, ◌==◌, nat_le, Option, Some, None, is_some, int_le, Result, Ok, Err}
+use Rattle.std.specs.Prelude.{ℕ, ◌≡◌, ◌⊎◌, ◌+◌, ◌-◌, ◌^◌, ◌%◌, min, ℤ, pos, List, [], ◌∷◌, length, map, Bool, true, false, ◌&&◌, ◌||◌, not, ◌==◌, nat_le, if◌then◌else◌, Option, Some, None, is_some, int_le, Result, Ok, Err}
 use Rattle.toml.specs.Data.{Data, Items, no_items, item, Members, as_str, as_integer, array, as_table}
+use Rattle.x7_part.specs.declared.checks.Check.{Check}
+use Rattle.x7_part.specs.declared.checks.Check.TheVariants.{Types, Names}
+use Rattle.x7_part.specs.declared.fault.PartKey.{PartKey}
 use Rattle.x7_part.specs.declared.fault.PartKey.TheVariants as key
+use Rattle.x7_part.specs.declared.keys.KeyRule.{KeyRule}
+use Rattle.x7_part.specs.declared.keys.Kind.{Kind}
+use Rattle.x7_part.specs.declared.keys.Kind.TheVariants.{Text, Whole, Table}
 use Rattle.x7_part.specs.declared.fault.PartFault.{PartFault}
 use Rattle.x7_part.specs.declared.fault.PartFault.TheVariants.{Key, Range, NoMemory}
-use Rattle.x7_part.specs.Limits.{first_printed, greatest_block, greatest_bus_width, greatest_half, greatest_idcode, greatest_mode, greatest_row, half_width, last_printed, least_block_width, least_column_width, least_frame_words, least_minor_width, least_row_width, most_address_width, most_block_width, most_column_width, most_columns, most_frame_words, most_minor_width, most_minors, most_name_size, most_row_width, most_rows, most_wait_ticks}
-use Rattle.x7_part.specs.Keys.{top, in_row}
+use Rattle.x7_part.specs.Limits.{first_printed, greatest_block, greatest_bus_width, greatest_half, greatest_idcode, greatest_mode, greatest_row, half_width, last_printed, least_block_width, least_column_width, least_frame_words, least_minor_width, least_row_width, most_address_width, most_block_width, most_column_width, most_columns, most_frame_words, most_minor_width, most_minors, most_name_size, most_row_width, most_rows, most_wait_ticks, usual_frame_words}
+use Rattle.x7_part.specs.Keys.{top, in_row, top_keys, row_keys, has_only}
 use Rattle.x7_part.specs.Address.{address_width}
-use Rattle.x7_part.specs.Values.{under, row_tables, RowValues, TopValues, natural, widths_of}
+use Rattle.x7_part.specs.Values.{under, text, number_or, items_under, wholes, row_tables, natural, widths_of}
 
 -- ---- faults in order
 
@@ -43,78 +49,57 @@ rows_fault check n (row ∷ rows) = first_of (check n row ∷ rows_fault check (
 
 -- ---- types
 
--- each item is a whole number
-abbrev pub are_wholes : Items → Bool
-are_wholes no_items = true
-are_wholes (item d ds) = is_some (as_integer d) && are_wholes ds
+-- a value is of a kind
+abbrev pub is_kind : Kind → Data → Bool
+is_kind Text d = is_some (as_str d)
+is_kind Whole d = is_some (as_integer d)
+is_kind Table d = is_some (as_table d)
 
--- each item is a table
-abbrev pub are_tables : Items → Bool
-are_tables no_items = true
-are_tables (item d ds) = is_some (as_table d) && are_tables ds
+-- each item is of a kind
+abbrev pub are_kind : Kind → Items → Bool
+are_kind kind no_items = true
+are_kind kind (item d ds) = is_kind kind d && are_kind kind ds
 
--- a value is a text
-abbrev pub is_text : Data → Bool
-is_text d = is_some (as_str d)
+-- a value is a list whose items are of a kind
+abbrev pub is_list_of : Kind → Data → Bool
+is_list_of kind (array ds) = are_kind kind ds
+is_list_of _ _ = false
 
--- a value is a whole number
-abbrev pub is_whole : Data → Bool
-is_whole d = is_some (as_integer d)
+-- a key may have this value; no value stands for a key that is left out
+abbrev pub allows : KeyRule → Option Data → Bool
+allows rule None = rule.is_optional
+allows rule (Some d) = if rule.is_list then is_list_of rule.holds d else is_kind rule.holds d
 
--- a value is a list of whole numbers
-abbrev pub is_list_of_wholes : Data → Bool
-is_list_of_wholes (array ds) = are_wholes ds
-is_list_of_wholes _ = false
+-- ---- the keys of all tables
 
--- a value is a list of tables
-abbrev pub is_list_of_tables : Data → Bool
-is_list_of_tables (array ds) = are_tables ds
-is_list_of_tables _ = false
+-- the fault of a key of the top table, or of row n
+abbrev pub key_fault : Option ℕ → PartKey → PartFault
+key_fault row k = Key (record { row = row; key = k })
 
--- a key has a value, which is of the type
-abbrev pub has_value : (Data → Bool) → Option Data → Bool
-has_value type None = false
-has_value type (Some d) = type d
+-- the first key of a table that is missing or has a value of another type
+abbrev pub types_fault : Option ℕ → List KeyRule → Members → Option PartFault
+types_fault row keys t = first_of (map (λ rule. unless (allows rule (under rule.key t)) (key_fault row rule.key)) keys)
 
--- a key is left out, or has a value of the type
-abbrev pub may_have_value : (Data → Bool) → Option Data → Bool
-may_have_value type None = true
-may_have_value type (Some d) = type d
+-- an unknown key of a table
+abbrev pub names_fault : Option ℕ → List KeyRule → Members → Option PartFault
+names_fault row keys t = unless (has_only keys t) (key_fault row key.Other)
 
--- the first key of a row that is missing or has a value of another type
-abbrev pub row_type_fault : ℕ → Members → Option PartFault
-row_type_fault n t = first_of (
-    unless (has_value is_whole (under key.Block t)) (Key (in_row n key.Block))
-    ∷ unless (has_value is_whole (under key.Half t)) (Key (in_row n key.Half))
-    ∷ unless (has_value is_whole (under key.Row t)) (Key (in_row n key.Row))
-    ∷ unless (has_value is_list_of_wholes (under key.Minors t)) (Key (in_row n key.Minors))
-    ∷ [])
+-- what a check finds in a table, the top one or that of row n, that may have these keys
+abbrev pub check_fault : Check → Option ℕ → List KeyRule → Members → Option PartFault
+check_fault Types = types_fault
+check_fault Names = names_fault
 
--- the first key of a part file that is missing or has a value of another type, at the top and then row by row
+-- the first fault that a check finds, at the top and then row by row
+abbrev pub tables_fault : Check → Members → Option PartFault
+tables_fault check t = first_of (check_fault check None top_keys t ∷ rows_fault (λ n. check_fault check (Some n) row_keys) 1 (row_tables t) ∷ [])
+
+-- the first key of a part file that is missing or has a value of another type
 unfoldable pub type_fault : Members → Option PartFault
-type_fault t = first_of (
-    unless (has_value is_text (under key.Name t)) (Key (top key.Name))
-    ∷ unless (has_value is_whole (under key.Idcode t)) (Key (top key.Idcode))
-    ∷ unless (may_have_value is_whole (under key.Mode t)) (Key (top key.Mode))
-    ∷ unless (may_have_value is_whole (under key.BusWidth t)) (Key (top key.BusWidth))
-    ∷ unless (may_have_value is_whole (under key.Lock t)) (Key (top key.Lock))
-    ∷ unless (may_have_value is_whole (under key.Match t)) (Key (top key.Match))
-    ∷ unless (may_have_value is_whole (under key.FrameWords t)) (Key (top key.FrameWords))
-    ∷ unless (may_have_value is_list_of_wholes (under key.Far t)) (Key (top key.Far))
-    ∷ unless (may_have_value is_whole (under key.StartUnit t)) (Key (top key.StartUnit))
-    ∷ unless (has_value is_list_of_tables (under key.Row t)) (Key (top key.Row))
-    ∷ rows_fault row_type_fault 1 (row_tables t)
-    ∷ [])
+type_fault t = tables_fault Types t
 
--- ---- unknown keys
-
--- an unknown key of row n
-abbrev pub row_other_fault : ℕ → RowValues → Option PartFault
-row_other_fault n v = unless v.has_only_known_keys (Key (in_row n key.Other))
-
--- an unknown key, at the top and then row by row
-unfoldable pub other_fault : TopValues → Option PartFault
-other_fault v = first_of (unless v.has_only_known_keys (Key (top key.Other)) ∷ rows_fault row_other_fault 1 v.rows ∷ [])
+-- the first unknown key of a part file
+unfoldable pub other_fault : Members → Option PartFault
+other_fault t = tables_fault Names t
 
 -- ---- ranges
 
@@ -152,10 +137,9 @@ are_widths (minor ∷ column ∷ row ∷ half ∷ block ∷ []) =
     && nat_le (address_width (widths_of (minor ∷ column ∷ row ∷ half ∷ block ∷ []))) most_address_width)
 are_widths _ = false
 
--- the widths of the five fields may be left out
-unfoldable pub are_widths_or_none : Option (List ℤ) → Bool
-are_widths_or_none None = true
-are_widths_or_none (Some zs) = are_widths zs
+-- the widths of the five fields are in range, or left out
+unfoldable pub has_widths : Members → Bool
+has_widths t = not (is_some (under key.Far t)) || are_widths (wholes (items_under key.Far t))
 
 -- each number is in a range
 abbrev pub are_in : ℕ → ℕ → List ℤ → Bool
@@ -166,36 +150,34 @@ are_in low high (z ∷ zs) = is_in low high z && are_in low high zs
 abbrev pub are_minors : List ℤ → Bool
 are_minors zs = is_length_in 1 most_columns (length zs) && are_in 1 most_minors zs
 
+-- the number under a key, 0 where there is none, is at most `high`
+abbrev pub is_up_to : ℕ → PartKey → Members → Bool
+is_up_to high k t = is_in 0 high (number_or 0 k t)
+
 -- the first value of a row that is out of range
-abbrev pub row_range_fault : ℕ → RowValues → Option PartFault
-row_range_fault n v = first_of (
-    unless (is_in 0 greatest_block v.block) (Range (in_row n key.Block))
-    ∷ unless (is_in 0 greatest_half v.half) (Range (in_row n key.Half))
-    ∷ unless (is_in 0 greatest_row v.row) (Range (in_row n key.Row))
-    ∷ unless (are_minors v.minors) (Range (in_row n key.Minors))
+abbrev pub row_range_fault : ℕ → Members → Option PartFault
+row_range_fault n t = first_of (
+    unless (is_up_to greatest_block key.Block t) (Range (in_row n key.Block))
+    ∷ unless (is_up_to greatest_half key.Half t) (Range (in_row n key.Half))
+    ∷ unless (is_up_to greatest_row key.Row t) (Range (in_row n key.Row))
+    ∷ unless (are_minors (wholes (items_under key.Minors t))) (Range (in_row n key.Minors))
     ∷ [])
 
--- the first number of the top table that is out of range
-unfoldable pub number_range_fault : TopValues → Option PartFault
-number_range_fault v = first_of (
-    unless (is_odd v.idcode) (Range (top key.Idcode))
-    ∷ unless (is_in 0 greatest_mode v.mode) (Range (top key.Mode))
-    ∷ unless (is_in 0 greatest_bus_width v.bus_width) (Range (top key.BusWidth))
-    ∷ unless (is_in 0 most_wait_ticks v.lock) (Range (top key.Lock))
-    ∷ unless (is_in 0 most_wait_ticks v.matched) (Range (top key.Match))
-    ∷ unless (is_in least_frame_words most_frame_words v.frame_words) (Range (top key.FrameWords))
-    ∷ unless (are_widths_or_none v.far) (Range (top key.Far))
-    ∷ unless (is_start_unit v.start_unit) (Range (top key.StartUnit))
-    ∷ [])
-
--- the first value of the top table that is out of range: the name, the numbers, how many rows there are
-unfoldable pub top_range_fault : TopValues → Option PartFault
-top_range_fault v = first_of (
-    unless (is_name v.name) (Range (top key.Name))
-    ∷ number_range_fault v
-    ∷ unless (is_length_in 1 most_rows (length v.rows)) (Range (top key.Row))
+-- the first value of the top table that is out of range
+unfoldable pub top_range_fault : Members → Option PartFault
+top_range_fault t = first_of (
+    unless (is_name (text key.Name t)) (Range (top key.Name))
+    ∷ unless (is_odd (number_or 0 key.Idcode t)) (Range (top key.Idcode))
+    ∷ unless (is_up_to greatest_mode key.Mode t) (Range (top key.Mode))
+    ∷ unless (is_up_to greatest_bus_width key.BusWidth t) (Range (top key.BusWidth))
+    ∷ unless (is_up_to most_wait_ticks key.Lock t) (Range (top key.Lock))
+    ∷ unless (is_up_to most_wait_ticks key.Match t) (Range (top key.Match))
+    ∷ unless (is_in least_frame_words most_frame_words (number_or usual_frame_words key.FrameWords t)) (Range (top key.FrameWords))
+    ∷ unless (has_widths t) (Range (top key.Far))
+    ∷ unless (is_start_unit (number_or 1 key.StartUnit t)) (Range (top key.StartUnit))
+    ∷ unless (is_length_in 1 most_rows (length (row_tables t))) (Range (top key.Row))
     ∷ [])
 
 -- the first value of a part file that is out of range, at the top and then row by row
-unfoldable pub range_fault : TopValues → Option PartFault
-range_fault v = first_of (top_range_fault v ∷ rows_fault row_range_fault 1 v.rows ∷ [])
+unfoldable pub range_fault : Members → Option PartFault
+range_fault t = first_of (top_range_fault t ∷ rows_fault row_range_fault 1 (row_tables t) ∷ [])

@@ -7,19 +7,17 @@ use Rattle.toml.specs.Errors.{IsBlank}
 use Rattle.x7_part.specs.declared.fault.PartFault.{PartFault}
 use Rattle.x7_part.specs.declared.fault.PartFault.TheVariants.{Toml}
 use Rattle.x7_part.specs.Part.{PartData}
-use Rattle.x7_part.specs.Values.{top_values, settings_by_values, part_with, rows_in_file}
+use Rattle.x7_part.specs.Values.{settings_of, part_with, rows_in_file}
 use Rattle.x7_part.specs.PartChecks.{first_of, type_fault, other_fault, range_fault}
 use Rattle.x7_part.specs.Row.{same_row_fault, frames_fault, sorted_rows}
 
 -- the first fault of a part file's table: types, unknown keys, ranges, the same row twice, too many frames
 unfoldable pub first_fault : Members → Option PartFault
-first_fault t =
-    let v = top_values t in
-    first_of (type_fault t ∷ other_fault v ∷ range_fault v ∷ same_row_fault [] (rows_in_file t) ∷ frames_fault (part_with v (rows_in_file t)) ∷ [])
+first_fault t = first_of (type_fault t ∷ other_fault t ∷ range_fault t ∷ same_row_fault [] (rows_in_file t) ∷ frames_fault (part_with t (rows_in_file t)) ∷ [])
 
 -- the part of a table: its rows stand in number order
 unfoldable pub part_from : Members → PartData
-part_from t = part_with (top_values t) (sorted_rows (settings_by_values (top_values t)).field_widths (rows_in_file t))
+part_from t = part_with t (sorted_rows (settings_of t).field_widths (rows_in_file t))
 
 -- the part of a table in which the checks found this fault or none
 abbrev pub part_unless : Members → Option PartFault → Result PartData PartFault

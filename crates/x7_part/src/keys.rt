@@ -1,53 +1,44 @@
-//! The keys that a part file's tables may have.
-ghost use Rattle.std.specs.Prelude.{◌≡◌};
-ghost use Rattle.toml.specs.View.{table_view};
-ghost use Rattle.x7_part.specs.Keys.{is_known, has_only};
+//! The keys that a part file's tables may have, each with what stands under it.
 
 use crate::fault::PartKey;
-use toml::Table;
 
-/// The keys of the top table.
-pub(crate) const TOP_KEYS: [PartKey; 10] = [
-    PartKey::Name,
-    PartKey::Idcode,
-    PartKey::Mode,
-    PartKey::BusWidth,
-    PartKey::Lock,
-    PartKey::Match,
-    PartKey::FrameWords,
-    PartKey::Far,
-    PartKey::StartUnit,
-    PartKey::Row,
-];
-
-/// The keys of a row.
-pub(crate) const ROW_KEYS: [PartKey; 4] = [
-    PartKey::Block,
-    PartKey::Half,
-    PartKey::Row,
-    PartKey::Minors,
-];
-
-/// Whether one of the keys has this name.
-fn is_known(keys: &[PartKey], name: &str) -> bool
-    ensures { result ≡ is_known keys.now name.now }
-{
-    for key in keys {
-        if name == key.name() {
-            return true;
-        }
-    }
-    false
+/// The kind of a value, or of the items of a list.
+#[derive(Clone, Copy, Drop)]
+pub(crate) enum Kind {
+    Text,
+    Whole,
+    Table,
 }
 
-/// Whether each key of the table is one of `keys`.
-pub(crate) fn has_only(keys: &[PartKey], table: &Table) -> bool
-    ensures { result ≡ has_only keys.now (table_view table.now) }
-{
-    'members: for (name, _value) in table.iter() {
-        if !is_known(keys, name.as_str()) {
-            return false;
-        }
-    }
-    true
+/// A key, what its value is, and whether the key may be left out.
+#[derive(Clone, Copy, Drop)]
+pub(crate) struct KeyRule {
+    pub(crate) key: PartKey,
+    pub(crate) holds: Kind,
+    pub(crate) is_list: bool,
+    pub(crate) is_optional: bool,
 }
+
+/// The keys of the top table, in the order in which their values are checked.
+#[rattlefmt::skip]
+pub(crate) const TOP_KEYS: [KeyRule; 10] = [
+    KeyRule { key: PartKey::Name, holds: Kind::Text, is_list: false, is_optional: false },
+    KeyRule { key: PartKey::Idcode, holds: Kind::Whole, is_list: false, is_optional: false },
+    KeyRule { key: PartKey::Mode, holds: Kind::Whole, is_list: false, is_optional: true },
+    KeyRule { key: PartKey::BusWidth, holds: Kind::Whole, is_list: false, is_optional: true },
+    KeyRule { key: PartKey::Lock, holds: Kind::Whole, is_list: false, is_optional: true },
+    KeyRule { key: PartKey::Match, holds: Kind::Whole, is_list: false, is_optional: true },
+    KeyRule { key: PartKey::FrameWords, holds: Kind::Whole, is_list: false, is_optional: true },
+    KeyRule { key: PartKey::Far, holds: Kind::Whole, is_list: true, is_optional: true },
+    KeyRule { key: PartKey::StartUnit, holds: Kind::Whole, is_list: false, is_optional: true },
+    KeyRule { key: PartKey::Row, holds: Kind::Table, is_list: true, is_optional: false },
+];
+
+/// The keys of a row, in the order in which their values are checked.
+#[rattlefmt::skip]
+pub(crate) const ROW_KEYS: [KeyRule; 4] = [
+    KeyRule { key: PartKey::Block, holds: Kind::Whole, is_list: false, is_optional: false },
+    KeyRule { key: PartKey::Half, holds: Kind::Whole, is_list: false, is_optional: false },
+    KeyRule { key: PartKey::Row, holds: Kind::Whole, is_list: false, is_optional: false },
+    KeyRule { key: PartKey::Minors, holds: Kind::Whole, is_list: true, is_optional: false },
+];

@@ -2,6 +2,7 @@
 #![tactic(auto)]
 
 mod address;
+mod checks;
 mod column;
 mod fault;
 mod keys;
@@ -14,7 +15,6 @@ mod row;
 mod settings;
 mod slot;
 mod table;
-mod types;
 mod values;
 
 pub use fault::{PartFault, PartKey, Which};

@@ -4,21 +4,24 @@ ghost use Rattle.toml.specs.Parse.{parse_document};
 ghost use Rattle.toml.specs.View.{table_view};
 ghost use Rattle.x7_part.specs.Limits.{most_frame_words, most_rows};
 ghost use Rattle.x7_part.specs.Part.{PartData};
-ghost use Rattle.x7_part.specs.PartChecks.{fault_of_call, first_of};
+ghost use Rattle.x7_part.specs.PartChecks.{fault_of_call, AnswersDue, first_of};
 ghost use Rattle.x7_part.specs.Row.{same_row_fault, frames_fault, has_few_frames};
-ghost use Rattle.x7_part.specs.PartFile.{HasNoKey, part_in};
+ghost use Rattle.x7_part.specs.PartFile.{HasNoKey, first_fault, part_from, part_in};
 ghost use Rattle.x7_part.specs.Keys.{top};
+ghost use Rattle.x7_part.specs.Values.{under};
 ghost use Rattle.x7_part.specs.declared.fault.PartFault.{PartFault};
 ghost use Rattle.x7_part.specs.declared.fault.PartKey.{PartKey};
+ghost use Rattle.x7_part.specs.declared.fault.PartKey.TheVariants as key;
 
-use crate::fault::PartFault;
+use crate::checks::{Check, check_tables};
+use crate::fault::{PartFault, PartKey};
 use crate::limits::{MOST_FRAMES, MOST_WORDS};
 use crate::part::Part;
 use crate::ranges::require;
 use crate::row::{Row, check_same_rows, frame_count, rows_in};
 use crate::settings::settings_in;
 use crate::slot::PADS_AFTER_ROW;
-use crate::values::{check_known, values_of};
+use crate::values::text;
 use std::alloc::Global;
 use toml::Table;
 
@@ -69,6 +72,21 @@ fn has_few_frames(width: u32, count: u32, row_count: u32) -> bool
     count <= MOST_FRAMES && width * (count + PADS_AFTER_ROW * row_count) <= MOST_WORDS
 }
 
+/// The part of a top table, or its first fault.
+fn part_from(alloc: Global, table: &Table) -> Result<Part, PartFault>
+    ensures fault { AnswersDue (first_fault (table_view table.now)) result }
+    ensures part { IfOk result (λ part. part ≡ part_from (table_view table.now)) }
+    ensures unnamed { under key.Name (table_view table.now) ≡ None → IsErrOf result (PartFault.Key (top key.Name)) }
+{
+    check_tables(Check::Types, table)?;
+    check_tables(Check::Names, table)?;
+    let settings = settings_in(table)?;
+    let rows = rows_in(alloc, table)?;
+    check_rows(u32::from(settings.frame_words), &rows)?;
+    let name = String::from_str(alloc, text(table, PartKey::Name))?;
+    Ok(Part::of(alloc, name, settings, rows)?)
+}
+
 /// The part of a part file, or the first fault of the file.
 pub fn part_of(alloc: Global, text: &[u8]) -> Result<Part, PartFault>
     ensures part { IfOk result (λ part. part_in text.now ≡ Ok part) }
@@ -76,10 +94,5 @@ pub fn part_of(alloc: Global, text: &[u8]) -> Result<Part, PartFault>
     ensures utf8 { (IsUtf8 text.now → ⊥) → IsErrOf result PartFault.Toml }
     ensures blank { HasNoKey text.now → IsErrOf result (PartFault.Key (top PartKey.Name)) }
 {
-    let values = values_of(alloc, &table_in(alloc, text)?)?;
-    check_known(&values)?;
-    let settings = settings_in(&values)?;
-    let rows = rows_in(alloc, &values.rows)?;
-    check_rows(u32::from(settings.frame_words), &rows)?;
-    Ok(Part::of(alloc, values.name, settings, rows)?)
+    part_from(alloc, &table_in(alloc, text)?)
 }

@@ -1,20 +1,22 @@
 //! Rows of a part.
-ghost use Rattle.std.specs.Prelude.{◌≡◌, ◌≤◌, ◌*◌, [], None, map, length, sum, All, IfOk};
+ghost use Rattle.std.specs.Prelude.{◌≡◌, ◌≤◌, ◌*◌, [], None, length, sum, All, IfOk};
 ghost use Rattle.std.specs.List.{sum_by};
+ghost use Rattle.toml.specs.View.{table_view};
 ghost use Rattle.x7_part.specs.Address.{row_address, AreWidths, IsRow};
 ghost use Rattle.x7_part.specs.Limits.{greatest_byte, most_columns, most_rows};
 ghost use Rattle.x7_part.specs.PartChecks.{fault_of_call, AnswersDue, rows_fault, row_range_fault};
 ghost use Rattle.x7_part.specs.Row.{is_same_row, has_same_row, same_row_fault, sorted_rows};
-ghost use Rattle.x7_part.specs.Values.{row_by_values};
+ghost use Rattle.x7_part.specs.Values.{row_of, row_tables, rows_in_file};
 ghost use Rattle.x7_part.specs.Part.{RowData};
 
 use crate::address::Widths;
 use crate::fault::{PartFault, PartKey, Which, in_row};
 use crate::limits::{GREATEST_BLOCK, GREATEST_HALF, GREATEST_ROW};
-use crate::ranges::{minors_in, require, within};
-use crate::values::RowValues;
+use crate::ranges::{minors_in, number_to, require};
+use crate::values::items_under;
 use std::alloc::{AllocError, Global};
 use std::marker::Model;
+use toml::Table;
 
 /// A row of one block type: its half (0 top, 1 bottom), its row within the half, and the number of minors of each
 /// column from 0 on.
@@ -76,27 +78,32 @@ impl Row {
     }
 }
 
-/// A row of these values, or the first of them that is out of range.
-fn row_in(alloc: Global, number: u32, values: &RowValues) -> Result<Row, PartFault>
-    ensures fault { AnswersDue (row_range_fault number values.now) result }
-    ensures value { IfOk result (λ row. row ≡ row_by_values values.now) }
+/// The row of a row's table, or the first of its values that is out of range.
+fn row_in(alloc: Global, number: u32, table: &Table) -> Result<Row, PartFault>
+    ensures fault { AnswersDue (row_range_fault number (table_view table.now)) result }
+    ensures value { IfOk result (λ row. row ≡ row_of (table_view table.now)) }
 {
     Ok(Row {
-        block: within(values.block, 0, GREATEST_BLOCK, in_row!(number, Block))? as u8,
-        half: within(values.half, 0, GREATEST_HALF, in_row!(number, Half))? as u8,
-        row: within(values.row, 0, GREATEST_ROW, in_row!(number, Row))? as u8,
-        minors: minors_in(alloc, &values.minors, in_row!(number, Minors))?,
+        block: number_to(GREATEST_BLOCK, table, in_row!(number, Block))? as u8,
+        half: number_to(GREATEST_HALF, table, in_row!(number, Half))? as u8,
+        row: number_to(GREATEST_ROW, table, in_row!(number, Row))? as u8,
+        minors: minors_in(alloc, table, in_row!(number, Minors))?,
     })
 }
 
-/// The rows of these values, which count from 1, or the first value that is out of range.
-pub(crate) fn rows_in(alloc: Global, values: &[RowValues]) -> Result<Vec<Row>, PartFault>
-    ensures fault { AnswersDue (rows_fault row_range_fault 1 values.now) result }
-    ensures value { IfOk result (λ rows. rows.items ≡ map row_by_values values.now) }
+/// The rows of a top table, which count from 1, or the first value of one that is out of range.
+pub(crate) fn rows_in(alloc: Global, table: &Table) -> Result<Vec<Row>, PartFault>
+    ensures fault { AnswersDue (rows_fault row_range_fault 1 (row_tables (table_view table.now))) result }
+    ensures value { IfOk result (λ rows. rows.items ≡ rows_in_file (table_view table.now)) }
 {
-    let mut rows = Vec::with_capacity(alloc, values.len())?;
+    let items = items_under(table, PartKey::Row);
+    let mut rows = Vec::with_capacity(alloc, items.len())?;
     let mut number = 1u32;
-    for row in values {
+    for item in items {
+        let row = match item.as_table() {
+            Some(row) => row,
+            None => continue,
+        };
         rows.push(row_in(alloc, number, row)?)?;
         number = number.saturating_add(1);
     }

@@ -118,13 +118,16 @@ module _ (s : FullStreamState) (old new : List ℕ) where
   check_after at check e value given h =
       ap (λ (n : ℕ). given ++ bytes_of_words (check_words n)) (value given h.checked) ∙ ap (λ (x : List ℕ). with_piece x Check) (before_at s given at e h)
 
-  pub wrote_check : (check : ℕ) → s.next_piece ≡ next.Check → ((bytes : List ℕ) → HasTaken s.checker bytes → check ≡ check_of_bytes bytes) → new ≡ old ++ bytes_of_words (check_words check) → WritesPiece s old new next.Start
-  wrote_check check e value adds = record {
+  -- the check after the frame data, or that after the start of the device, was written
+  pub wrote_check : (at after : NextPiece) (check : ℕ) → with_piece (stream_of (pieces_before s.part s.plan at)) Check ≡ stream_of (pieces_before s.part s.plan after) → slot_next after ≡ 0
+      → calls_from (length (slots_in s.part)) after < calls_from (length (slots_in s.part)) at → s.next_piece ≡ at → ((bytes : List ℕ) → HasTaken s.checker bytes → check ≡ check_of_bytes bytes)
+      → new ≡ old ++ bytes_of_words (check_words check) → WritesPiece s old new after
+  wrote_check at after check same none less e value adds = record {
     piece = bytes_of_words (check_words check);
     adds = adds;
-    before = check_after next.Check check e value;
-    inside = omega arith;
-    fewer = λ _. calls_at s next.Check next.Start e (omega arith);
+    before = λ given h. check_after at check e value given h ∙ same;
+    inside = omega (arith, none);
+    fewer = λ _. calls_at s at after e less;
   }
 
   pub wrote_start : s.next_piece ≡ next.Start → new ≡ old ++ bytes_of_words start_words → WritesPiece s old new next.LastCheck
@@ -134,15 +137,6 @@ module _ (s : FullStreamState) (old new : List ℕ) where
     before = λ given h. ap (λ (x : List ℕ). x ++ bytes_of_words start_words) (before_at s given next.Start e h);
     inside = omega arith;
     fewer = λ _. calls_at s next.Start next.LastCheck e (omega arith);
-  }
-
-  pub wrote_last_check : (check : ℕ) → s.next_piece ≡ next.LastCheck → ((bytes : List ℕ) → HasTaken s.checker bytes → check ≡ check_of_bytes bytes) → new ≡ old ++ bytes_of_words (check_words check) → WritesPiece s old new next.Desync
-  wrote_last_check check e value adds = record {
-    piece = bytes_of_words (check_words check);
-    adds = adds;
-    before = check_after next.LastCheck check e value;
-    inside = omega arith;
-    fewer = λ _. calls_at s next.LastCheck next.Desync e (omega arith);
   }
 
   pub wrote_ending : s.next_piece ≡ next.Desync → new ≡ old ++ bytes_of_words full_ending → WritesPiece s old new next.Nothing

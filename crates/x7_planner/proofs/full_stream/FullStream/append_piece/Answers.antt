@@ -5,7 +5,8 @@ use Rattle.x7_packets.specs.PacketWords.{command, no_op}
 use Rattle.x7_planner.specs.FullStream.{full_ending_no_ops, full_opening}
 use Rattle.x7_planner.specs.FullStreamPieces.{FullStreamState, piece_limit}
 use Rattle.x7_planner.specs.Writer.{bytes_of_words}
-use Rattle.x7_planner.proofs.FullStreamPiecesLemmas.{wrote_check, wrote_ending, wrote_last_check, wrote_nothing, wrote_opening, wrote_start}
+use Rattle.x7_planner.proofs.FullStreamPiecesLemmas.{wrote_check, wrote_ending, wrote_nothing, wrote_opening, wrote_start}
+use Rattle.x7_planner.specs.declared.full_stream.NextPiece.TheVariants as next
 use Rattle.x7_planner.proofs.SlotLemmas.{and_packet, last_packet, packets_written, written_on}
 use Rattle.x7_planner.proofs.WithinLemmas.{within_after, within_call, within_handed}
 use Rattle.x7_planner.proofs.full_stream.FullStream.append_piece.Goals as goal
@@ -21,7 +22,7 @@ returns-in_err-put_opening-in-Opening-clause-within c = within_handed c.args.out
 
 pub returns-in_ok-put_words-in-Check-clause-writes : goal.returns-in_ok-put_words-in-Check-clause-writes
 returns-in_ok-put_words-in-Check-clause-writes c =
-    wrote_check c.args.self.now c.args.out.now.items c.put_words.new.out.items c.check.result (sym (ap (λ s. s.next_piece) c.self.view_is) ∙ c.in-Check.is)
+    wrote_check c.args.self.now c.args.out.now.items c.put_words.new.out.items next.Check next.Start c.check.result refl refl (omega arith) (sym (ap (λ s. s.next_piece) c.self.view_is) ∙ c.in-Check.is)
     (λ bytes k. c.check.ensures.value bytes (subst (λ (x : FullStreamState). HasTaken x.checker bytes) (sym c.self.view_is) k))
     (c.in_ok-put_words-in-Check.ensures.appends ∙ ap (λ (t : List ℕ). c.args.out.now.items ++ bytes_of_words t) c.write_one.ensures)
 
@@ -40,7 +41,7 @@ returns-in_err-put_packets-in-Start-clause-within c = within_handed c.args.out.n
 
 pub returns-in_ok-put_words-in-LastCheck-clause-writes : goal.returns-in_ok-put_words-in-LastCheck-clause-writes
 returns-in_ok-put_words-in-LastCheck-clause-writes c =
-    wrote_last_check c.args.self.now c.args.out.now.items c.put_words-in-LastCheck.new.out.items c.check-in-LastCheck.result (sym (ap (λ s. s.next_piece) c.self.view_is) ∙ c.in-LastCheck.is)
+    wrote_check c.args.self.now c.args.out.now.items c.put_words-in-LastCheck.new.out.items next.LastCheck next.Desync c.check-in-LastCheck.result refl refl (omega arith) (sym (ap (λ s. s.next_piece) c.self.view_is) ∙ c.in-LastCheck.is)
     (λ bytes k. c.check-in-LastCheck.ensures.value bytes (subst (λ (x : FullStreamState). HasTaken x.checker bytes) (sym c.self.view_is) k))
     (c.in_ok-put_words-in-LastCheck.ensures.appends ∙ ap (λ (t : List ℕ). c.args.out.now.items ++ bytes_of_words t) c.write_one-in-LastCheck.ensures)
 

@@ -1,7 +1,7 @@
 use Rattle.std.proofs.Common.{◌≡◌}
 use Rattle.toml.specs.View.{members_view}
 use Rattle.x7_part.specs.Keys.{has_only}
-use Rattle.x7_part.proofs.keys.has_only.Given as goal
+use Rattle.x7_part.proofs.checks.has_only.Given as goal
 
 abbrev pub invariant-members : goal.invariant-members
 invariant-members l =

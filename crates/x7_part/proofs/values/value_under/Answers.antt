@@ -1,5 +1,5 @@
 use Rattle.toml.proofs.Views.{table_get}
-use Rattle.x7_part.proofs.types.value_under.Goals as goal
+use Rattle.x7_part.proofs.values.value_under.Goals as goal
 
 pub returns : goal.returns
 returns c = rw (← c.name.ensures) (table_get c.get.result c.name.result.now c.args.table.now.entries c.get.ensures.value)
