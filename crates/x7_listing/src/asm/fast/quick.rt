@@ -11,7 +11,7 @@ ghost use Rattle.x7_words.specs.Characters.{space_byte};
 ghost use Rattle.x7_listing.specs.Fast.Looking.{AppendsFoundLines, ReadsAtOnce};
 
 use super::write_pairs::{differences, read_pair};
-use crate::asm::reading::{MOST_ROW_SIZE, put_word_bytes, type1_fields_seen};
+use crate::asm::reading::{MOST_ROW_SIZE, put_word_bytes, type1_fields_at};
 use crate::assembler::ASM_LIMIT;
 use crate::line::{BYTES_SIZE, DATA_SIZE, SPACED_WORD_SIZE};
 use std::simd::prelude::*;
@@ -235,7 +235,7 @@ fn read_write_line(out: &mut Vec<u8>, text: &[u8; LOOK_SIZE]) -> Option<WholeLin
     {
         return None;
     }
-    let Some((register, count)) = type1_fields_seen(
+    let Some((register, count)) = type1_fields_at(
         &text[WRITE_SIZE..BESIDE_NAME_SIZE + space],
         space,
     ) else {
