@@ -205,7 +205,7 @@ pub(crate) fn read_line(out: &mut Vec<u8>, check: u32, line: &[u8]) -> bool
         return true;
     }
     if is_same(line, b"crc") {
-        put_word_bytes(out, type1_write_header(Reg::Crc.number(), 1));
+        put(out, &bytes_of(type1_write_header(Reg::Crc.number(), 1)));
         put(out, &bytes_of(check));
         return true;
     }

@@ -1,4 +1,4 @@
-use Rattle.std.proofs.Common.{ℕ, ◌++◌, ap, sym, ◌∙◌}
+use Rattle.std.proofs.Common.{ℕ, List, ◌++◌, length, ap, sym, ◌∙◌, arith}
 use Rattle.x7_words.specs.Word.{bytes_of_word}
 use Rattle.x7_packets.specs.PacketWords.{type1_write_header}
 use Rattle.x7_text.proofs.DigitLemmas.{refuted}
@@ -20,12 +20,21 @@ returns-then-is_same-clause-reads c = (
   Check,
   tt,
   c.is_same.ensures.0 c.if-is_same.true,
-  two_words c.args.out.now.items c.put_word_bytes.new.out.items c.put.new.text.items (bytes_of_word (type1_write_header 0 1))
-      (bytes_of_word c.args.check) c.bytes_of.result
-      (c.put_word_bytes.ensures.appends.items
-      ∙ ap (λ (h : ℕ). c.args.out.now.items ++ bytes_of_word h) (c.type1_write_header.ensures ∙ ap (λ (r : ℕ). type1_write_header r 1) c.number.ensures.value))
-      c.put.ensures.appends.items c.bytes_of.ensures.value,
+  two_words c.args.out.now.items c.put.new.text.items c.put-then-is_same.new.text.items (bytes_of_word (type1_write_header 0 1))
+      (bytes_of_word c.args.check) c.bytes_of-then-is_same.result
+      (c.put.ensures.appends.items
+      ∙ ap (λ (w : List ℕ). c.args.out.now.items ++ w) (c.bytes_of.ensures.value ∙ ap bytes_of_word (c.type1_write_header.ensures ∙ ap (λ (r : ℕ). type1_write_header r 1) c.number.ensures.value)))
+      c.put-then-is_same.ensures.appends.items c.bytes_of-then-is_same.ensures.value,
 )
+
+pub returns-then-is_same-clause-room : goal.returns-then-is_same-clause-room
+returns-then-is_same-clause-room c = record {
+  within = omega (arith, c.put.ensures.appends.within, c.put-then-is_same.ensures.appends.within, ap length c.bytes_of.ensures.value, ap length c.bytes_of-then-is_same.ensures.value);
+  room = omega (arith, c.put.ensures.appends.room, c.put-then-is_same.ensures.appends.room);
+}
+
+pub returns-then-means_nothing-clause-room : goal.returns-then-means_nothing-clause-room
+returns-then-means_nothing-clause-room c = record { within = omega arith; room = omega arith }
 
 pub returns-clause-reads : goal.returns-clause-reads
 returns-clause-reads c =
