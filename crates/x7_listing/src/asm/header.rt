@@ -56,15 +56,19 @@ fn at_space(text: &[u8]) -> Option<(&[u8], &[u8])>
 }
 
 /// The bytes that two fields hold, by their texts; `None` where one of these is no field's text.
-fn two_fields(alloc: Global, x: &[u8], y: &[u8]) -> Result<Option<(Vec<u8>, Vec<u8>)>, NoMemory>
+fn two_fields(
+    alloc: Global,
+    text: &[u8],
+    other: &[u8],
+) -> Result<Option<(Vec<u8>, Vec<u8>)>, NoMemory>
     ensures { IfOk result (λ found. MatchOption found
-        ((a b : List ℕ) → IsField a → IsField b → x.now ≡ field_text a → y.now ≢ field_text b)
-        (λ fields. IsTextOfField x.now fields.0.items × IsTextOfField y.now fields.1.items)) }
+        ((a b : List ℕ) → IsField a → IsField b → text.now ≡ field_text a → other.now ≢ field_text b)
+        (λ fields. IsTextOfField text.now fields.0.items × IsTextOfField other.now fields.1.items)) }
 {
-    let Some(first) = field_of(alloc, x)? else {
+    let Some(first) = field_of(alloc, text)? else {
         return Ok(None);
     };
-    let Some(second) = field_of(alloc, y)? else {
+    let Some(second) = field_of(alloc, other)? else {
         return Ok(None);
     };
     Ok(Some((first, second)))
