@@ -9,7 +9,7 @@ ghost use Rattle.x7_listing.specs.Assembling.{HasReadWithRoom, FailsFirst, Fails
 ghost use Rattle.x7_listing.specs.Line.{line_bytes, FitsLine, text_of};
 ghost use Rattle.x7_listing.specs.declared.assembler.AsmFault.{AsmFault};
 
-use super::fast::{WholeLines, next_line, read_quick_after_first_line};
+use super::fast::{WholeLines, next_line, read_quick};
 use super::header::header_of_line;
 use super::reading::{MOST_ROW_SIZE, read_line};
 use crate::assembler::{ASM_LIMIT, AsmFault};
@@ -119,8 +119,9 @@ impl AsmLines {
         self.read_one(line_number, line)
     }
 
-    /// Appends the bytes of the text's first lines after `line_count` lines, as far as they are read at once. A line
-    /// that isn't is left to `read_next`, and so are those after it.
+    /// Appends the bytes of the text's first lines after `line_count` lines, as far as they are read at once: none
+    /// before any line, since the first one may be a header's. A line that isn't read at once is left to `read_next`, and
+    /// so are those after it.
     fn read_at_once(&mut self, line_count: u64, text: &[u8]) -> WholeLines
         ensures appends { AppendsLines text.now (drop result.size text.now) self.old.out self.new.out result.count }
         ensures start { self.new.start ≡ self.old.start }
@@ -131,7 +132,10 @@ impl AsmLines {
         ensures most { length self.old.out ≤ ASM_LIMIT → length self.new.out ≤ ASM_LIMIT }
         ensures no_first_line { line_count ≡ 0 → result.count ≡ 0 }
     {
-        read_quick_after_first_line(&mut self.out, line_count, text)
+        if line_count == 0 {
+            return WholeLines { size: 0, count: 0 };
+        }
+        read_quick(&mut self.out, text)
     }
 }
 

@@ -277,7 +277,7 @@ fn read_some(out: &mut Vec<u8>, text: &[u8; LOOK_SIZE]) -> Option<WholeLines>
 
 /// Appends the bytes of the text's first lines, as far as they are read at once, there is room for them and a further
 /// line, and their bytes are within the limit.
-fn read_quick(out: &mut Vec<u8>, text: &[u8]) -> WholeLines
+pub(crate) fn read_quick(out: &mut Vec<u8>, text: &[u8]) -> WholeLines
     ensures { ReadsAtOnce text.now out.old out.new result }
 {
     let mut all = WholeLines { size: 0, count: 0 };
@@ -299,21 +299,4 @@ fn read_quick(out: &mut Vec<u8>, text: &[u8]) -> WholeLines
             count: all.count + taken.count,
         };
     }
-}
-
-/// Appends the bytes of the text's first lines after `lines_before` lines, as far as they are read at once. Before any
-/// line none is, since the first one may be a header's.
-#[inline(always)]
-pub(crate) fn read_quick_after_first_line(
-    out: &mut Vec<u8>,
-    lines_before: u64,
-    text: &[u8],
-) -> WholeLines
-    ensures reads { ReadsAtOnce text.now out.old out.new result }
-    ensures no_first_line { lines_before ≡ 0 → result.count ≡ 0 }
-{
-    if lines_before == 0 {
-        return WholeLines { size: 0, count: 0 };
-    }
-    read_quick(out, text)
 }
