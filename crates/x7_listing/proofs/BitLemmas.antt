@@ -7,7 +7,7 @@ use Rattle.std.specs.Str.{bytes_eq}
 use Rattle.x7_words.specs.Word.{AreBytes, bytes_of_word}
 use Rattle.x7_header.specs.Header.{HeaderContents, field_bytes, FitHeaderFields, header_bytes, FieldKind, longest_header}
 use Rattle.x7_text.specs.Digits.{hex_byte, hex_digit}
-use Rattle.x7_listing.specs.BitLine.{bit_text, field_text, has_no_space, IsCutAtSpace, IsField, IsHeaderOf, FitsHeader}
+use Rattle.x7_listing.specs.BitLine.{bit_line, bit_text, field_text, has_no_space, IsBitLine, IsCutAtSpace, IsField, IsHeaderOf, IsTextOfField, FitsHeader}
 use Rattle.x7_listing.specs.Line.{Empty, IsLine, Line, text_of}
 use Rattle.x7_text.specs.DigitValue.{bytes_value}
 use Rattle.x7_listing.proofs.GuessLemmas.{after_space, digits_after_space, before_space, name_before_space, decimal_after, decimal_back, line_is}
@@ -182,9 +182,27 @@ module _ (line fields a r1 : List ℕ) (x : HeaderContents) (begins : line ≡ c
         pub all_cut : (a ≡ field_text x.a) × (b ≡ field_text x.b) × (c ≡ field_text x.c) × (d ≡ field_text x.d) × (digits ≡ decimal x.data_length)
         all_cut = (cut_a.0, cut_b.0, cut_c.0, cut_d.0, cut_d.1)
 
--- a text whose first part is a field's begins with that field
-pub first_of : (here text rest own : List ℕ) → IsCutAtSpace here text rest → IsField own × (text ≡ field_text own) → IsField own × (here ≡ field_text own ++ 32 ∷ rest)
-first_of here text rest own c f = (f.0, c.parts ∙ ap (λ t. t ++ 32 ∷ rest) f.1)
+-- a line that was cut at its spaces is made of the parts
+pub parted : (line fields a r1 b r2 c r3 d digits : List ℕ) (n : ℕ) → line ≡ codes "bit " ++ fields → IsCutAtSpace fields a r1 → IsCutAtSpace r1 b r2 → IsCutAtSpace r2 c r3 → IsCutAtSpace r3 d digits
+    → (n < 2 ^ 32) × (digits ≡ decimal n) → IsBitLine line a b c d n
+parted line fields a r1 b r2 c r3 d digits n e in_a in_b in_c in_d is = record {
+  line_is = e ∙ ap (λ t. codes "bit " ++ t) (in_a.parts ∙ ap (λ t. a ++ 32 ∷ t) (in_b.parts ∙ ap (λ t. b ++ 32 ∷ t) (in_c.parts ∙ ap (λ t. c ++ 32 ∷ t) (in_d.parts ∙ ap (λ t. d ++ 32 ∷ t) is.1))));
+  free_a = in_a.free;
+  free_b = in_b.free;
+  free_c = in_c.free;
+  free_d = in_d.free;
+  is_word = is.0;
+}
+
+-- the texts of a line that is a header's are those of its fields
+pub texts_are : (line a b c d : List ℕ) (n : ℕ) (x : HeaderContents) → IsBitLine line a b c d n → line ≡ bit_text x → (a ≡ field_text x.a) × (b ≡ field_text x.b) × (c ≡ field_text x.c) × (d ≡ field_text x.d)
+texts_are line a b c d n x is e =
+    let r3 = d ++ 32 ∷ decimal n in
+    let r2 = c ++ 32 ∷ r3 in
+    let r1 = b ++ 32 ∷ r2 in
+    let cut = all_cut line (a ++ 32 ∷ r1) a r1 x is.line_is e (record { parts = refl; free = is.free_a }) b r2 (record { parts = refl; free = is.free_b }) c r3 (record { parts = refl; free = is.free_c })
+    d (decimal n) (record { parts = refl; free = is.free_d }) in
+    (cut.0, cut.1, cut.2, cut.3)
 
 -- a header's line after a text, field by field
 pub line_made : (before bit a b c d n t1 t2 t3 t4 t5 : List ℕ) → t1 ≡ before ++ bit → t2 ≡ t1 ++ (a ++ 32 ∷ []) → t3 ≡ t2 ++ (b ++ 32 ∷ []) → t4 ≡ t3 ++ (c ++ 32 ∷ []) → t5 ≡ t4 ++ (d ++ 32 ∷ [])
@@ -198,14 +216,14 @@ line_made before bit a b c d n t1 t2 t3 t4 t5 e1 e2 e3 e4 e5 =
     through : (field rest old new : List ℕ) → new ≡ old ++ (field ++ 32 ∷ []) → new ++ rest ≡ old ++ (field ++ 32 ∷ rest)
     through field rest old new e = ap (λ t. t ++ rest) e ∙ append_assoc old (field ++ 32 ∷ []) rest ∙ ap (λ t. old ++ t) (append_assoc field (32 ∷ []) rest)
 
--- the fields of a line are those of a header
-pub header_made : (line fields r1 r2 r3 digits : List ℕ) (x : HeaderContents) (bytes : List ℕ) → line ≡ codes "bit " ++ fields → IsField x.a × (fields ≡ field_text x.a ++ 32 ∷ r1) → IsField x.b × (r1 ≡ field_text x.b ++ 32 ∷ r2)
-    → IsField x.c × (r2 ≡ field_text x.c ++ 32 ∷ r3) → IsField x.d × (r3 ≡ field_text x.d ++ 32 ∷ digits) → (x.data_length < 2 ^ 32) × (digits ≡ decimal x.data_length) → bytes ≡ header_bytes x → IsHeaderOf line bytes
-header_made line fields r1 r2 r3 digits x bytes e a b c d n is = record {
+-- a line whose texts are those of fields is a header's
+pub header_made : (line a b c d : List ℕ) (x : HeaderContents) (bytes : List ℕ) → IsBitLine line a b c d x.data_length → IsTextOfField a x.a → IsTextOfField b x.b → IsTextOfField c x.c → IsTextOfField d x.d
+    → bytes ≡ header_bytes x → IsHeaderOf line bytes
+header_made line a b c d x bytes is ta tb tc td are = record {
   header = x;
-  fits = record { have = record { a = a.0.short; b = b.0.short; c = c.0.short; d = d.0.short; data_length = n.0 }; a = a.0.bytes; b = b.0.bytes; c = c.0.bytes; d = d.0.bytes };
-  text = e ∙ ap (λ t. codes "bit " ++ t) (a.1 ∙ ap (λ t. field_text x.a ++ 32 ∷ t) (b.1 ∙ ap (λ t. field_text x.b ++ 32 ∷ t) (c.1 ∙ ap (λ t. field_text x.c ++ 32 ∷ t) (d.1 ∙ ap (λ t. field_text x.d ++ 32 ∷ t) n.1))));
-  bytes_are = is;
+  fits = record { have = record { a = ta.0.short; b = tb.0.short; c = tc.0.short; d = td.0.short; data_length = is.is_word }; a = ta.0.bytes; b = tb.0.bytes; c = tc.0.bytes; d = td.0.bytes };
+  text = is.line_is ∙ ap₂ (λ s t. bit_line s t c d x.data_length) ta.1 tb.1 ∙ ap₂ (λ s t. bit_line (field_text x.a) (field_text x.b) s t x.data_length) tc.1 td.1;
+  bytes_are = are;
 }
 
 -- no header is longer than the longest

@@ -1,5 +1,5 @@
 -- The name before the first space of a text.
-use Rattle.std.proofs.Common.{◌≡◌, ◌==◌, ℕ, zero, suc, ◌+◌, ◌-◌, ◌<◌, ◌≤◌, Bool, true, false, if◌then◌else◌, List, [], ◌∷◌, ◌++◌, length, take, drop, get_or, refl, ap, sym, ◌∙◌, arith, length-append, length-drop, take_all}
+use Rattle.std.proofs.Common.{◌≡◌, ◌==◌, ℕ, zero, suc, ◌+◌, ◌-◌, ◌<◌, ◌≤◌, Bool, true, false, if◌then◌else◌, List, [], ◌∷◌, ◌++◌, Option, None, Some, MatchOption, length, take, drop, get_or, refl, ap, sym, ◌∙◌, arith, length-append, length-drop, take_all}
 use Rattle.x7_listing.specs.BitLine.{has_no_space, IsCutAtSpace}
 use Rattle.std.proofs.lemmas.Grind.{common_steps}
 use Rattle.x7_regs.specs.Register.{reg_name, reg_number_count}
@@ -57,9 +57,22 @@ split_at [] k l e = absurd (omega arith)
 split_at (c ∷ cs) zero l e = ap (λ (d : ℕ). d ∷ cs) (equal_numbers c 32 e)
 split_at (c ∷ cs) (suc k) l e = ap (λ s. c ∷ s) (split_at cs k (omega arith) e)
 
--- a text at its first space
-pub cut_at : (t : List ℕ) (k : ℕ) → ((j : ℕ) → 0 ≤ j → j < k → (get_or t j 0 == 32) ≡ true → ⊥) → k < length t → (get_or t k 0 == 32) ≡ true → IsCutAtSpace t (take k t) (take (length t - (k + 1)) (drop (k + 1) t))
-cut_at t k h l e =
+-- a text at a space
+at_place : (t : List ℕ) (k : ℕ) → k < length t → (get_or t k 0 == 32) ≡ true → t ≡ take k t ++ 32 ∷ take (length t - (k + 1)) (drop (k + 1) t)
+at_place t k l e =
     let one : suc k ≡ k + 1 = omega arith in
     let all : take (length t - (k + 1)) (drop (k + 1) t) ≡ drop (k + 1) t = take_all (length t - (k + 1)) (drop (k + 1) t) (omega (arith, length-drop (k + 1) t)) in
-    record { parts = split_at t k l e ∙ ap (λ (j : ℕ). take k t ++ 32 ∷ drop j t) one ∙ ap (λ s. take k t ++ 32 ∷ s) (sym all); free = free_before t k h l }
+    split_at t k l e ∙ ap (λ (j : ℕ). take k t ++ 32 ∷ drop j t) one ∙ ap (λ s. take k t ++ 32 ∷ s) (sym all)
+
+-- a text after a name and a space
+pub after_name : (t name : List ℕ) (k : ℕ) → k < length t → get_or t k 0 ≡ 32 → take k t ≡ name → t ≡ name ++ 32 ∷ take (length t - (k + 1)) (drop (k + 1) t)
+after_name t name k l e is = at_place t k l (ap (λ (b : ℕ). b == 32) e) ∙ ap (λ s. s ++ 32 ∷ take (length t - (k + 1)) (drop (k + 1) t)) is
+
+-- a text at its first space
+pub cut_at : (t : List ℕ) (k : ℕ) → ((j : ℕ) → 0 ≤ j → j < k → (get_or t j 0 == 32) ≡ true → ⊥) → k < length t → (get_or t k 0 == 32) ≡ true → IsCutAtSpace t (take k t) (take (length t - (k + 1)) (drop (k + 1) t))
+cut_at t k h l e = record { parts = at_place t k l e; free = free_before t k h l }
+
+-- what `None` says under a condition, where the condition holds
+pub where_known : {A : Type 0} (P Q : Type 0) (R : A → Type 0) (r : Option A) → P → MatchOption r (P → Q) R → MatchOption r Q R
+where_known P Q R None p h = h p
+where_known P Q R (Some x) p h = h

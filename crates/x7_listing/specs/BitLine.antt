@@ -11,6 +11,11 @@ abbrev pub field_text : List ℕ → List ℕ
 field_text [] = codes "-"
 field_text (x ∷ xs) = flat_map hex_byte (x ∷ xs)
 
+-- a header's line, without its end: four texts, and the length of the data in bytes
+abbrev pub bit_line : List ℕ → List ℕ → List ℕ → List ℕ → ℕ → List ℕ
+bit_line a b c d data_length =
+    codes "bit " ++ (a ++ space_byte ∷ (b ++ space_byte ∷ (c ++ space_byte ∷ (d ++ space_byte ∷ decimal data_length))))
+
 -- the text of a header's line, without its end: the four fields and the length of the data in bytes
 abbrev pub bit_text : HeaderContents → List ℕ
 bit_text x =
@@ -54,3 +59,12 @@ IsFirstSpace text at = (at < length text) × (slice_index text at ≡ space_byte
 pub record IsCutAtSpace (all text rest : List ℕ) : Type 0 where
   pub parts : all ≡ text ++ space_byte ∷ rest
   pub free : has_no_space text ≡ true
+
+-- `line` is a header's line with these texts, none of which has a space, and this length, a word
+pub record IsBitLine (line a b c d : List ℕ) (data_length : ℕ) : Type 0 where
+  pub line_is : line ≡ bit_line a b c d data_length
+  pub free_a : has_no_space a ≡ true
+  pub free_b : has_no_space b ≡ true
+  pub free_c : has_no_space c ≡ true
+  pub free_d : has_no_space d ≡ true
+  pub is_word : data_length < 2 ^ 32

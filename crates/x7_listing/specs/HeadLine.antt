@@ -1,8 +1,10 @@
 -- The lines of words in a header's place (this project's choice).
-use Rattle.std.specs.Prelude.{ℕ, ◌<◌, ◌==◌, if◌then◌else◌, List}
+use Rattle.std.specs.Prelude.{ℕ, ◌+◌, ◌<◌, ◌==◌, if◌then◌else◌, List}
+use Rattle.x7_regs.specs.Named.{longest_name}
 use Rattle.x7_regs.specs.Register.{reg_number_count}
 use Rattle.x7_packets.specs.Packet.{register_of, type1_count_of, type2_count_of, header_kind_of}
 use Rattle.x7_packets.specs.PacketWords.{no_op, sync_word, type1_read_header, type1_write_header, type2_read_header, type2_read_kind, type2_write_header, type2_write_kind}
+use Rattle.x7_text.specs.Digits.{most_digits}
 use Rattle.x7_packets.specs.declared.header.Step.{Step}
 use Rattle.x7_packets.specs.declared.header.Step.TheVariants.{Bad}
 use Rattle.x7_listing.specs.declared.line.head_line.HeadLine.{HeadLine}
@@ -41,11 +43,6 @@ HasRegister (Write register count) = register < reg_number_count
 HasRegister (Read register count) = register < reg_number_count
 HasRegister _ = Unit {0}
 
--- a bound on the bytes of the line of one word, with its end, its count with as many digits as a decimal may have (the
--- longest, `write BOOTSTS 2047`, has 19)
-abbrev pub line_size : ℕ
-line_size = 47
-
 -- how many bytes the keyword of a type 1 header's line has at most, with the space after it: `write `
 abbrev pub type1_keyword_limit : ℕ
 type1_keyword_limit = 6
@@ -53,6 +50,11 @@ type1_keyword_limit = 6
 -- how many bytes the keyword of a type 2 header's line has at most, with the space after it: `write2 `
 abbrev pub type2_keyword_limit : ℕ
 type2_keyword_limit = 7
+
+-- a bound on the bytes of the line of one word, with its end: on those of a type 1 header's, which are its keyword, a
+-- register's name, a space, a count of as many digits as 64 bits may have, and the line's end
+abbrev pub line_size : ℕ
+line_size = type1_keyword_limit + longest_name + 1 + most_digits + 1
 
 -- the line of a word in a header's place, as one of the lines of a text
 abbrev pub line_as : HeadLine → Line

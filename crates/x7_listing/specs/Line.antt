@@ -52,13 +52,6 @@ text_of (Data words) = codes "data" ++ flat_map spaced words
 text_of (Cmd command) = codes "cmd " ++ command_name_of command
 text_of Check = codes "crc"
 
--- a line that is empty, `sync` or `crc`
-abbrev pub IsPlain : Line → Type 0
-IsPlain Empty = Unit {0}
-IsPlain Sync = Unit {0}
-IsPlain Check = Unit {0}
-IsPlain _ = ⊥
-
 -- the numbers of a line are within the bits of their fields, and its rows have one byte or word at least and a full
 -- row's at most
 abbrev pub FitsLine : Line → Type 0
@@ -91,6 +84,30 @@ line_bytes check (Word word) = bytes_of_word word
 line_bytes check (Data words) = flat_map bytes_of_word words
 line_bytes check (Cmd command) = bytes_of_word (code_of command)
 line_bytes check Check = bytes_of_word (type1_write_header (number_of Crc) 1) ++ bytes_of_word check
+
+-- a line that stands for one word, whatever the lines before it; its numbers are within the bits of their fields
+abbrev pub FitsWordLine : Line → Type 0
+FitsWordLine Sync = Unit {0}
+FitsWordLine Nop = Unit {0}
+FitsWordLine (Write register count) = IsType1 (register, count)
+FitsWordLine (Read register count) = IsType1 (register, count)
+FitsWordLine (Write2 count) = count < type2_counts
+FitsWordLine (Read2 count) = count < type2_counts
+FitsWordLine (Word word) = word < 2 ^ 32
+FitsWordLine (Cmd command) = Unit {0}
+FitsWordLine _ = ⊥
+
+-- the word that a line stands for; 0 for a line that doesn't stand for one word
+abbrev pub word_of_line : Line → ℕ
+word_of_line Sync = sync_word
+word_of_line Nop = no_op
+word_of_line (Write register count) = type1_write_header register count
+word_of_line (Read register count) = type1_read_header register count
+word_of_line (Write2 count) = type2_write_header count
+word_of_line (Read2 count) = type2_read_header count
+word_of_line (Word word) = word
+word_of_line (Cmd command) = code_of command
+word_of_line _ = 0
 
 -- the line is neither a comment nor the check: an empty one, or one as a listing has
 abbrev pub IsNeitherCommentNorCheck : Line → Type 0

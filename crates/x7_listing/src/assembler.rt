@@ -63,13 +63,5 @@ pub fn assemble(alloc: Global, text: &[u8]) -> Result<Vec<u8>, AsmFault>
     ensures back { (bytes : List ℕ) → AreBytes bytes → length bytes ≤ ASM_LIMIT → stream_listing bytes ≡ Ok text.now
         → MatchResult result (λ out. out.items ≡ bytes) (λ fault. fault ≡ AsmFault.NoMemory) }
 {
-    read_text(alloc, text)
-}
-
-/// The bytes of a text, line by line.
-fn read_text(alloc: Global, text: &[u8]) -> Result<Vec<u8>, AsmFault>
-    ensures read { MatchResult result (λ bytes. IsAsm text.now (Ok bytes.items)) (λ fault. (fault ≡ AsmFault.NoMemory) ⊎ IsAsm text.now (Err fault)) }
-    ensures memory { IfErr result (λ fault. fault ≡ AsmFault.NoMemory → WantsAt IsFirstOrGood [] text.now) }
-{
     read_lines(AsmLines::new(alloc), text)
 }

@@ -1,5 +1,5 @@
 -- Lines that are too long for a record, or no pairs of digits.
-use Rattle.std.proofs.Common.{◌≡◌, ◌==◌, ◌&&◌, ℕ, ◌+◌, ◌-◌, ◌*◌, ◌%◌, ◌<◌, ◌≤◌, nat_le, not, Bool, true, false, if◌then◌else◌, List, [], ◌∷◌, Option, None, Some, Err, length, drop, get_or, refl, ap, sym, ◌∙◌, arith}
+use Rattle.std.proofs.Common.{◌≡◌, ◌==◌, ◌&&◌, ℕ, ◌+◌, ◌-◌, ◌*◌, ◌%◌, ◌<◌, ◌≤◌, nat_le, not, Bool, true, false, if◌then◌else◌, List, [], ◌∷◌, MatchBool, Option, None, Some, Ok, Err, length, drop, get_or, refl, ap, subst, sym, ◌∙◌, arith, length-drop}
 use Rattle.std.proofs.lemmas.Bool.{and_parts, leb-true}
 use Rattle.std.proofs.lemmas.Grind.{common_steps}
 use Rattle.x7_mcs.specs.Record.{byte_of, record_count, number_of_digit, sum_found, byte_before, meaning_by_type, bytes_of_pairs, sum_wanted}
@@ -61,10 +61,33 @@ too_long n r digits h = long_by (bytes_of_pairs digits) n r digits refl h
 same : (c : ℕ) → c ≡ 58 → (c == 58) ≡ true
 same c e = grind (arith, common_steps)
 
+-- a line by its digits
+pub digits_line : (n : ℕ) (r : FlashReading) (line digits : List ℕ) → (length line ≡ 0 → ⊥) → get_or line 0 0 ≡ 58 → digits ≡ drop 1 line → after_line n r line ≡ after_bytes n r (bytes_of_pairs digits)
+digits_line n r [] digits some e f = absurd (some refl)
+digits_line n r (c ∷ cs) digits some e f = ap (λ (b : Bool). if b then after_bytes n r (bytes_of_pairs cs) else Err (fault.Line n)) (same c e) ∙ ap (λ (t : List ℕ). after_bytes n r (bytes_of_pairs t)) (sym f)
+
+-- a line of another first byte
+pub other_line : (n : ℕ) (r : FlashReading) (line : List ℕ) → (length line ≡ 0 → ⊥) → (get_or line 0 0 ≡ 58 → ⊥) → after_line n r line ≡ Err (fault.Line n)
+other_line n r [] some h = absurd (some refl)
+other_line n r (c ∷ cs) some h = ap (λ (b : Bool). if b then after_bytes n r (bytes_of_pairs cs) else Err (fault.Line n)) (differs c h)
+  where
+    differs : (c : ℕ) → (c ≡ 58 → ⊥) → (c == 58) ≡ false
+    differs c h = grind (arith, common_steps)
+
+pub empty_line : (n : ℕ) (r : FlashReading) (line : List ℕ) → length line ≡ 0 → after_line n r line ≡ Ok r
+empty_line n r [] e = refl
+empty_line n r (c ∷ cs) e = absurd (omega (arith, e))
+
+-- what a bool tells
+pub by_true : (b : Bool) (P Q : Type 0) → b ≡ true → MatchBool b P Q → P
+by_true b P Q e h = subst (λ (a : Bool). MatchBool a P Q) e h
+
+pub by_false : (b : Bool) (P Q : Type 0) → b ≡ false → MatchBool b P Q → Q
+by_false b P Q e h = subst (λ (a : Bool). MatchBool a P Q) e h
+
 -- a line of `:` and digits whose bytes are at fault
 colon_line : (n : ℕ) (r : FlashReading) (line digits : List ℕ) → get_or line 0 0 ≡ 58 → digits ≡ drop 1 line → 0 < length digits → after_bytes n r (bytes_of_pairs digits) ≡ Err (fault.Line n) → after_line n r line ≡ Err (fault.Line n)
-colon_line n r [] digits e f h bad = absurd (omega (arith, h, ap length f))
-colon_line n r (c ∷ cs) digits e f h bad = ap (λ (b : Bool). if b then after_bytes n r (bytes_of_pairs cs) else Err (fault.Line n)) (same c e) ∙ ap (λ (t : List ℕ). after_bytes n r (bytes_of_pairs t)) (sym f) ∙ bad
+colon_line n r line digits e f h bad = digits_line n r line digits (λ z. omega (arith, h, ap length f, z, length-drop 1 line)) e f ∙ bad
 
 pub long_line : (n : ℕ) (r : FlashReading) (line digits : List ℕ) → get_or line 0 0 ≡ 58 → digits ≡ drop 1 line → 520 < length digits → after_line n r line ≡ Err (fault.Line n)
 long_line n r line digits e f h = colon_line n r line digits e f (omega (arith, h)) (too_long n r digits h)

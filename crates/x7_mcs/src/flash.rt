@@ -22,13 +22,5 @@ pub fn flash_of(alloc: Global, text: &[u8]) -> Result<Vec<u8>, McsFault>
     ensures back { (x : List ℕ) → AreBytes x → length x ≤ flash_limit → text.now ≡ mcs_text x
         → MatchResult result (λ bytes. bytes.items ≡ x) (λ fault. fault ≡ McsFault.NoMemory) }
 {
-    read_text(alloc, text)
-}
-
-/// The bytes that a flash text gives, line by line.
-fn read_text(alloc: Global, text: &[u8]) -> Result<Vec<u8>, McsFault>
-    ensures read { MatchResult result (λ bytes. mcs_of text.now ≡ Ok bytes.items) (λ fault. (fault ≡ McsFault.NoMemory) ⊎ (mcs_of text.now ≡ Err fault)) }
-    ensures memory { IfErr result (λ fault. fault ≡ McsFault.NoMemory → WantsAt AreGoodMcsLines [] text.now) }
-{
     read_lines(McsLines::new(alloc), text)
 }

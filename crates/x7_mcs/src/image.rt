@@ -58,7 +58,9 @@ fn set_bytes(bytes: &mut Vec<u8>, place: usize, content: &[u8])
     ensures length { length bytes.new.items ≡ length bytes.old.items }
     ensures at { (p : ℕ) → get_or bytes.new.items p erased_byte ≡ written_byte place content.now bytes.old.items p }
 {
-    bytes[place..place + content.len()].copy_from_slice(content);
+    let (_, since) = bytes.split_at_mut(place);
+    let (over, _) = since.split_at_mut(content.len());
+    over.copy_from_slice(content);
 }
 
 /// Appends a content to the bytes.

@@ -12,27 +12,33 @@ use Rattle.x7_listing.specs.declared.list.pen.state.Pen.TheVariants.{Session}
 
 -- ---- how many bytes of text a step puts on a sheet at most
 
+-- how many bytes a row of a table has (`src/line/tables.rt`)
+abbrev pub table_row_size : ℕ
+table_row_size = 32
+
 -- how many bytes the lines of a write of one word have at most, with an open line's end before them: that end, a row,
--- eight digits and a line end
+-- a word's digits and a line end
 abbrev pub one_write_lines_size : ℕ
-one_write_lines_size = 42
+one_write_lines_size = 1 + table_row_size + 8 + 1
 
 -- how many bytes the line of a short write's header has at most, with an open line's end before it: that end, a row,
 -- two digits and a line end
 abbrev pub head_line_size : ℕ
-head_line_size = 36
+head_line_size = 1 + table_row_size + 2 + 1
 
 -- how many bytes the lines of a short write have at most: its header's, and two full `data` lines
 abbrev pub short_write_lines_size : ℕ
 short_write_lines_size = head_line_size + 2 * data_line_size
 
--- how many bytes the lines of 32 no-ops have, four each, with an open line's end before them
+-- how many bytes the lines of 32 no-ops have, with an open line's end before them: that end, and four for each `nop`
+-- and its line end
 abbrev pub nop_lines_size : ℕ
-nop_lines_size = 129
+nop_lines_size = 1 + 32 * 4
 
--- how many bytes the lines of a gap of 31 bytes and of the sync word after it have
+-- how many bytes the lines of a gap of 31 bytes and of the sync word after it have: the word `bytes` and a space, two
+-- digits for each byte and a line end, and `sync` with a line end
 abbrev pub gap_lines_size : ℕ
-gap_lines_size = 74
+gap_lines_size = 6 + 31 * 2 + 1 + 5
 
 -- ---- what stands there
 

@@ -5,4 +5,4 @@ mod quick;
 mod write_pairs;
 
 pub(crate) use line_end::next_line;
-pub(crate) use quick::{WholeLines, read_quick_after_first_line};
+pub(crate) use quick::{WholeLines, read_quick};

@@ -4,7 +4,7 @@ ghost use Rattle.std.specs.List.{flat_map};
 ghost use Rattle.x7_words.specs.Word.{AreBytes};
 ghost use Rattle.x7_header.specs.Header.{HeaderContents, longest_header};
 ghost use Rattle.x7_text.specs.Digits.{hex_byte};
-ghost use Rattle.x7_listing.specs.BitLine.{bit_text, field_text, IsCutAtSpace, IsField, IsHeaderOf, IsTextOfField, FitsHeader};
+ghost use Rattle.x7_listing.specs.BitLine.{bit_text, field_text, IsCutAtSpace, IsField, IsBitLine, IsHeaderOf, IsTextOfField, FitsHeader};
 ghost use Rattle.x7_words.specs.Characters.{space_byte};
 
 use memchr::memchr;
@@ -56,18 +56,58 @@ fn at_space(text: &[u8]) -> Option<(&[u8], &[u8])>
 }
 
 /// The bytes that two fields hold, by their texts; `None` where one of these is no field's text.
-fn two_fields(alloc: Global, x: &[u8], y: &[u8]) -> Result<Option<(Vec<u8>, Vec<u8>)>, NoMemory>
+fn two_fields(
+    alloc: Global,
+    text: &[u8],
+    other: &[u8],
+) -> Result<Option<(Vec<u8>, Vec<u8>)>, NoMemory>
     ensures { IfOk result (λ found. MatchOption found
-        ((a b : List ℕ) → IsField a → IsField b → x.now ≡ field_text a → y.now ≢ field_text b)
-        (λ fields. IsTextOfField x.now fields.0.items × IsTextOfField y.now fields.1.items)) }
+        ((a b : List ℕ) → IsField a → IsField b → text.now ≡ field_text a → other.now ≢ field_text b)
+        (λ fields. IsTextOfField text.now fields.0.items × IsTextOfField other.now fields.1.items)) }
 {
-    let Some(first) = field_of(alloc, x)? else {
+    let Some(first) = field_of(alloc, text)? else {
         return Ok(None);
     };
-    let Some(second) = field_of(alloc, y)? else {
+    let Some(second) = field_of(alloc, other)? else {
         return Ok(None);
     };
     Ok(Some((first, second)))
+}
+
+/// What a header's line has in the places of its fields: four texts, and the length of the data in bytes.
+#[derive(Clone, Copy)]
+struct FieldTexts<'t> {
+    a: &'t [u8],
+    b: &'t [u8],
+    c: &'t [u8],
+    d: &'t [u8],
+    length: u32,
+}
+
+/// The texts in the places of a header's fields; `None` where the text has no such places.
+fn field_texts(line: &[u8]) -> Option<FieldTexts<'_>>
+    ensures { MatchOption result ((x : HeaderContents) → FitsHeader x → line.now ≢ bit_text x)
+        (λ texts. IsBitLine line.now texts.a.now texts.b.now texts.c.now texts.d.now texts.length) }
+{
+    let Some(fields) = after(line, b"bit ") else {
+        return None;
+    };
+    let Some((a, rest)) = at_space(fields) else {
+        return None;
+    };
+    let Some((b, rest)) = at_space(rest) else {
+        return None;
+    };
+    let Some((c, rest)) = at_space(rest) else {
+        return None;
+    };
+    let Some((d, digits)) = at_space(rest) else {
+        return None;
+    };
+    let Some(length) = number_of_decimal(digits) else {
+        return None;
+    };
+    Some(FieldTexts { a, b, c, d, length })
 }
 
 /// The header whose line this is, as bytes; `None` where the text is no header's line.
@@ -76,28 +116,13 @@ pub(crate) fn header_of_line(alloc: Global, line: &[u8]) -> Result<Option<Vec<u8
         (λ bytes. IsHeaderOf line.now bytes.items)) }
     ensures most { IfOk result (λ found. IfSome found (λ bytes. vec_len bytes ≤ longest_header)) }
 {
-    let Some(fields) = after(line, b"bit ") else {
+    let Some(texts) = field_texts(line) else {
         return Ok(None);
     };
-    let Some((a, rest)) = at_space(fields) else {
+    let Some((a, b)) = two_fields(alloc, texts.a, texts.b)? else {
         return Ok(None);
     };
-    let Some((b, rest)) = at_space(rest) else {
-        return Ok(None);
-    };
-    let Some((c, rest)) = at_space(rest) else {
-        return Ok(None);
-    };
-    let Some((d, digits)) = at_space(rest) else {
-        return Ok(None);
-    };
-    let Some(length) = number_of_decimal(digits) else {
-        return Ok(None);
-    };
-    let Some((a, b)) = two_fields(alloc, a, b)? else {
-        return Ok(None);
-    };
-    let Some((c, d)) = two_fields(alloc, c, d)? else {
+    let Some((c, d)) = two_fields(alloc, texts.c, texts.d)? else {
         return Ok(None);
     };
     let head = Head {
@@ -105,7 +130,7 @@ pub(crate) fn header_of_line(alloc: Global, line: &[u8]) -> Result<Option<Vec<u8
         b: &b,
         c: &c,
         d: &d,
-        length,
+        length: texts.length,
         size: 0,
     };
     Ok(Some(write_header(alloc, &head)?))

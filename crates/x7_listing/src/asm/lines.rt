@@ -9,7 +9,7 @@ ghost use Rattle.x7_listing.specs.Assembling.{HasReadWithRoom, FailsFirst, Fails
 ghost use Rattle.x7_listing.specs.Line.{line_bytes, FitsLine, text_of};
 ghost use Rattle.x7_listing.specs.declared.assembler.AsmFault.{AsmFault};
 
-use super::fast::{WholeLines, next_line, read_quick_after_first_line};
+use super::fast::{WholeLines, next_line, read_quick};
 use super::header::header_of_line;
 use super::reading::{MOST_ROW_SIZE, read_line};
 use crate::assembler::{ASM_LIMIT, AsmFault};
@@ -69,20 +69,20 @@ impl AsmLines {
         }
     }
 
-    /// Appends the bytes of line `n`, counted from 1, which is no header's, and makes room for those of the next. Where
-    /// there was room for those of line `n`, memory is wanting only once that line is read.
-    fn read_one(&mut self, n: u64, line: &[u8]) -> Result<(), AsmFault>
-        ensures reads { OnOk result (ReadsNext self.old self.new n line.now) }
+    /// Appends the bytes of line `line_number`, which is no header's, and makes room for those of the next. Where there
+    /// was room for those of this line, memory is wanting only once it is read.
+    fn read_one(&mut self, line_number: u64, line: &[u8]) -> Result<(), AsmFault>
+        ensures reads { OnOk result (ReadsNext self.old self.new line_number line.now) }
         ensures room { OnOk result (HasLineRoom self.new) }
-        ensures fault { IfErr result (FailsNext self.old n line.now) }
-        ensures memory { IfErr result (λ fault. fault ≡ AsmFault.NoMemory → HasLineRoom self.old → ReadsNext self.old self.new n line.now) }
+        ensures fault { IfErr result (FailsNext self.old line_number line.now) }
+        ensures memory { IfErr result (λ fault. fault ≡ AsmFault.NoMemory → HasLineRoom self.old → ReadsNext self.old self.new line_number line.now) }
     {
         self.out.reserve(MOST_ROW_SIZE)?;
         if !read_checked_line(&mut self.out, self.start, &mut self.checker, line) {
-            return Err(AsmFault::Line(n));
+            return Err(AsmFault::Line(line_number));
         }
         if self.out.len() > ASM_LIMIT {
-            return Err(AsmFault::TooLong(n));
+            return Err(AsmFault::TooLong(line_number));
         }
         self.out.reserve(MOST_ROW_SIZE)?;
         Ok(())
@@ -104,24 +104,25 @@ impl AsmLines {
         self.read_one(1, line)
     }
 
-    /// Appends the bytes of line `n`, counted from 1. Memory is wanting only at the first line, or where all lines up
-    /// to line `n` are good.
-    fn read_next(&mut self, n: u64, line: &[u8]) -> Result<(), AsmFault>
-        ensures read { (lines : List (List ℕ)) → n ≡ length lines + 1 → HasReadWithRoom self.old lines
+    /// Appends the bytes of line `line_number`. Memory is wanting only at the first line, or where all lines up to this
+    /// one are good.
+    fn read_next(&mut self, line_number: u64, line: &[u8]) -> Result<(), AsmFault>
+        ensures read { (lines : List (List ℕ)) → line_number ≡ length lines + 1 → HasReadWithRoom self.old lines
             → MatchResult result (λ _. HasReadWithRoom self.new (lines ++ line.now ∷ []))
             (λ f. (left : List (List ℕ)) → HasAsmFault f (lines ++ line.now ∷ left)) }
-        ensures memory { (lines : List (List ℕ)) → n ≡ length lines + 1 → HasReadWithRoom self.old lines
+        ensures memory { (lines : List (List ℕ)) → line_number ≡ length lines + 1 → HasReadWithRoom self.old lines
             → IfErr result (λ fault. fault ≡ AsmFault.NoMemory → IsFirstOrGood lines line.now) }
     {
-        if n == 1 {
+        if line_number == 1 {
             return self.read_first(line);
         }
-        self.read_one(n, line)
+        self.read_one(line_number, line)
     }
 
-    /// Appends the bytes of the text's first lines after `n` lines, as far as they are read at once. A line that isn't
-    /// is left to `read_next`, and so are those after it.
-    fn read_at_once(&mut self, n: u64, text: &[u8]) -> WholeLines
+    /// Appends the bytes of the text's first lines after `line_count` lines, as far as they are read at once: none
+    /// before any line, since the first one may be a header's. A line that isn't read at once is left to `read_next`, and
+    /// so are those after it.
+    fn read_at_once(&mut self, line_count: u64, text: &[u8]) -> WholeLines
         ensures appends { AppendsLines text.now (drop result.size text.now) self.old.out self.new.out result.count }
         ensures start { self.new.start ≡ self.old.start }
         ensures room { HasLineRoom self.old → HasLineRoom self.new }
@@ -129,9 +130,12 @@ impl AsmLines {
         ensures within { result.size ≤ length text.now }
         ensures count_within { result.count ≤ result.size }
         ensures most { length self.old.out ≤ ASM_LIMIT → length self.new.out ≤ ASM_LIMIT }
-        ensures no_first_line { n ≡ 0 → result.count ≡ 0 }
+        ensures no_first_line { line_count ≡ 0 → result.count ≡ 0 }
     {
-        read_quick_after_first_line(&mut self.out, n, text)
+        if line_count == 0 {
+            return WholeLines { size: 0, count: 0 };
+        }
+        read_quick(&mut self.out, text)
     }
 }
 

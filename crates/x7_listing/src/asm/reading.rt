@@ -1,5 +1,5 @@
 //! Reading one line: the bytes that it stands for.
-ghost use Rattle.std.specs.Prelude.{◌≡◌, ◌≢◌, ℕ, List, ◌<◌, ◌^◌, ◌∷◌, ◌++◌, length, slice_index, decimal, IfSome, MatchOption};
+ghost use Rattle.std.specs.Prelude.{◌≡◌, ◌≢◌, ℕ, List, ◌<◌, ◌^◌, ◌∷◌, ◌++◌, length, slice_index, decimal, MatchOption};
 ghost use Rattle.x7_words.specs.Word.{bytes_of_word};
 ghost use Rattle.x7_regs.specs.Command.{code_of, command_name_of};
 ghost use Rattle.x7_regs.specs.Register.{reg_name, reg_number_count};
@@ -7,7 +7,7 @@ ghost use Rattle.x7_regs.specs.declared.command.Command.{Command};
 ghost use Rattle.x7_packets.specs.PacketWords.{type1_read_header, type1_write_header, type2_counts, type2_read_header, type2_write_header};
 ghost use Rattle.x7_text.specs.Appends.{Appends, HasSpareRoom};
 ghost use Rattle.x7_text.specs.Digits.{hex_word};
-ghost use Rattle.x7_listing.specs.Line.{type1_text, line_bytes, FitsLine, IsType1, IsPlain, text_of};
+ghost use Rattle.x7_listing.specs.Line.{type1_text, line_bytes, FitsLine, FitsWordLine, IsType1, text_of, word_of_line};
 ghost use Rattle.x7_words.specs.Characters.{space_byte};
 ghost use Rattle.x7_listing.specs.BitLine.{IsFirstSpace};
 ghost use Rattle.x7_listing.specs.OneWord.{IsWordOf, PutsWord};
@@ -20,7 +20,8 @@ use x7_packets::{
 };
 use x7_regs::{Reg, command_named, reg_named};
 use x7_text::{
-    BYTES_ROW_SIZE, after, decimal_below, put, read_byte_row, read_word_row, word_of_hex,
+    BYTES_ROW_SIZE, after, decimal_below, means_nothing, put, read_byte_row, read_word_row,
+    word_of_hex,
 };
 use x7_words::{bytes_of, is_same};
 
@@ -45,24 +46,11 @@ fn space_in(text: &[u8]) -> Option<usize>
     None
 }
 
-/// The number of the register whose name stands before the first space, and what stands after the space.
-fn register_before(text: &[u8]) -> Option<(u8, &[u8])>
-    ensures { MatchOption result ((n : ℕ) (rest : List ℕ) → n < reg_number_count → text.now ≢ reg_name n ++ space_byte ∷ rest)
-        (λ r. (r.0 < reg_number_count) × (text.now ≡ reg_name r.0 ++ space_byte ∷ r.1.now)) }
-{
-    let Some(at) = space_in(text) else {
-        return None;
-    };
-    let Some(number) = reg_named(&text[..at]) else {
-        return None;
-    };
-    Some((number, &text[at + 1..]))
-}
-
-/// The register's number and the word count of `NAME N`, where a space stands after the name at this place. `None`
-/// where the text isn't seen to be of that form.
-pub(crate) fn type1_fields_seen(text: &[u8], space: usize) -> Option<(u8, u32)>
-    ensures { IfSome result (λ a. IsType1 (a.0, a.1) × (text.now ≡ type1_text (a.0, a.1))) }
+/// The register's number and the word count of `NAME N`, where a space stands after the name at this place. `None` for
+/// any other text whose first space stands there, and where no space does.
+pub(crate) fn type1_fields_at(text: &[u8], space: usize) -> Option<(u8, u32)>
+    ensures { MatchOption result (IsFirstSpace text.now space → (a : ℕ × ℕ) → IsType1 a → text.now ≢ type1_text a)
+        (λ a. IsType1 (a.0, a.1) × (text.now ≡ type1_text (a.0, a.1))) }
 {
     if space >= text.len() || text[space] != b' ' {
         return None;
@@ -143,13 +131,10 @@ fn read2_of(digits: &[u8]) -> Option<u32>
 fn type1_fields(text: &[u8]) -> Option<(u8, u32)>
     ensures { MatchOption result ((a : ℕ × ℕ) → IsType1 a → text.now ≢ type1_text a) (λ a. IsType1 (a.0, a.1) × (text.now ≡ type1_text (a.0, a.1))) }
 {
-    let Some((register, digits)) = register_before(text) else {
+    let Some(space) = space_in(text) else {
         return None;
     };
-    let Some(count) = decimal_below(digits, TYPE1_COUNTS) else {
-        return None;
-    };
-    Some((register, count))
+    type1_fields_at(text, space)
 }
 
 /// The header of a type 1 write, by its register's name and its word count; `None` for any other text.
@@ -172,26 +157,35 @@ fn read_of(text: &[u8]) -> Option<u32>
     Some(type1_read_header(register, count))
 }
 
-/// Appends the bytes of a line that is empty, `sync` or `crc`, where the bytes of the lines before have this check.
-/// `false`: the line is none of these.
-fn read_plain(out: &mut Vec<u8>, check: u32, line: &[u8]) -> bool
-    requires { HasSpareRoom out.old bytes_row_size }
-    ensures reads { AppendsIfRead IsPlain text_of (line_bytes check) result line.now out.old.items out.new.items }
-    ensures room { StaysWithin out.old out.new bytes_row_size }
+/// The word of a line that stands for one word; `None` for any other text.
+fn word_of_line(line: &[u8]) -> Option<u32>
+    ensures { IsWordOf FitsWordLine text_of word_of_line line.now result }
 {
-    if is_same(line, b"") {
-        return true;
+    if is_same(line, b"nop") {
+        return Some(NO_OP);
+    }
+    if let Some(fields) = after(line, b"write ") {
+        return write_of(fields);
+    }
+    if let Some(name) = after(line, b"cmd ") {
+        return command_word(name);
+    }
+    if let Some(digits) = after(line, b"word ") {
+        return word_in(digits);
+    }
+    if let Some(fields) = after(line, b"read ") {
+        return read_of(fields);
+    }
+    if let Some(digits) = after(line, b"write2 ") {
+        return write2_of(digits);
+    }
+    if let Some(digits) = after(line, b"read2 ") {
+        return read2_of(digits);
     }
     if is_same(line, b"sync") {
-        put_word_bytes(out, SYNC_WORD);
-        return true;
+        return Some(SYNC_WORD);
     }
-    if is_same(line, b"crc") {
-        put_word_bytes(out, type1_write_header(Reg::Crc.number(), 1));
-        put(out, &bytes_of(check));
-        return true;
-    }
-    false
+    None
 }
 
 /// Appends the bytes of a line, where the bytes of the lines before have this check. `false`: the text is that of no
@@ -201,36 +195,19 @@ pub(crate) fn read_line(out: &mut Vec<u8>, check: u32, line: &[u8]) -> bool
     ensures reads { AppendsIfRead FitsLine text_of (line_bytes check) result line.now out.old.items out.new.items }
     ensures room { StaysWithin out.old out.new bytes_row_size }
 {
-    if is_same(line, b"nop") {
-        put_word_bytes(out, NO_OP);
-        return true;
-    }
     if let Some(words) = after(line, b"data") {
         return read_word_row(out, words);
-    }
-    if let Some(fields) = after(line, b"write ") {
-        return put_found(out, write_of(fields));
-    }
-    if let Some(name) = after(line, b"cmd ") {
-        return put_found(out, command_word(name));
     }
     if let Some(digits) = after(line, b"bytes ") {
         return read_byte_row(out, digits);
     }
-    if let Some(digits) = after(line, b"word ") {
-        return put_found(out, word_in(digits));
-    }
-    if let Some(fields) = after(line, b"read ") {
-        return put_found(out, read_of(fields));
-    }
-    if let Some(digits) = after(line, b"write2 ") {
-        return put_found(out, write2_of(digits));
-    }
-    if let Some(digits) = after(line, b"read2 ") {
-        return put_found(out, read2_of(digits));
-    }
-    if after(line, b"#").is_some() {
+    if means_nothing(line) {
         return true;
     }
-    read_plain(out, check, line)
+    if is_same(line, b"crc") {
+        put(out, &bytes_of(type1_write_header(Reg::Crc.number(), 1)));
+        put(out, &bytes_of(check));
+        return true;
+    }
+    put_found(out, word_of_line(line))
 }

@@ -108,15 +108,15 @@ fn put_count(text: &mut Vec<u8>, keyword: &[u8], count: u32)
     put(text, b"\n");
 }
 
-/// Appends a line of one word: a keyword of four letters, a space and eight digits.
-fn put_whole_word(text: &mut Vec<u8>, keyword: &[u8; 5], word: u32)
-    requires { HasSpareRoom text.old line_size }
+/// Appends a line of one word: a keyword and eight digits.
+fn put_whole_word(text: &mut Vec<u8>, keyword: &[u8], word: u32)
+    requires room { HasSpareRoom text.old line_size }
+    requires short { length keyword.now ≤ type1_keyword_limit }
     ensures appends { Appends text.old text.new (keyword.now ++ hex_word word ++ line_end_byte ∷ []) line_size }
 {
-    let mut line = [b'\n'; 14];
-    line[5..13].copy_from_slice(&hex_of_word(word));
-    line[..5].copy_from_slice(keyword);
-    put(text, &line);
+    put(text, keyword);
+    put(text, &hex_of_word(word));
+    put(text, b"\n");
 }
 
 /// Appends the line of a word in a header's place, after an open line of `in_line` words.

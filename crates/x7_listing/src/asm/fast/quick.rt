@@ -11,7 +11,7 @@ ghost use Rattle.x7_words.specs.Characters.{space_byte};
 ghost use Rattle.x7_listing.specs.Fast.Looking.{AppendsFoundLines, ReadsAtOnce};
 
 use super::write_pairs::{differences, read_pair};
-use crate::asm::reading::{MOST_ROW_SIZE, put_word_bytes, type1_fields_seen};
+use crate::asm::reading::{MOST_ROW_SIZE, put_word_bytes, type1_fields_at};
 use crate::assembler::ASM_LIMIT;
 use crate::line::{BYTES_SIZE, DATA_SIZE, SPACED_WORD_SIZE};
 use std::simd::prelude::*;
@@ -235,7 +235,7 @@ fn read_write_line(out: &mut Vec<u8>, text: &[u8; LOOK_SIZE]) -> Option<WholeLin
     {
         return None;
     }
-    let Some((register, count)) = type1_fields_seen(
+    let Some((register, count)) = type1_fields_at(
         &text[WRITE_SIZE..BESIDE_NAME_SIZE + space],
         space,
     ) else {
@@ -277,7 +277,7 @@ fn read_some(out: &mut Vec<u8>, text: &[u8; LOOK_SIZE]) -> Option<WholeLines>
 
 /// Appends the bytes of the text's first lines, as far as they are read at once, there is room for them and a further
 /// line, and their bytes are within the limit.
-fn read_quick(out: &mut Vec<u8>, text: &[u8]) -> WholeLines
+pub(crate) fn read_quick(out: &mut Vec<u8>, text: &[u8]) -> WholeLines
     ensures { ReadsAtOnce text.now out.old out.new result }
 {
     let mut all = WholeLines { size: 0, count: 0 };
@@ -299,21 +299,4 @@ fn read_quick(out: &mut Vec<u8>, text: &[u8]) -> WholeLines
             count: all.count + taken.count,
         };
     }
-}
-
-/// Appends the bytes of the text's first lines after `lines_before` lines, as far as they are read at once. Before any
-/// line none is, since the first one may be a header's.
-#[inline(always)]
-pub(crate) fn read_quick_after_first_line(
-    out: &mut Vec<u8>,
-    lines_before: u64,
-    text: &[u8],
-) -> WholeLines
-    ensures reads { ReadsAtOnce text.now out.old out.new result }
-    ensures no_first_line { lines_before ≡ 0 → result.count ≡ 0 }
-{
-    if lines_before == 0 {
-        return WholeLines { size: 0, count: 0 };
-    }
-    read_quick(out, text)
 }

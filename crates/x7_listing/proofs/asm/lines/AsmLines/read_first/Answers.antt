@@ -58,3 +58,8 @@ returns-in_err-header-clause-fault c = err_as _ _ c.from_residual.result (λ f w
 
 pub returns-in_err-reserve-clause-fault : goal.returns-in_err-reserve-clause-fault
 returns-in_err-reserve-clause-fault c = err_as _ _ c.from_residual-in_err-reserve.result (λ f want. inl want) c.from_residual-in_err-reserve.ensures.1
+
+pub invariant_of-self-in-Some : goal.invariant_of-self-in-Some
+invariant_of-self-in-Some c =
+    subst (λ (out : List ℕ). IsSoundOutput out c.len-self-inside.result c.new-self-inside.result) (sym c.reserve.ensures.items)
+    (header_sound c.in-Some.header.items c.len-self-inside.result c.new-self-inside.result (omega (arith, c.len-self-inside.ensures, c.in-Some.header.ok.0)) c.new-self-inside.ensures)
