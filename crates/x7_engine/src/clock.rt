@@ -51,14 +51,6 @@ fn move_watchdog(watchdog: &mut Watchdog, executed: Option<u8>, reg: Reg, word: 
     }
 }
 
-/// Whether startup has ended at each of some bytes or at none, by whether it had before them, and has after them: it
-/// doesn't go back over bytes.
-fn are_ended_alike(before: bool, after: bool) -> bool
-    ensures { IsTrue result ↔ (before ≡ after) }
-{
-    before == after
-}
-
 /// Startup and the watchdog as the bytes taken and the accesses have left them.
 #[derive(Clone, Copy)]
 pub(crate) struct Clock {
@@ -239,7 +231,8 @@ impl Clock {
         ensures { ClockTakesInAny part.now (clock_in self.old) (clock_in self.new) count result }
     {
         let eos = self.has_ended();
-        if are_ended_alike(eos, self.ends_within(part, count)) {
+        // Startup doesn't go back over bytes, so it has ended at each of them or at none.
+        if eos == self.ends_within(part, count) {
             return self.bytes_alike(part, count, eos);
         }
         self.bytes_one_by_one(part, count)

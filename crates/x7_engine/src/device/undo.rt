@@ -132,18 +132,6 @@ impl Device {
         ensures part { self.new.part ≡ self.old.part }
         ensures fed { fed_of self.new ≡ fed_of self.old }
     {
-        self.frames_fit();
-        self.go_back(undo);
-    }
-
-    /// Sets the device to what is saved, but for the count of fed bytes.
-    fn go_back(&mut self, undo: &Undo)
-        requires undo { IsUndoOf self.old.part undo.now }
-        requires back { TookFewSince undo.now self.old }
-        ensures back { (old : DeviceState) → UndoLeadsBack undo.now self.old old → AreEqual self.new old }
-        ensures part { self.new.part ≡ self.old.part }
-        ensures fed { fed_of self.new ≡ fed_of self.old }
-    {
         self.cutter = undo.cutter.copy();
         self.registers
             .restore(&self.part, &undo.registers, &undo.frames);
