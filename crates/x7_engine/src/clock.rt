@@ -6,12 +6,12 @@ ghost use Rattle.x7_flow.specs.Standing.{word_to, written_to};
 ghost use Rattle.x7_startup.specs.Phases.{last_phase};
 ghost use Rattle.x7_startup.specs.Startup.{AddsCalls, ticks_of};
 ghost use Rattle.x7_startup.specs.Watchdog.{OfCalls, WatchesFor};
-ghost use Rattle.x7_engine.specs.Clock.{AreEndedAlike, HasEndedBy, TakesEntry, ClockTakes, ClockTakesInAny, OfClock, OfStartup, startup_call_by, watch_call_by};
+ghost use Rattle.x7_engine.specs.Clock.{AreEndedAlike, HasEndedBy, TakesEntry, ClockTakes, ClockTakesInAny, OfClock, OfStartup};
 ghost use Rattle.x7_engine.specs.Course.{course_at};
 ghost use Rattle.x7_engine.specs.Registers.{AreFactsOfWrite};
-ghost use Rattle.x7_engine.specs.Startup.{has_ended, phase_of, startup_progress};
+ghost use Rattle.x7_engine.specs.Startup.{has_ended, phase_of, startup_progress, startup_call_by};
 ghost use Rattle.x7_engine.specs.Value.{lines_by};
-ghost use Rattle.x7_engine.specs.Watching.{watchdog_fires, first_firing};
+ghost use Rattle.x7_engine.specs.Watching.{watchdog_fires, first_firing, watch_call_by};
 ghost use Rattle.x7_engine.specs.declared.kept.Kept.{Kept as KeptData};
 
 use crate::kept::{Kept, is_fallback};

@@ -8,7 +8,7 @@ use x7_regs::{LOCK_CYCLE, MATCH_CYCLE};
 /// How many bytes a tick takes (this project's choice).
 pub const TICK_SIZE: u64 = 4;
 
-/// The number up to which ticks are counted, the last of 16 bits: no part waits for more.
+/// How many ticks are counted at most, the greatest number of 16 bits: no part waits for more.
 const TICK_LIMIT: u64 = 65_535;
 
 /// The number of the last phase of startup, in which it has ended.
