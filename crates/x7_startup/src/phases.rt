@@ -14,7 +14,7 @@ const TICK_LIMIT: u64 = 65_535;
 /// The number of the last phase of startup, in which it has ended.
 pub const LAST_PHASE: u8 = 7;
 
-/// A phase of at most 7, and the ticks since startup began, at most 65,535.
+/// A phase of at most `LAST_PHASE`, and the ticks since startup began, at most `TICK_LIMIT`.
 #[derive(Clone, Copy)]
 pub(crate) struct Reached {
     pub(crate) ticks: u16,
