@@ -43,7 +43,7 @@ impl Device {
         ensures forward { at ≤ result }
         ensures soonest { OfPast self.now (λ p. HasNotBegun p.part p.kept p.bytes ⊎ (result ≤ at + soonest_end (state_at p).phase)) }
     {
-        if self.registers.clock.startup.has_begun() {
+        if self.has_begun() {
             return at + soonest_end(self.phase()).min(length - at);
         }
         length
