@@ -18,7 +18,7 @@ use Rattle.x7_flow.specs.Controls.{has_idcode, same_idcode}
 use Rattle.x7_engine.specs.Sequence.{StartupBegins}
 use Rattle.x7_engine.specs.Startup.{phase_by, startup_progress}
 use Rattle.x7_engine.specs.State.{history_by, history_taken, last_counted, state_of, first_stop_of_bytes, taken_by, taken_of}
-use Rattle.x7_engine.specs.Stop.{Stopped, asks_decryption, why_at_access, needs_match, first_stop_of_history, stop_at_place, why_by_write}
+use Rattle.x7_engine.specs.Stop.{Stopped, asks_decryption, why_at_access, needs_idcode, first_stop_of_history, stop_at_place, why_by_write}
 use Rattle.x7_engine.proofs.BeginsLemmas.{begins_by}
 use Rattle.x7_engine.proofs.StateLemmas.{counted_least, no_stop_before, stop_place, parts_none}
 use Rattle.x7_engine.proofs.TurnLemmas.{until_until}
@@ -110,7 +110,7 @@ none_of false false false true e v w x y z q = absurd (cc)
 none_of false false false false e v w x y z q = (refl, refl, refl, refl)
 
 write_none : (part : PartData) (kept : Kept) (h : History) (register w : ℕ) → why_at_access part kept h (Write register w) ≡ None
-    → ((register == 0 && not (w == running_check h)) ≡ false) × (asks_decryption h register w ≡ false) × ((register == 12 && not (same_idcode part.idcode w)) ≡ false) × ((needs_match h register w && not (has_idcode part.idcode h)) ≡ false)
+    → ((register == 0 && not (w == running_check h)) ≡ false) × (asks_decryption h register w ≡ false) × ((register == 12 && not (same_idcode part.idcode w)) ≡ false) × ((needs_idcode h register w && not (has_idcode part.idcode h)) ≡ false)
 write_none part kept h register w e = none_of _ _ _ _ _ _ _ _ _ _ (parts_none (why_by_write part kept h register w) _ e).0
 
 not_false : (b : Bool) → not b ≡ false → b ≡ true
@@ -129,7 +129,7 @@ check_equals part kept h w e =
 pub idcode_matches : (part : PartData) (kept : Kept) (h : History) (w : ℕ) → why_at_access part kept h (Write 12 w) ≡ None → IsTrue (same_idcode part.idcode w)
 idcode_matches part kept h w e = not_false (same_idcode part.idcode w) (write_none part kept h 12 w e).2
 
-needs_start : (h : History) (register w : ℕ) → executes 5 h (Write register w) ≡ true → needs_match h register w ≡ true
+needs_start : (h : History) (register w : ℕ) → executes 5 h (Write register w) ≡ true → needs_idcode h register w ≡ true
 needs_start h register w e = by (register == 2) (register == 10)
   where
     by : (a b : Bool) → (a || (b || executes 5 h (Write register w))) ≡ true
@@ -140,7 +140,7 @@ needs_start h register w e = by (register == 2) (register == 10)
 matched_at : (part : PartData) (kept : Kept) (h : History) (access : Access) → executes 5 h access ≡ true → why_at_access part kept h access ≡ None → IsTrue (has_idcode part.idcode h)
 matched_at part kept h (Read register n) x e = absurd (cc)
 matched_at part kept h (Bad w) x e = absurd (cc)
-matched_at part kept h (Write register w) x e = and_not (needs_match h register w) (has_idcode part.idcode h) (write_none part kept h register w e).3 (needs_start h register w x)
+matched_at part kept h (Write register w) x e = and_not (needs_idcode h register w) (has_idcode part.idcode h) (write_none part kept h register w e).3 (needs_start h register w x)
 
 -- ---- where startup has begun
 

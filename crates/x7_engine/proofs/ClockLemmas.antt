@@ -12,12 +12,12 @@ use Rattle.x7_startup.proofs.CallLemmas.{idle_stands, one_phase_after, phase_nev
 use Rattle.x7_startup.proofs.WatchdogLemmas.{idle_fires, idle_watches, timer_load, timer_reload, timer_watched}
 use Rattle.x7_engine.specs.Course.{course_at}
 use Rattle.x7_engine.specs.declared.kept.Kept.{Kept}
-use Rattle.x7_engine.specs.Clock.{AreEndedAlike, ClockState, IsClock, ClockTakes, newest_place, startup_call_by, watch_call_by}
+use Rattle.x7_engine.specs.Clock.{AreEndedAlike, ClockState, IsClock, ClockTakes, newest_place}
 use Rattle.x7_engine.specs.Kept.{is_fallback}
 use Rattle.x7_engine.specs.Registers.{takes_shutdown}
-use Rattle.x7_engine.specs.Startup.{has_ended, phase_by, phase_of, startup_call, startup_calls, startup_progress}
+use Rattle.x7_engine.specs.Startup.{has_ended, phase_by, phase_of, startup_call, startup_calls, startup_progress, startup_call_by}
 use Rattle.x7_engine.specs.Stop.{why_at_access, first_stop_of_history, stop_at_place, stop_at_firing, Stopped}
-use Rattle.x7_engine.specs.Watching.{fired_or, watchdog_fires, first_firing, timer_held, watch_call, watch_calls, watched_bytes}
+use Rattle.x7_engine.specs.Watching.{fired_or, watchdog_fires, first_firing, timer_held, watch_call, watch_calls, watched_bytes, watch_call_by}
 use Rattle.x7_engine.proofs.StartupLemmas.{phase_is}
 
 -- ---- the calls of bytes more

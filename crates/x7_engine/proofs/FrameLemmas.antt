@@ -34,7 +34,7 @@ use Rattle.x7_engine.specs.declared.stop.StopCause.{StopCause}
 use Rattle.x7_engine.specs.declared.stop.StopCause.TheVariants as stop
 use Rattle.x7_engine.specs.Kept.{is_fallback}
 use Rattle.x7_engine.specs.Standing.{FramesAre, due_count, frames_among, frames_due, frames_history, is_refusal, without_newest, words_still_due}
-use Rattle.x7_engine.specs.Stop.{why_besides_frames, asks_decryption, why_by_frames, why_at_access, needs_match, stop_of_refused, why_by_write}
+use Rattle.x7_engine.specs.Stop.{why_besides_frames, asks_decryption, why_by_frames, why_at_access, needs_idcode, stop_of_refused, why_by_write}
 use Rattle.x7_engine.specs.Value.{register_value, value_owing}
 use Rattle.x7_engine.proofs.PlainLemmas.{IsPlain, plain_asks}
 
@@ -155,7 +155,7 @@ no_refusal : (part : PartData) (kept : Kept) (h : History) (access : Access) →
 no_refusal part kept h (Read r count) = refl
 no_refusal part kept h (Bad w) = refl
 no_refusal part kept h (Write r w) =
-    by (r == 0 && not (w == running_check h)) (asks_decryption h r w) (r == 12 && not (same_idcode part.idcode w)) (needs_match h r w && not (has_idcode part.idcode h)) (r == 4 && (w % 2 ^ 5 == 15 && not (is_fallback kept.kind)))
+    by (r == 0 && not (w == running_check h)) (asks_decryption h r w) (r == 12 && not (same_idcode part.idcode w)) (needs_idcode h r w && not (has_idcode part.idcode h)) (r == 4 && (w % 2 ^ 5 == 15 && not (is_fallback kept.kind)))
   where
     by : (crc dec id match iprog : Bool) → is_refusal (
         if crc then Some (stop.Fault (fault.Crc (running_check h) w)) else

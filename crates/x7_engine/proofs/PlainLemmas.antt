@@ -51,42 +51,28 @@ pub record IsPlain (register : ℕ) : Type 0 where
   pub mfwr : (register == 10) ≡ false
   pub cbc : (register == 11) ≡ false
 
-all_false : (a b c d e f g h i j k : Bool) → (a || (b || (c || (d || (e || (f || (g || (h || (i || (j || (k || false))))))))))) ≡ false
-    → (a ≡ false) × (b ≡ false) × (c ≡ false) × (d ≡ false) × (e ≡ false) × (f ≡ false) × (g ≡ false) × (h ≡ false) × (i ≡ false) × (j ≡ false) × (k ≡ false)
-all_false true b c d e f g h i j k p = absurd cc
-all_false false true c d e f g h i j k p = absurd cc
-all_false false false true d e f g h i j k p = absurd cc
-all_false false false false true e f g h i j k p = absurd cc
-all_false false false false false true f g h i j k p = absurd cc
-all_false false false false false false true g h i j k p = absurd cc
-all_false false false false false false false true h i j k p = absurd cc
-all_false false false false false false false false true i j k p = absurd cc
-all_false false false false false false false false false true j k p = absurd cc
-all_false false false false false false false false false false true k p = absurd cc
-all_false false false false false false false false false false false true p = absurd cc
-all_false false false false false false false false false false false false p = (refl, refl, refl, refl, refl, refl, refl, refl, refl, refl, refl)
-
-pub plain_is : (register : ℕ) → has_effect register ≡ false → IsPlain register
-plain_is register e =
-    let a = all_false (register == 0) (register == 1) (register == 2) (register == 4) (register == 5) (register == 8) (register == 10) (register == 11) (register == 12) (register == 17) (register == 24) e in
-    record { quiet = record { crc = a.0; far = a.1; cmd = a.3; ctl0 = a.4; lout = a.5; idcode = a.8; timer = a.9; ctl1 = a.10 }; fdri = a.2; mfwr = a.6; cbc = a.7 }
-
-eight_false : (a b c d e f g h : Bool) → (a || (b || (c || (d || (e || (f || (g || (h || false)))))))) ≡ false
-    → (a ≡ false) × (b ≡ false) × (c ≡ false) × (d ≡ false) × (e ≡ false) × (f ≡ false) × (g ≡ false) × (h ≡ false)
-eight_false true b c d e f g h p = absurd cc
-eight_false false true c d e f g h p = absurd cc
-eight_false false false true d e f g h p = absurd cc
-eight_false false false false true e f g h p = absurd cc
-eight_false false false false false true f g h p = absurd cc
-eight_false false false false false false true g h p = absurd cc
-eight_false false false false false false false true h p = absurd cc
-eight_false false false false false false false false true p = absurd cc
-eight_false false false false false false false false false p = (refl, refl, refl, refl, refl, refl, refl, refl)
+both_false : (a b : Bool) → (a || b) ≡ false → (a ≡ false) × (b ≡ false)
+both_false true b p = absurd cc
+both_false false b p = (refl, p)
 
 pub quiet_is : (register : ℕ) → is_controlling register ≡ false → IsQuiet register
 quiet_is register e =
-    let a = eight_false (register == 0) (register == 1) (register == 4) (register == 5) (register == 8) (register == 12) (register == 17) (register == 24) e in
-    record { crc = a.0; far = a.1; cmd = a.2; ctl0 = a.3; lout = a.4; idcode = a.5; timer = a.6; ctl1 = a.7 }
+    let crc = both_false (register == 0) _ e in
+    let far = both_false (register == 1) _ crc.1 in
+    let cmd = both_false (register == 4) _ far.1 in
+    let ctl0 = both_false (register == 5) _ cmd.1 in
+    let lout = both_false (register == 8) _ ctl0.1 in
+    let idcode = both_false (register == 12) _ lout.1 in
+    let timer = both_false (register == 17) _ idcode.1 in
+    let ctl1 = both_false (register == 24) _ timer.1 in
+    record { crc = crc.0; far = far.0; cmd = cmd.0; ctl0 = ctl0.0; lout = lout.0; idcode = idcode.0; timer = timer.0; ctl1 = ctl1.0 }
+
+pub plain_is : (register : ℕ) → has_effect register ≡ false → IsPlain register
+plain_is register e =
+    let fdri = both_false (register == 2) _ e in
+    let mfwr = both_false (register == 10) _ fdri.1 in
+    let cbc = both_false (register == 11) _ mfwr.1 in
+    record { quiet = quiet_is register cbc.1; fdri = fdri.0; mfwr = mfwr.0; cbc = cbc.0 }
 
 pub fdri_quiet : IsQuiet 2
 fdri_quiet = record { crc = refl; far = refl; cmd = refl; ctl0 = refl; lout = refl; idcode = refl; timer = refl; ctl1 = refl }

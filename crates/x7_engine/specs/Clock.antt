@@ -1,19 +1,16 @@
 -- What the clock of a device stands for: startup and the watchdog after a history with a number of bytes taken (this
 -- project's choice).
-use Rattle.std.specs.Prelude.{◌≡◌, ℕ, ◌+◌, ◌<◌, ◌≤◌, Bool, true, if◌then◌else◌, List, [], ◌∷◌, Option, None, Some, IfSome}
-use Rattle.x7_packets.specs.History.{Access, Entry, History, is_command}
+use Rattle.std.specs.Prelude.{◌≡◌, ℕ, ◌+◌, ◌<◌, ◌≤◌, Bool, true, [], ◌∷◌, Option, None, Some, IfSome}
+use Rattle.x7_packets.specs.History.{Entry, History}
 use Rattle.x7_part.specs.Part.{PartData}
-use Rattle.x7_regs.specs.declared.command.Command.TheVariants.{Desync, Ltimer, Start}
-use Rattle.x7_regs.specs.Command.{code_of}
-use Rattle.x7_startup.specs.Startup.{Call, StandsForCalls, StartupState}
-use Rattle.x7_startup.specs.Startup as call
-use Rattle.x7_startup.specs.Watchdog.{Reload, WatchdogState, WatchCall, WatchesFor}
+use Rattle.x7_startup.specs.Startup.{StandsForCalls, StartupState}
+use Rattle.x7_startup.specs.Watchdog.{WatchdogState, WatchesFor}
 use Rattle.x7_engine.specs.declared.clock.Clock.{Clock}
 use Rattle.x7_engine.specs.declared.kept.Kept.{Kept}
 use Rattle.x7_engine.specs.Kept.{is_fallback}
 use Rattle.x7_engine.specs.Course.{Course, course_at}
 use Rattle.x7_engine.specs.Startup.{has_ended, startup_calls}
-use Rattle.x7_engine.specs.Watching.{first_firing, load_call, watch_calls}
+use Rattle.x7_engine.specs.Watching.{first_firing, watch_calls}
 
 -- the stored values of a clock
 pub record ClockState : Type 0 where
@@ -78,14 +75,3 @@ pub record HasEndedBy (c : Course) (clock : ClockState) (count : ℕ) : Type 0 w
 abbrev pub TakesEntry : ClockState → ClockState → Entry → (History → Type 0) → Type 0
 TakesEntry old new e Fact =
     (part : PartData) (kept : Kept) (h : History) → Fact h → IsClock part kept old h e.place → IsClock part kept new (e ∷ h) e.place
-
--- what an access asks of startup, by the command that it executes, whether it takes a shutdown, and COR0
-abbrev pub startup_call_by : Option ℕ → Bool → ℕ → List Call
-startup_call_by command takes_shutdown cor0 =
-    if is_command (code_of Start) command then call.Arm ∷ [] else
-    if takes_shutdown then call.DropBack ∷ [] else
-    if is_command (code_of Desync) command then call.Desync cor0 ∷ [] else []
-
--- what an access asks of the watchdog, by the command that it executes
-abbrev pub watch_call_by : Option ℕ → Access → List WatchCall
-watch_call_by command access = if is_command (code_of Ltimer) command then Reload ∷ [] else load_call access

@@ -1,5 +1,5 @@
 -- Words read out of a device: gathered up to a number, or dropped (this project's choice).
-use Rattle.std.specs.Prelude.{◌≡◌, ◌≤◌, ◌+◌, ℕ, List, [], ◌++◌, length, Option, None, Some, vec_len, vec_capacity}
+use Rattle.std.specs.Prelude.{◌≡◌, ◌≤◌, ◌+◌, ℕ, List, [], ◌∷◌, ◌++◌, length, Option, None, Some, vec_len, vec_capacity}
 use Rattle.x7_engine.specs.declared.read_buffer.Room.{Room}
 use Rattle.x7_engine.specs.declared.read_buffer.Room.TheVariants as room
 
@@ -53,19 +53,20 @@ HoldsWithinMost (Some most) words = length words ≤ most
 abbrev pub words_in : Room → List ℕ
 words_in room.Nothing = []
 words_in room.Full = []
-words_in (room.One words) = words
+words_in (room.One None) = []
+words_in (room.One (Some word)) = word ∷ []
 words_in (room.Many words most) = words.items
 
 -- the most words that a buffer holds, and no number where it drops each
 abbrev pub most_in : Room → Option ℕ
 most_in room.Nothing = None
 most_in room.Full = Some 0
-most_in (room.One words) = Some 1
+most_in (room.One place) = Some 1
 most_in (room.Many words most) = Some most
 
 -- a buffer's words are no more than its most, for which there is memory
 abbrev pub HasRoomForMost : Room → Type 0
 HasRoomForMost room.Nothing = Unit {0}
 HasRoomForMost room.Full = Unit {0}
-HasRoomForMost (room.One words) = length words ≤ 1
+HasRoomForMost (room.One place) = Unit {0}
 HasRoomForMost (room.Many words most) = (vec_len words ≤ most) × (most ≤ vec_capacity words)

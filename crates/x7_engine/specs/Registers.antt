@@ -85,22 +85,23 @@ abbrev pub wrote_iprog : History → Bool
 wrote_iprog [] = false
 wrote_iprog (e ∷ h) = writes_command (code_of Iprog) e.access || wrote_iprog h
 
--- the registers in which a written word does more than stay and be folded into the check; a write to LOUT isn't folded
--- (this project's choice)
-abbrev pub effective_registers : List Reg
-effective_registers = Crc ∷ Far ∷ Fdri ∷ Cmd ∷ Ctl0 ∷ Lout ∷ Mfwr ∷ Cbc ∷ Idcode ∷ Timer ∷ Ctl1 ∷ []
-
--- a word written to the register of this number does more than stay and be folded
-abbrev pub has_effect : ℕ → Bool
-has_effect register = list_any (λ reg. register == number_of reg) effective_registers
-
--- the registers of which a written word moves a flag, a register under MASK or the clock, or isn't just folded
+-- the registers of which a written word moves a flag, a register under MASK or the clock, or isn't just folded into the
+-- check: a word for LOUT isn't folded (this project's choice)
 abbrev pub controlling_registers : List Reg
 controlling_registers = Crc ∷ Far ∷ Cmd ∷ Ctl0 ∷ Lout ∷ Idcode ∷ Timer ∷ Ctl1 ∷ []
 
 -- a word written to the register of this number moves a flag, a register under MASK or the clock, or isn't just folded
 abbrev pub is_controlling : ℕ → Bool
 is_controlling register = list_any (λ reg. register == number_of reg) controlling_registers
+
+-- the registers in which a written word does more than stay and be folded into the check: those above, those of frame
+-- data, and CBC, which asks for decryption
+abbrev pub effective_registers : List Reg
+effective_registers = Fdri ∷ Mfwr ∷ Cbc ∷ controlling_registers
+
+-- a word written to the register of this number does more than stay and be folded
+abbrev pub has_effect : ℕ → Bool
+has_effect register = list_any (λ reg. register == number_of reg) effective_registers
 
 -- these are the command that a word written after a history executes, whether it takes a shutdown, and COR0 there
 pub record AreFactsOfWrite (executed : Option ℕ) (takes : Bool) (cor0 : ℕ) (h : History) (access : Access) : Type 0 where

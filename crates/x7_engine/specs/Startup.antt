@@ -1,22 +1,24 @@
 -- The startup sequence of a history: the calls that its accesses and the bytes taken make (UG470, startup).
-use Rattle.std.specs.Prelude.{ℕ, zero, suc, ◌-◌, ◌/◌, ◌==◌, nat_le, Bool, if◌then◌else◌, List, [], ◌∷◌, ◌++◌, replicate}
-use Rattle.x7_packets.specs.History.{Access, History, executes, last_word}
+use Rattle.std.specs.Prelude.{ℕ, zero, suc, ◌-◌, ◌/◌, ◌==◌, nat_le, Bool, if◌then◌else◌, List, [], ◌∷◌, ◌++◌, replicate, Option}
+use Rattle.x7_packets.specs.History.{Access, History, command_held, executed_by, is_command}
 use Rattle.x7_part.specs.Part.{PartData}
 use Rattle.x7_regs.specs.declared.command.Command.TheVariants.{Desync, Start}
-use Rattle.x7_regs.specs.declared.register.Reg.TheVariants.{Cor0}
 use Rattle.x7_regs.specs.Command.{code_of}
-use Rattle.x7_regs.specs.Register.{number_of}
 use Rattle.x7_startup.specs.Phases.{arrival, last_phase, tick_size, wait_of}
 use Rattle.x7_startup.specs.Startup.{Call, StartupProgress, NotBegun, Begun, progress_of}
 use Rattle.x7_startup.specs.Startup as call
-use Rattle.x7_engine.specs.Registers.{takes_shutdown}
+use Rattle.x7_engine.specs.Registers.{cor0_held, takes_shutdown}
+
+-- what an access asks of startup, by the command that it executes, whether it takes a shutdown, and COR0
+abbrev pub startup_call_by : Option ℕ → Bool → ℕ → List Call
+startup_call_by command takes_shutdown cor0 =
+    if is_command (code_of Start) command then call.Arm ∷ [] else
+    if takes_shutdown then call.DropBack ∷ [] else
+    if is_command (code_of Desync) command then call.Desync cor0 ∷ [] else []
 
 -- what an access after this history asks of startup
 abbrev pub startup_call : History → Access → List Call
-startup_call h access =
-    if executes (code_of Start) h access then call.Arm ∷ [] else
-    if takes_shutdown h access then call.DropBack ∷ [] else
-    if executes (code_of Desync) h access then call.Desync (last_word (number_of Cor0) 0 h) ∷ [] else []
+startup_call h access = startup_call_by (executed_by (command_held h) access) (takes_shutdown h access) (cor0_held h)
 
 -- the calls of a history with n bytes taken: each byte's before that of the access that ends there
 abbrev pub startup_calls : History → ℕ → List Call

@@ -21,14 +21,15 @@ use Rattle.x7_engine.specs.Kept.{is_fallback}
 use Rattle.x7_flow.specs.Controls.{ctl0_held, has_idcode, mask_held, masked_word, same_idcode}
 use Rattle.x7_engine.specs.Watching.{first_firing}
 
--- the word written to CBC, or one after which CTL0 has DEC, asks for decryption, which is left out
+-- a written word asks for decryption, which is left out: any word written to CBC, or one after which CTL0 has DEC
 abbrev pub asks_decryption : History → ℕ → ℕ → Bool
 asks_decryption h register w =
     register == number_of reg.Cbc || (register == number_of reg.Ctl0 && has_dec (masked_word (number_of reg.Ctl0) (mask_held h) (Write register w) (ctl0_held h)))
 
--- a word for frames, or START (that MFWR and START ask for a written IDCODE is this project's choice)
-abbrev pub needs_match : History → ℕ → ℕ → Bool
-needs_match h register w = register == number_of reg.Fdri || (register == number_of reg.Mfwr || executes (code_of command.Start) h (Write register w))
+-- a written word asks that the part's IDCODE was written before it: a word for frames, or one that executes START (that
+-- MFWR and START ask for it is this project's choice)
+abbrev pub needs_idcode : History → ℕ → ℕ → Bool
+needs_idcode h register w = register == number_of reg.Fdri || (register == number_of reg.Mfwr || executes (code_of command.Start) h (Write register w))
 
 -- why a word written after this history stops a device, where it does
 abbrev pub why_by_write : PartData → Kept → History → ℕ → ℕ → Option StopCause
@@ -36,7 +37,7 @@ why_by_write part kept h register w =
     if register == number_of reg.Crc && not (w == running_check h) then Some (stop.Fault (fault.Crc (running_check h) w)) else
     if asks_decryption h register w then Some (stop.Fault fault.Encrypted) else
     if register == number_of reg.Idcode && not (same_idcode part.idcode w) then Some (stop.Fault (fault.Id part.idcode w)) else
-    if needs_match h register w && not (has_idcode part.idcode h) then Some (stop.Fault (fault.Id part.idcode 0)) else
+    if needs_idcode h register w && not (has_idcode part.idcode h) then Some (stop.Fault (fault.Id part.idcode 0)) else
     if register == number_of reg.Cmd && (command_code_of w == code_of command.Iprog && not (is_fallback kept.kind)) then Some stop.Iprog else None
 
 -- why an access after this history stops a device, where it does, the faults of frames left out

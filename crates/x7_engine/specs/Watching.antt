@@ -1,6 +1,6 @@
 -- The configuration watchdog of a history: the calls that its accesses and the bytes taken make (UG470, watchdog).
 use Rattle.std.specs.Prelude.{ℕ, zero, suc, ◌+◌, ◌-◌, ◌*◌, ◌==◌, ◌&&◌, Bool, not, if◌then◌else◌, List, [], ◌∷◌, ◌++◌, Option, None, Some}
-use Rattle.x7_packets.specs.History.{Access, Write, Read, Bad, History, executes}
+use Rattle.x7_packets.specs.History.{Access, Write, Read, Bad, History, command_held, executed_by, is_command}
 use Rattle.x7_part.specs.Part.{PartData}
 use Rattle.x7_regs.specs.declared.command.Command.TheVariants.{Ltimer}
 use Rattle.x7_regs.specs.declared.register.Reg.TheVariants.{Timer}
@@ -18,9 +18,13 @@ load_call (Write register w) = if register == number_of Timer then Load w ∷ []
 load_call (Read register count) = []
 load_call (Bad w) = []
 
+-- what an access asks of the watchdog, by the command that it executes
+abbrev pub watch_call_by : Option ℕ → Access → List WatchCall
+watch_call_by command access = if is_command (code_of Ltimer) command then Reload ∷ [] else load_call access
+
 -- what an access after this history asks of the watchdog
 abbrev pub watch_call : History → Access → List WatchCall
-watch_call h access = if executes (code_of Ltimer) h access then Reload ∷ [] else load_call access
+watch_call h access = watch_call_by (executed_by (command_held h) access) access
 
 -- the watchdog's calls of `count` bytes after a history, the first of them right after byte `from`
 abbrev pub watched_bytes : PartData → History → ℕ → ℕ → List WatchCall

@@ -6,12 +6,12 @@ ghost use Rattle.x7_flow.specs.Standing.{word_to, written_to};
 ghost use Rattle.x7_startup.specs.Phases.{last_phase};
 ghost use Rattle.x7_startup.specs.Startup.{AddsCalls, ticks_of};
 ghost use Rattle.x7_startup.specs.Watchdog.{OfCalls, WatchesFor};
-ghost use Rattle.x7_engine.specs.Clock.{AreEndedAlike, HasEndedBy, TakesEntry, ClockTakes, ClockTakesInAny, OfClock, OfStartup, startup_call_by, watch_call_by};
+ghost use Rattle.x7_engine.specs.Clock.{AreEndedAlike, HasEndedBy, TakesEntry, ClockTakes, ClockTakesInAny, OfClock, OfStartup};
 ghost use Rattle.x7_engine.specs.Course.{course_at};
 ghost use Rattle.x7_engine.specs.Registers.{AreFactsOfWrite};
-ghost use Rattle.x7_engine.specs.Startup.{has_ended, phase_of, startup_progress};
+ghost use Rattle.x7_engine.specs.Startup.{has_ended, phase_of, startup_progress, startup_call_by};
 ghost use Rattle.x7_engine.specs.Value.{lines_by};
-ghost use Rattle.x7_engine.specs.Watching.{watchdog_fires, first_firing};
+ghost use Rattle.x7_engine.specs.Watching.{watchdog_fires, first_firing, watch_call_by};
 ghost use Rattle.x7_engine.specs.declared.kept.Kept.{Kept as KeptData};
 
 use crate::kept::{Kept, is_fallback};
@@ -49,14 +49,6 @@ fn move_watchdog(watchdog: &mut Watchdog, executed: Option<u8>, reg: Reg, word: 
         Reg::Timer => watchdog.load(word),
         _ => (),
     }
-}
-
-/// Whether startup has ended at each of some bytes or at none, by whether it had before them, and has after them: it
-/// doesn't go back over bytes.
-fn are_ended_alike(before: bool, after: bool) -> bool
-    ensures { IsTrue result ↔ (before ≡ after) }
-{
-    before == after
 }
 
 /// Startup and the watchdog as the bytes taken and the accesses have left them.
@@ -239,7 +231,8 @@ impl Clock {
         ensures { ClockTakesInAny part.now (clock_in self.old) (clock_in self.new) count result }
     {
         let eos = self.has_ended();
-        if are_ended_alike(eos, self.ends_within(part, count)) {
+        // Startup doesn't go back over bytes, so it has ended at each of them or at none.
+        if eos == self.ends_within(part, count) {
             return self.bytes_alike(part, count, eos);
         }
         self.bytes_one_by_one(part, count)

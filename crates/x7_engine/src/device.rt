@@ -1,5 +1,5 @@
 //! A device.
-ghost use Rattle.std.specs.Prelude.{◌≡◌, ◌≤◌, ◌<◌, ◌+◌, ◌-◌, ◌++◌, [], false, true, length, IfOk, IsSome, IsTrue, is_some, ◌↔◌, ◌==◌, Option, None, Some};
+ghost use Rattle.std.specs.Prelude.{◌≡◌, ◌≤◌, ◌<◌, ◌+◌, ◌-◌, ◌++◌, [], false, true, length, IfOk, IsSome, IsTrue, ◌↔◌, ◌==◌, Option, None, Some};
 ghost use Rattle.x7_packets.specs.Cutter.{between, IsNeed};
 ghost use Rattle.x7_packets.specs.History.{history_of};
 ghost use Rattle.x7_memory.specs.FrameMap.{AreSame};
@@ -9,7 +9,7 @@ ghost use Rattle.x7_engine.specs.UntilRead.{RoomBefore};
 ghost use Rattle.x7_engine.specs.Kept.{on_the_bench};
 ghost use Rattle.x7_engine.specs.Readout.{DeviceGaveWords};
 ghost use Rattle.x7_engine.specs.ReadBuffer.{HoldsWithinMost, IsFull};
-ghost use Rattle.x7_engine.specs.Standing.{CanBeGiven, DeviceStandsFor, HasStopped, MayWrap, NoWordDue, due_count, answer_at_stop, fed_more, fed_of, frames_due, taken_in, with_wrap};
+ghost use Rattle.x7_engine.specs.Standing.{CanBeGiven, DeviceStandsFor, MayWrap, NoWordDue, due_count, answer_at_stop, fed_more, fed_of, frames_due, taken_in, with_wrap};
 ghost use Rattle.x7_engine.specs.State.{attempt_in, end_by, kept_after, why_stopped, memory_in, state_owing};
 ghost use Rattle.x7_engine.specs.Stop.{fault_of_stop};
 ghost use Rattle.x7_engine.specs.Turns.{MayTakePiece, TurnAnswers, TurnMoves};
@@ -201,14 +201,7 @@ impl Device {
     fn stop(&self) -> Option<StopCause>
         ensures { result ≡ self.now.registers.stop }
     {
-        self.registers.stop()
-    }
-
-    /// Whether something stopped the device.
-    fn has_stopped(&self) -> bool
-        ensures { result ≡ is_some self.now.registers.stop }
-    {
-        self.registers.stop().is_some()
+        self.registers.stop
     }
 
     /// Gives the words due to a buffer, as many as it has room for, and says whether none is left.
@@ -256,7 +249,7 @@ impl Device {
         *at -= left;
         self.taken += (*at - from) as u64;
         self.fed = self.fed.saturating_add((*at - from) as u64);
-        is_done(used_up, self.registers.stop())
+        is_done(used_up, self.registers.stop)
     }
 
     /// Takes the write of one word that comes next, where it lies whole in the piece and no byte moves the clock. Moves
@@ -306,7 +299,7 @@ impl Device {
         ensures { TurnAnswers self.old self.new piece.now at.old at.new result }
     {
         self.pass_nops(piece, at);
-        if self.has_stopped() {
+        if self.stop().is_some() {
             return false;
         }
         self.take_run(piece, at)
@@ -326,7 +319,6 @@ impl Device {
         ensures within_most { HoldsWithinMost read.new.most read.new.words }
         ensures room { OfPast self.old (λ p. RoomBefore p piece.now (taken_in (length piece.now) result) (reads_given_at self.old p) read.old) }
         ensures stopped { OfPast self.old (λ p. IsSome (stop_at p) → TakesNothing self.old self.new read.old read.new (taken_in (length piece.now) result)) }
-        ensures stays { HasStopped self.old → TakesNothing self.old self.new read.old read.new (taken_in (length piece.now) result) }
         ensures answers_stop { (why : StopCause) → self.old.registers.stop ≡ Some why → result ≡ answer_at_stop why 0 }
     {
         read.holds_within_most();
@@ -387,7 +379,7 @@ impl Device {
         ensures { OfPast self.now (λ p. result ≡ (state_at p).end) }
     {
         end_by(
-            self.registers.stop(),
+            self.registers.stop,
             self.cutter.is_synced(),
             self.registers.value(&self.part, Reg::Wbstar),
         )
@@ -405,7 +397,7 @@ impl Device {
     pub fn fault(&self) -> Option<Fault>
         ensures { OfPast self.now (λ p. result ≡ fault_of_stop (why_stopped (stop_at p))) }
     {
-        match self.registers.stop() {
+        match self.registers.stop {
             Some(StopCause::Fault(fault)) => Some(fault),
             _ => None,
         }

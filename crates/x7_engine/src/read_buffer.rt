@@ -4,66 +4,8 @@ ghost use Rattle.x7_engine.specs.ReadBuffer.{HoldsWithinMost, IsFull, dropping, 
 
 use std::alloc::Global;
 use std::marker::Model;
+use std::slice;
 use x7_words::NoMemory;
-
-/// Room for one word, in place, which needs no memory.
-#[derive(Drop)]
-pub(crate) struct RoomForOne {
-    words: [u32; 1],
-    // how many words the room has, 0 or 1
-    count: usize,
-}
-
-impl Model for RoomForOne {
-    ghost use Rattle.std.specs.Prelude.{◌≤◌, ℕ, List, take};
-
-    ghost Value = { List ℕ };
-
-    ghost view = { λ s. take s.count s.words };
-
-    ghost invariant = { λ s. s.count ≤ 1 };
-}
-
-impl RoomForOne {
-    /// Room without a word.
-    fn new() -> RoomForOne
-        ensures { result ≡ [] }
-    {
-        RoomForOne {
-            words: [0],
-            count: 0,
-        }
-    }
-
-    /// The word, or none.
-    fn words(&self) -> &[u32]
-        ensures { result.now ≡ self.now }
-    {
-        &self.words[..self.count]
-    }
-
-    /// Whether there is a word.
-    fn is_full(&self) -> bool
-        ensures { result ≡ (length self.now == 1) }
-    {
-        self.count == 1
-    }
-
-    /// Forgets the word.
-    fn clear(&mut self)
-        ensures { self.new ≡ [] }
-    {
-        self.count = 0;
-    }
-
-    /// Has this word from now on.
-    fn put(&mut self, word: u32)
-        ensures { self.new ≡ word ∷ [] }
-    {
-        self.words = [word];
-        self.count = 1;
-    }
-}
 
 /// Where a buffer has its words.
 #[derive(Drop)]
@@ -72,8 +14,8 @@ pub(crate) enum Room {
     Nothing,
     /// Nowhere: the buffer has room for no word.
     Full,
-    /// In place, for one word.
-    One(RoomForOne),
+    /// In place, for one word, which stands there or not yet.
+    One(Option<u32>),
     /// In a vector, for the number of words given second.
     Many(Vec<u32>, usize),
 }
@@ -129,7 +71,7 @@ impl ReadBuf {
         ensures { result ≡ record { most = Some 1; words = [] } }
     {
         ReadBuf {
-            room: Room::One(RoomForOne::new()),
+            room: Room::One(None),
         }
     }
 
@@ -139,8 +81,8 @@ impl ReadBuf {
         ensures within_most { HoldsWithinMost self.now.most result.now }
     {
         match &self.room {
-            Room::Nothing | Room::Full => &[],
-            Room::One(room) => room.words(),
+            Room::Nothing | Room::Full | Room::One(None) => &[],
+            Room::One(Some(word)) => slice::from_ref(word),
             Room::Many(words, _) => words.as_slice(),
         }
     }
@@ -151,7 +93,7 @@ impl ReadBuf {
     {
         match &mut self.room {
             Room::Nothing | Room::Full => (),
-            Room::One(room) => room.clear(),
+            Room::One(place) => *place = None,
             Room::Many(words, _) => words.clear(),
         }
     }
@@ -173,11 +115,11 @@ impl ReadBuf {
         match &mut self.room {
             Room::Nothing => 0,
             Room::Full => count,
-            Room::One(room) => {
-                if room.is_full() || count == 0 {
+            Room::One(place) => {
+                if place.is_some() || count == 0 {
                     return count;
                 }
-                room.put(word);
+                *place = Some(word);
                 count - 1
             }
             Room::Many(words, most) => {
@@ -209,7 +151,7 @@ impl ReadBuf {
         match &self.room {
             Room::Nothing => false,
             Room::Full => true,
-            Room::One(room) => room.is_full(),
+            Room::One(place) => place.is_some(),
             Room::Many(words, most) => words.len() == *most,
         }
     }
@@ -222,7 +164,7 @@ impl ReadBuf {
         match &mut self.room {
             Room::Nothing => (),
             Room::Full => unreachable!(),
-            Room::One(room) => room.put(word),
+            Room::One(place) => *place = Some(word),
             Room::Many(words, _) => match words.push(word) {
                 Ok(()) => (),
                 Err(_) => unreachable!(),

@@ -141,13 +141,6 @@ impl Registers {
         self.frames.reset();
     }
 
-    /// What stopped the device.
-    pub(crate) fn stop(&self) -> Option<StopCause>
-        ensures { result ≡ self.now.stop }
-    {
-        self.stop
-    }
-
     /// The command that CMD holds, five bits.
     pub(crate) fn command(&self) -> u8
         ensures { (part : PartData) → OfHistory part (registers_in self.now) (λ kept h n. result ≡ command_held h) }

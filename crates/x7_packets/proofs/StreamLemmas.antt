@@ -640,6 +640,10 @@ pub room_on : (old now new : PacketsState) (s : CutsNext old now false) (piece :
     → old.taken + 65536 * turns_left old.cutter.kept old.left ≤ limit → new.taken + 65536 * turns_left new.cutter.kept new.left ≤ limit
 room_on old now new s piece limit e some most room = rw e (omega (arith, s.taken, most, room, turns_go old now s piece some))
 
+-- after a piece that the input gave, fewer turns are left
+pub turns_fewer : (old now new : PacketsState) (s : CutsNext old now false) (piece : List ℕ) → new ≡ filled now piece → 0 < length piece → turns_left new.cutter.kept new.left < turns_left old.cutter.kept old.left
+turns_fewer old now new s piece e some = rw e (turns_go old now s piece some)
+
 -- a reader that has given nothing yet
 pub starts : (p : PacketsState) (first : List ℕ) → CutterStandsFor p.cutter [] [] (Searching []) → p.cutter.kept ≡ [] → p.left ≡ first → p.is_done ≡ false → p.taken ≡ length first → PacketsStandFor p first []
 starts p first c k l on t = record {

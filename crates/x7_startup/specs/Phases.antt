@@ -13,7 +13,7 @@ wait_of lock_ticks match_ticks cor0 phase =
 abbrev pub tick_size : ℕ
 tick_size = 4
 
--- the number up to which ticks are counted, the last of 16 bits: no part waits for more
+-- how many ticks are counted at most, the greatest number of 16 bits: no part waits for more
 abbrev pub tick_limit : ℕ
 tick_limit = 65535
 

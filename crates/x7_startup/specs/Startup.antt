@@ -71,7 +71,7 @@ IsPhaseOf lock_ticks match_ticks NotBegun phase = phase ≡ 0
 IsPhaseOf lock_ticks match_ticks (Begun cor0 bytes) phase = IsPhase (wait_of lock_ticks match_ticks cor0) (bytes / tick_size) phase
 
 -- what a startup keeps: whether it is armed, the COR0 that it began with, the bytes past the last tick, the ticks up to
--- 65,535, and the phase
+-- `tick_limit`, and the phase
 pub record StartupState : Type 0 where
   pub armed : Bool
   pub begun_with : Option ℕ

@@ -1,4 +1,4 @@
--- Ticks after ticks (this project's choice: the ticks are counted up to 65,535).
+-- Ticks after ticks (this project's choice: `tick_limit` ticks are counted at most).
 use Rattle.std.specs.Prelude.{◌≡◌, ℕ, ◌+◌, min}
 use Rattle.x7_startup.specs.Phases.{IsPhase, tick_limit}
 use Rattle.x7_startup.specs.declared.phases.Reached.{Reached}

@@ -8,13 +8,13 @@ use x7_regs::{LOCK_CYCLE, MATCH_CYCLE};
 /// How many bytes a tick takes (this project's choice).
 pub const TICK_SIZE: u64 = 4;
 
-/// The number up to which ticks are counted, the last of 16 bits: no part waits for more.
+/// How many ticks are counted at most, the greatest number of 16 bits: no part waits for more.
 const TICK_LIMIT: u64 = 65_535;
 
 /// The number of the last phase of startup, in which it has ended.
 pub const LAST_PHASE: u8 = 7;
 
-/// A phase of at most 7, and the ticks since startup began, at most 65,535.
+/// A phase of at most `LAST_PHASE`, and the ticks since startup began, at most `TICK_LIMIT`.
 #[derive(Clone, Copy)]
 pub(crate) struct Reached {
     pub(crate) ticks: u16,

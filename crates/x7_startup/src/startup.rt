@@ -135,7 +135,7 @@ impl Startup {
         self.phase
     }
 
-    /// The ticks since startup began, at most 65,535.
+    /// The ticks since startup began, as far as they are counted: `tick_limit` at most.
     pub fn ticks(&self) -> u16
         ensures value { result ≡ self.now.ticks }
         ensures stands { (lock_ticks match_ticks : ℕ) (calls : List Call) → StandsForCalls lock_ticks match_ticks self.now calls

@@ -43,7 +43,7 @@ impl Device {
         ensures forward { at ≤ result }
         ensures soonest { OfPast self.now (λ p. HasNotBegun p.part p.kept p.bytes ⊎ (result ≤ at + soonest_end (state_at p).phase)) }
     {
-        if self.registers.clock.startup.has_begun() {
+        if self.has_begun() {
             return at + soonest_end(self.phase()).min(length - at);
         }
         length
@@ -78,7 +78,6 @@ impl Device {
         ensures reads { GivesWordsNext self.old self.new (prefix_taken_until piece.now result) read.old read.new }
         ensures room { OfPast self.old (λ p. RoomBefore p piece.now (taken_until (length piece.now) result) (reads_given_at self.old p) read.old) }
         ensures stopped { OfPast self.old (λ p. IsSome (stop_at p) → TakesNothing self.old self.new read.old read.new (taken_until (length piece.now) result)) }
-        ensures stays { HasStopped self.old → TakesNothing self.old self.new read.old read.new (taken_until (length piece.now) result) }
     {
         let mut at = 0;
         'runs: loop {

@@ -4,7 +4,7 @@ ghost use Rattle.x7_flow.specs.Standing.{FramesFit};
 ghost use Rattle.x7_engine.specs.Kept.{on_the_bench};
 ghost use Rattle.x7_engine.specs.ReadBuffer.{dropping};
 ghost use Rattle.x7_engine.specs.declared.stop.StopCause.{StopCause};
-ghost use Rattle.x7_engine.specs.Standing.{CanBeGiven, DeviceState, DeviceStandsFor, HasStopped, NoWordDue, answer_at_stop, fed_more, fed_of, taken_in};
+ghost use Rattle.x7_engine.specs.Standing.{CanBeGiven, DeviceState, DeviceStandsFor, NoWordDue, answer_at_stop, fed_more, fed_of, taken_in};
 ghost use Rattle.x7_engine.specs.Undo.{AreEqual, IsUndoOf, SavesDevice, TookFewSince, UndoLeadsBack, device_saved, undo_reach};
 ghost use Rattle.x7_engine.specs.Past.{AnswersFor, OfPast, TakesJust, TakesNothing, prefix_taken, stop_at, HasPast, Past, later};
 
@@ -100,7 +100,6 @@ impl Device {
         ensures taken { self.new.taken ≡ self.old.taken + taken_in (length piece.now) result }
         ensures fed { fed_of self.new ≡ fed_more self.old (taken_in (length piece.now) result) }
         ensures stopped { OfPast self.old (λ p. IsSome (stop_at p) → TakesNothing self.old self.new dropping dropping (taken_in (length piece.now) result)) }
-        ensures stays { HasStopped self.old → TakesNothing self.old self.new dropping dropping (taken_in (length piece.now) result) }
         ensures answers_stop { (why : StopCause) → self.old.registers.stop ≡ Some why → result ≡ answer_at_stop why 0 }
         ensures saves { SavesDevice undo.new self.old }
         ensures back { OfPast self.old (λ p. UndoLeadsBack undo.new self.new self.old) }
@@ -129,18 +128,6 @@ impl Device {
         ensures back { (old : DeviceState) → UndoLeadsBack undo.now self.old old → AreEqual self.new old }
         ensures after_more { (p : Past) (more : List ℕ) (old : DeviceState) → SavesDevice undo.now old → NoWordDue old → length more ≤ undo_reach
             → HasPast old p → HasPast self.old (later p more) → AreEqual self.new old }
-        ensures part { self.new.part ≡ self.old.part }
-        ensures fed { fed_of self.new ≡ fed_of self.old }
-    {
-        self.frames_fit();
-        self.go_back(undo);
-    }
-
-    /// Sets the device to what is saved, but for the count of fed bytes.
-    fn go_back(&mut self, undo: &Undo)
-        requires undo { IsUndoOf self.old.part undo.now }
-        requires back { TookFewSince undo.now self.old }
-        ensures back { (old : DeviceState) → UndoLeadsBack undo.now self.old old → AreEqual self.new old }
         ensures part { self.new.part ≡ self.old.part }
         ensures fed { fed_of self.new ≡ fed_of self.old }
     {

@@ -1,5 +1,6 @@
-use Rattle.std.proofs.Common.{◌≡◌, ◌+◌, ◌<◌, ◌≤◌, ℕ, sym, subst, ◌∙◌, arith, refl}
+use Rattle.std.proofs.Common.{◌≡◌, ◌+◌, ◌<◌, ◌≤◌, ℕ, sym, subst, ◌∙◌, None, arith, refl}
 use Rattle.x7_engine.specs.Clock.{newest_place, IsClock, clock_in}
+use Rattle.x7_engine.specs.Watching.{first_firing}
 use Rattle.x7_engine.proofs.ClockLemmas.{first_is, none_more}
 use Rattle.x7_engine.proofs.clock.Clock.bytes_one_by_one.Goals as goal
 
@@ -46,4 +47,15 @@ returns-then-has_ended c = record {
       let clock = subst (λ (k : ℕ). IsClock c.args.part.now kept (clock_in c.byte.new.self) h k) sum (c.byte.ensures.stands kept h (n + c.loop-i.i) within before.0) in
       let none = none_more c.args.part.now kept h n c.loop-i.i before.1 (sym (c.byte.ensures.fires kept h (n + c.loop-i.i) within before.0) ∙ c.if-byte.false) in
       c.bytes_after_end.ensures.takes kept h n (record { newest = l; none_fires = none; ended = sym (c.has_ended.ensures.value c.args.part.now h (n + (c.loop-i.i + 1)) clock.startup) ∙ c.if-has_ended.true; stands = clock }));
+}
+
+pub bytes_after_end-requires : goal.bytes_after_end-requires
+bytes_after_end-requires c = let few : c.loop-i.i < c.args.count = c.loop-i-test.true in omega (arith, few)
+
+pub returns : goal.returns
+returns c = record {
+  within = tt;
+  takes = λ kept h n l s.
+      let all : c.loop-i.i ≡ c.args.count = omega (arith, c.loop-i.invariant.within, c.loop-i-test.false) in
+      subst (λ (k : ℕ). IsClock c.args.part.now kept (clock_in c.loop-i.self) h (n + k) × (first_firing c.args.part.now kept h n k ≡ None)) all (c.loop-i.invariant.clock kept h n l s);
 }

@@ -30,7 +30,6 @@ returns c = λ given kept wrapped bytes s.
     let cutter : IsCutterOf c.self.inside.cutter bytes = stands.cutter_is d in
     c.is_synced.ensures.synced bytes cutter.sessions cutter.place cutter.stands ∙ ap is_synced (reading_is bytes cutter.sessions cutter.place cutter.stands.reading).1 in
     c.end_by.ensures
-    ∙ ap (λ (o : Option StopCause). end_by o c.is_synced.result c.value.result) c.stop.ensures
     ∙ same_end c.self.inside.registers.stop c.is_synced.result (is_synced (reading_of bytes).place) c.value.result session
     ∙ ap (end_by c.self.inside.registers.stop (is_synced (reading_of bytes).place)) (c.value.ensures kept h (length bytes) stands.registers_are)
     ∙ ap (λ (o : Option StopCause). end_by o (is_synced (reading_of bytes).place) (word_held kept 16 h)) (sym (why_is part kept wrapped fields bytes stands))

@@ -26,39 +26,30 @@ runs-init c = record {
   stopped = λ e. (refl, refl, refl);
 }
 
+-- how many bytes were taken at a stop
+stop_count : (c : goal.After-answer_at_stop) → taken_in (length c.args.piece.now) c.answer_at_stop.result ≡ c.runs.at
+stop_count c = ap (taken_in (length c.args.piece.now)) c.answer_at_stop.ensures ∙ taken_by_stop c.in-Some.stop (length c.args.piece.now) c.runs.at
+
 pub returns-in-Some-clause-within : goal.returns-in-Some-clause-within
 returns-in-Some-clause-within c =
-    let piece : List ℕ = c.args.piece.now in
-    let count : taken_in (length piece) c.answer_at_stop.result ≡ c.runs.at = ap (taken_in (length piece)) c.answer_at_stop.ensures ∙ taken_by_stop c.in-Some.stop (length piece) c.runs.at in
-    omega (arith, count, c.runs.invariant.within)
+    omega (arith, stop_count c, c.runs.invariant.within)
 
 pub returns-in-Some-clause-part : goal.returns-in-Some-clause-part
 returns-in-Some-clause-part c = c.runs.invariant.part
 
 pub returns-in-Some-clause-taken : goal.returns-in-Some-clause-taken
 returns-in-Some-clause-taken c =
-    let piece : List ℕ = c.args.piece.now in
-    let count : taken_in (length piece) c.answer_at_stop.result ≡ c.runs.at = ap (taken_in (length piece)) c.answer_at_stop.ensures ∙ taken_by_stop c.in-Some.stop (length piece) c.runs.at in
-    c.runs.invariant.taken ∙ ap (λ (k : ℕ). c.args.self.now.taken + k) (sym count)
+    c.runs.invariant.taken ∙ ap (λ (k : ℕ). c.args.self.now.taken + k) (sym (stop_count c))
 
 pub returns-in-Some-clause-fed : goal.returns-in-Some-clause-fed
 returns-in-Some-clause-fed c =
-    let piece : List ℕ = c.args.piece.now in
-    let count : taken_in (length piece) c.answer_at_stop.result ≡ c.runs.at = ap (taken_in (length piece)) c.answer_at_stop.ensures ∙ taken_by_stop c.in-Some.stop (length piece) c.runs.at in
-    c.runs.invariant.fed ∙ ap (fed_more c.args.self.now) (sym count)
+    c.runs.invariant.fed ∙ ap (fed_more c.args.self.now) (sym (stop_count c))
 
 pub returns-in-Some-clause-within_most : goal.returns-in-Some-clause-within_most
 returns-in-Some-clause-within_most c = c.runs.invariant.few
 
-pub returns-in-Some-clause-stays : goal.returns-in-Some-clause-stays
-returns-in-Some-clause-stays c = λ e.
-    let piece : List ℕ = c.args.piece.now in
-    let count : taken_in (length piece) c.answer_at_stop.result ≡ c.runs.at = ap (taken_in (length piece)) c.answer_at_stop.ensures ∙ taken_by_stop c.in-Some.stop (length piece) c.runs.at in
-    let same = c.runs.invariant.stopped e in
-    (same.0, same.1, count ∙ same.2)
-
 pub returns-in-Some-clause-stopped : goal.returns-in-Some-clause-stopped
-returns-in-Some-clause-stopped c = λ part kept wrapped bytes s e. returns-in-Some-clause-stays c (stopped_here part kept wrapped c.args.self.now bytes s e)
+returns-in-Some-clause-stopped c = λ part kept wrapped bytes s e. (let same = c.runs.invariant.stopped (stopped_here part kept wrapped c.args.self.now bytes s e) in (same.0, same.1, stop_count c ∙ same.2))
 
 pub returns-in-Some-clause-answers_stop : goal.returns-in-Some-clause-answers_stop
 returns-in-Some-clause-answers_stop c = λ why e.
@@ -76,22 +67,16 @@ returns-in-Some-clause-answer c = λ part kept wrapped bytes s.
 
 pub returns-in-Some-clause-takes : goal.returns-in-Some-clause-takes
 returns-in-Some-clause-takes c = λ part kept wrapped bytes s.
-    let piece : List ℕ = c.args.piece.now in
-    let count : taken_in (length piece) c.answer_at_stop.result ≡ c.runs.at = ap (taken_in (length piece)) c.answer_at_stop.ensures ∙ taken_by_stop c.in-Some.stop (length piece) c.runs.at in
-    subst (λ (k : ℕ). DeviceStandsFor part kept wrapped c.runs.self (bytes ++ take k piece)) (sym count) (c.runs.invariant.stands part kept wrapped bytes s)
+    subst (λ (k : ℕ). DeviceStandsFor part kept wrapped c.runs.self (bytes ++ take k c.args.piece.now)) (sym (stop_count c)) (c.runs.invariant.stands part kept wrapped bytes s)
 
 pub returns-in-Some-clause-reads : goal.returns-in-Some-clause-reads
 returns-in-Some-clause-reads c = λ part kept wrapped bytes s.
-    let piece : List ℕ = c.args.piece.now in
-    let count : taken_in (length piece) c.answer_at_stop.result ≡ c.runs.at = ap (taken_in (length piece)) c.answer_at_stop.ensures ∙ taken_by_stop c.in-Some.stop (length piece) c.runs.at in
     let known = c.runs.invariant.reads part kept wrapped bytes s in
-    (known.0, known.1, ap (λ (k : ℕ). reads_given part kept c.runs.self (bytes ++ take k piece)) count ∙ known.2)
+    (known.0, known.1, ap (λ (k : ℕ). reads_given part kept c.runs.self (bytes ++ take k c.args.piece.now)) (stop_count c) ∙ known.2)
 
 pub returns-in-Some-clause-room : goal.returns-in-Some-clause-room
 returns-in-Some-clause-room c = λ part kept wrapped bytes s.
-    let piece : List ℕ = c.args.piece.now in
-    let count : taken_in (length piece) c.answer_at_stop.result ≡ c.runs.at = ap (taken_in (length piece)) c.answer_at_stop.ensures ∙ taken_by_stop c.in-Some.stop (length piece) c.runs.at in
-    subst (λ (k : ℕ). RoomBefore (record { part = part; kept = kept; wrapped = wrapped; bytes = bytes }) piece k (reads_given part kept c.args.self.now bytes) c.args.read.now) (sym count) (c.runs.invariant.room part kept wrapped bytes s)
+    subst (λ (k : ℕ). RoomBefore (record { part = part; kept = kept; wrapped = wrapped; bytes = bytes }) c.args.piece.now k (reads_given part kept c.args.self.now bytes) c.args.read.now) (sym (stop_count c)) (c.runs.invariant.room part kept wrapped bytes s)
 
 pub returns-then-not-give-clause-within : goal.returns-then-not-give-clause-within
 returns-then-not-give-clause-within c = c.runs.invariant.within
@@ -117,9 +102,6 @@ returns-then-not-give-clause-within_most c = c.give.ensures.within_most
 
 pub returns-then-not-give-clause-room : goal.returns-then-not-give-clause-room
 returns-then-not-give-clause-room c = c.runs.invariant.room
-
-pub returns-then-not-give-clause-stays : goal.returns-then-not-give-clause-stays
-returns-then-not-give-clause-stays c = λ e. absurd (none_before c.args.self.now c.runs.self (λ e. (c.runs.invariant.stopped e).0) c.in_default.ensures e)
 
 pub returns-then-not-give-clause-stopped : goal.returns-then-not-give-clause-stopped
 returns-then-not-give-clause-stopped c = λ part kept wrapped bytes s e. absurd (none_before c.args.self.now c.runs.self (λ e. (c.runs.invariant.stopped e).0) c.in_default.ensures (stopped_here part kept wrapped c.args.self.now bytes s e))
@@ -151,9 +133,6 @@ returns-then-turn-clause-fed c = omega (arith, c.give.ensures.fed, c.turn.ensure
 
 pub returns-then-turn-clause-within_most : goal.returns-then-turn-clause-within_most
 returns-then-turn-clause-within_most c = c.give.ensures.within_most
-
-pub returns-then-turn-clause-stays : goal.returns-then-turn-clause-stays
-returns-then-turn-clause-stays c = λ e. absurd (none_before c.args.self.now c.runs.self (λ e. (c.runs.invariant.stopped e).0) c.in_default.ensures e)
 
 pub returns-then-turn-clause-stopped : goal.returns-then-turn-clause-stopped
 returns-then-turn-clause-stopped c = λ part kept wrapped bytes s e. absurd (none_before c.args.self.now c.runs.self (λ e. (c.runs.invariant.stopped e).0) c.in_default.ensures (stopped_here part kept wrapped c.args.self.now bytes s e))

@@ -47,11 +47,8 @@ returns-in-Some-clause-taken c = c.runs.invariant.taken ∙ ap (λ (k : ℕ). c.
 pub returns-in-Some-clause-fed : goal.returns-in-Some-clause-fed
 returns-in-Some-clause-fed c = c.runs.invariant.fed ∙ ap (fed_more c.args.self.now) (sym (stop_count c))
 
-pub returns-in-Some-clause-stays : goal.returns-in-Some-clause-stays
-returns-in-Some-clause-stays c = λ e. (let same = c.runs.invariant.stopped e in (same.0, same.1, stop_count c ∙ same.2))
-
 pub returns-in-Some-clause-stopped : goal.returns-in-Some-clause-stopped
-returns-in-Some-clause-stopped c = λ part kept wrapped bytes s e. returns-in-Some-clause-stays c (stopped_here part kept wrapped c.args.self.now bytes s e)
+returns-in-Some-clause-stopped c = λ part kept wrapped bytes s e. (let same = c.runs.invariant.stopped (stopped_here part kept wrapped c.args.self.now bytes s e) in (same.0, same.1, stop_count c ∙ same.2))
 
 pub returns-in-Some-clause-takes : goal.returns-in-Some-clause-takes
 returns-in-Some-clause-takes c = λ part kept wrapped bytes s.
@@ -115,9 +112,6 @@ returns-then-not-give-clause-answer c = λ part kept wrapped bytes s.
 pub returns-then-not-give-clause-room : goal.returns-then-not-give-clause-room
 returns-then-not-give-clause-room c = c.runs.invariant.room
 
-pub returns-then-not-give-clause-stays : goal.returns-then-not-give-clause-stays
-returns-then-not-give-clause-stays c = λ e. absurd (none_before c.args.self.now c.runs.self (λ e. (c.runs.invariant.stopped e).0) c.in_default.ensures e)
-
 pub returns-then-not-give-clause-stopped : goal.returns-then-not-give-clause-stopped
 returns-then-not-give-clause-stopped c = λ part kept wrapped bytes s e. absurd (none_before c.args.self.now c.runs.self (λ e. (c.runs.invariant.stopped e).0) c.in_default.ensures (stopped_here part kept wrapped c.args.self.now bytes s e))
 
@@ -154,9 +148,6 @@ returns-then-started-clause-answer c = λ part kept wrapped bytes s. c.give.ensu
 pub returns-then-started-clause-room : goal.returns-then-started-clause-room
 returns-then-started-clause-room c = c.runs.invariant.room
 
-pub returns-then-started-clause-stays : goal.returns-then-started-clause-stays
-returns-then-started-clause-stays c = λ e. absurd (none_before c.args.self.now c.runs.self (λ e. (c.runs.invariant.stopped e).0) c.in_default.ensures e)
-
 pub returns-then-started-clause-stopped : goal.returns-then-started-clause-stopped
 returns-then-started-clause-stopped c = λ part kept wrapped bytes s e. absurd (none_before c.args.self.now c.runs.self (λ e. (c.runs.invariant.stopped e).0) c.in_default.ensures (stopped_here part kept wrapped c.args.self.now bytes s e))
 
@@ -177,32 +168,26 @@ returns-then-started-clause-reads c = λ part kept wrapped bytes s.
 
 -- ---- the piece is used up
 
+end_count : (c : goal.After-answer-then-turn_until_started) → taken_until (length c.args.piece.now) c.answer-then-turn_until_started.result ≡ c.turn_until_started.new.at
+end_count c =
+    count_is c.answer-then-turn_until_started.result c.started-then-turn_until_started.result fed.All (length c.args.piece.now) c.turn_until_started.new.at c.answer-then-turn_until_started.ensures
+    (sym (c.turn_until_started.ensures.took.used_up c.if-turn_until_started.true).all)
+
 pub returns-then-turn_until_started-clause-within : goal.returns-then-turn_until_started-clause-within
 returns-then-turn_until_started-clause-within c =
     let used = c.turn_until_started.ensures.took.used_up c.if-turn_until_started.true in
-    let count : taken_until (length c.args.piece.now) c.answer-then-turn_until_started.result ≡ c.turn_until_started.new.at =
-    count_is c.answer-then-turn_until_started.result c.started-then-turn_until_started.result fed.All (length c.args.piece.now) c.turn_until_started.new.at c.answer-then-turn_until_started.ensures (sym used.all) in
-    omega (arith, count, used.all)
+    omega (arith, end_count c, used.all)
 
 pub returns-then-turn_until_started-clause-part : goal.returns-then-turn_until_started-clause-part
 returns-then-turn_until_started-clause-part c = c.turn_until_started.ensures.took.turned.turn.part ∙ c.give.ensures.part ∙ c.runs.invariant.part
 
 pub returns-then-turn_until_started-clause-taken : goal.returns-then-turn_until_started-clause-taken
 returns-then-turn_until_started-clause-taken c =
-    let used = c.turn_until_started.ensures.took.used_up c.if-turn_until_started.true in
-    let count : taken_until (length c.args.piece.now) c.answer-then-turn_until_started.result ≡ c.turn_until_started.new.at =
-    count_is c.answer-then-turn_until_started.result c.started-then-turn_until_started.result fed.All (length c.args.piece.now) c.turn_until_started.new.at c.answer-then-turn_until_started.ensures (sym used.all) in
-    omega (arith, count, c.give.ensures.taken, c.turn_until_started.ensures.took.turned.taken, c.turn_until_started.ensures.took.turned.forward, c.runs.invariant.taken)
+    omega (arith, end_count c, c.give.ensures.taken, c.turn_until_started.ensures.took.turned.taken, c.turn_until_started.ensures.took.turned.forward, c.runs.invariant.taken)
 
 pub returns-then-turn_until_started-clause-fed : goal.returns-then-turn_until_started-clause-fed
 returns-then-turn_until_started-clause-fed c =
-    let used = c.turn_until_started.ensures.took.used_up c.if-turn_until_started.true in
-    let count : taken_until (length c.args.piece.now) c.answer-then-turn_until_started.result ≡ c.turn_until_started.new.at =
-    count_is c.answer-then-turn_until_started.result c.started-then-turn_until_started.result fed.All (length c.args.piece.now) c.turn_until_started.new.at c.answer-then-turn_until_started.ensures (sym used.all) in
-    omega (arith, count, c.give.ensures.fed, c.turn_until_started.ensures.took.turned.fed, c.turn_until_started.ensures.took.turned.forward, c.runs.invariant.fed)
-
-pub returns-then-turn_until_started-clause-stays : goal.returns-then-turn_until_started-clause-stays
-returns-then-turn_until_started-clause-stays c = λ e. absurd (none_before c.args.self.now c.runs.self (λ e. (c.runs.invariant.stopped e).0) c.in_default.ensures e)
+    omega (arith, end_count c, c.give.ensures.fed, c.turn_until_started.ensures.took.turned.fed, c.turn_until_started.ensures.took.turned.forward, c.runs.invariant.fed)
 
 pub returns-then-turn_until_started-clause-stopped : goal.returns-then-turn_until_started-clause-stopped
 returns-then-turn_until_started-clause-stopped c = λ part kept wrapped bytes s e. absurd (none_before c.args.self.now c.runs.self (λ e. (c.runs.invariant.stopped e).0) c.in_default.ensures (stopped_here part kept wrapped c.args.self.now bytes s e))
@@ -211,9 +196,7 @@ pub returns-then-turn_until_started-clause-takes : goal.returns-then-turn_until_
 returns-then-turn_until_started-clause-takes c = λ part kept wrapped bytes s.
     let piece : List ℕ = c.args.piece.now in
     let at : ℕ = c.turn_until_started.new.at in
-    let used = c.turn_until_started.ensures.took.used_up c.if-turn_until_started.true in
-    let count : taken_until (length piece) c.answer-then-turn_until_started.result ≡ at = count_is c.answer-then-turn_until_started.result c.started-then-turn_until_started.result fed.All (length piece) at c.answer-then-turn_until_started.ensures (sym used.all) in
-    subst (λ (k : ℕ). DeviceStandsFor part kept wrapped c.turn_until_started.new.self (bytes ++ take k piece)) (sym count)
+    subst (λ (k : ℕ). DeviceStandsFor part kept wrapped c.turn_until_started.new.self (bytes ++ take k piece)) (sym (end_count c))
     (stands_on part kept wrapped c.give.new.self c.turn_until_started.new.self bytes piece c.runs.at at c.turn_until_started.ensures.took.turned.forward (c.turn_until_started.ensures.took.turned.turn.takes part kept wrapped)
     (c.give.ensures.given part kept wrapped (bytes ++ take c.runs.at piece) (c.runs.invariant.stands part kept wrapped bytes s)).stands)
 
@@ -221,27 +204,23 @@ pub returns-then-turn_until_started-clause-first : goal.returns-then-turn_until_
 returns-then-turn_until_started-clause-first c = λ part kept wrapped bytes s.
     let piece : List ℕ = c.args.piece.now in
     let at : ℕ = c.turn_until_started.new.at in
-    let used = c.turn_until_started.ensures.took.used_up c.if-turn_until_started.true in
-    let count : taken_until (length piece) c.answer-then-turn_until_started.result ≡ at = count_is c.answer-then-turn_until_started.result c.started-then-turn_until_started.result fed.All (length piece) at c.answer-then-turn_until_started.ensures (sym used.all) in
     let taken : List ℕ = bytes ++ take c.runs.at piece in
     let given = c.give.ensures.given part kept wrapped taken (c.runs.invariant.stands part kept wrapped bytes s) in
     let not : has_started part kept taken ≡ false = sym (c.started-in-runs.ensures part kept wrapped taken given.stands) ∙ c.if-started.false in
-    subst (NoneStarted part kept bytes piece) (sym count)
+    subst (NoneStarted part kept bytes piece) (sym (end_count c))
     (none_on part kept bytes piece c.runs.at at c.turn_until_started.ensures.took.turned.forward (c.runs.invariant.first part kept wrapped bytes s) (c.turn_until_started.ensures.first part kept wrapped taken given.stands not))
 
 pub returns-then-turn_until_started-clause-started : goal.returns-then-turn_until_started-clause-started
 returns-then-turn_until_started-clause-started c = λ part kept wrapped bytes s due.
     let piece : List ℕ = c.args.piece.now in
     let at : ℕ = c.turn_until_started.new.at in
-    let used = c.turn_until_started.ensures.took.used_up c.if-turn_until_started.true in
-    let count : taken_until (length piece) c.answer-then-turn_until_started.result ≡ at = count_is c.answer-then-turn_until_started.result c.started-then-turn_until_started.result fed.All (length piece) at c.answer-then-turn_until_started.ensures (sym used.all) in
     let taken : List ℕ = bytes ++ take c.runs.at piece in
     let given = c.give.ensures.given part kept wrapped taken (c.runs.invariant.stands part kept wrapped bytes s) in
     let here : DeviceStandsFor part kept wrapped c.turn_until_started.new.self (bytes ++ take at piece) =
     stands_on part kept wrapped c.give.new.self c.turn_until_started.new.self bytes piece c.runs.at at c.turn_until_started.ensures.took.turned.forward (c.turn_until_started.ensures.took.turned.turn.takes part kept wrapped) given.stands in
     ap says_started c.answer-then-turn_until_started.ensures ∙ says_answer c.started-then-turn_until_started.result fed.All at
     ∙ c.started-then-turn_until_started.ensures part kept wrapped (bytes ++ take at piece) here
-    ∙ ap (λ (k : ℕ). has_started part kept (bytes ++ take k piece)) (sym count)
+    ∙ ap (λ (k : ℕ). has_started part kept (bytes ++ take k piece)) (sym (end_count c))
 
 pub returns-then-turn_until_started-clause-answer : goal.returns-then-turn_until_started-clause-answer
 returns-then-turn_until_started-clause-answer c = λ part kept wrapped bytes s.
@@ -249,12 +228,11 @@ returns-then-turn_until_started-clause-answer c = λ part kept wrapped bytes s.
     let at : ℕ = c.turn_until_started.new.at in
     let all : List ℕ = bytes ++ take at piece in
     let used = c.turn_until_started.ensures.took.used_up c.if-turn_until_started.true in
-    let count : taken_until (length piece) c.answer-then-turn_until_started.result ≡ at = count_is c.answer-then-turn_until_started.result c.started-then-turn_until_started.result fed.All (length piece) at c.answer-then-turn_until_started.ensures (sym used.all) in
     let taken : List ℕ = bytes ++ take c.runs.at piece in
     let given = c.give.ensures.given part kept wrapped taken (c.runs.invariant.stands part kept wrapped bytes s) in
     let here : DeviceStandsFor part kept wrapped c.turn_until_started.new.self all =
     stands_on part kept wrapped c.give.new.self c.turn_until_started.new.self bytes piece c.runs.at at c.turn_until_started.ensures.took.turned.forward (c.turn_until_started.ensures.took.turned.turn.takes part kept wrapped) given.stands in
-    subst (λ (k : ℕ). AnswersUntilAt (past_of part kept wrapped (bytes ++ take k piece)) c.turn_until_started.new.self c.give.new.read c.answer-then-turn_until_started.result) (sym count)
+    subst (λ (k : ℕ). AnswersUntilAt (past_of part kept wrapped (bytes ++ take k piece)) c.turn_until_started.new.self c.give.new.read c.answer-then-turn_until_started.result) (sym (end_count c))
     (subst (AnswersUntilAt (past_of part kept wrapped all) c.turn_until_started.new.self c.give.new.read) (sym c.answer-then-turn_until_started.ensures)
     (answers_until (past_of part kept wrapped all) c.turn_until_started.new.self c.give.new.read c.started-then-turn_until_started.result fed.All at used.no_word_due (here.stop_is ∙ ap (stop_at_place (length all)) used.going, used.no_word_due)))
 
@@ -262,21 +240,16 @@ pub returns-then-turn_until_started-clause-reads : goal.returns-then-turn_until_
 returns-then-turn_until_started-clause-reads c = λ part kept wrapped bytes s.
     let piece : List ℕ = c.args.piece.now in
     let at : ℕ = c.turn_until_started.new.at in
-    let used = c.turn_until_started.ensures.took.used_up c.if-turn_until_started.true in
-    let count : taken_until (length piece) c.answer-then-turn_until_started.result ≡ at = count_is c.answer-then-turn_until_started.result c.started-then-turn_until_started.result fed.All (length piece) at c.answer-then-turn_until_started.ensures (sym used.all) in
     let known : (more : List ℕ) × (c.give.new.read ≡ with_words c.args.read.now more) × (reads_given part kept c.turn_until_started.new.self (bytes ++ take at piece) ≡ reads_given part kept c.args.self.now bytes ++ more) =
     read_here part kept wrapped c.runs.self c.give.new.self c.turn_until_started.new.self c.args.read.now c.runs.read c.give.new.read bytes piece (reads_given part kept c.args.self.now bytes) c.runs.at at
     (c.give.ensures.given part kept wrapped (bytes ++ take c.runs.at piece) (c.runs.invariant.stands part kept wrapped bytes s)) c.turn_until_started.ensures.took.turned.forward
     (c.turn_until_started.ensures.took.turned.turn.silent part kept wrapped) (c.runs.invariant.reads part kept wrapped bytes s) in
-    (known.0, known.1, ap (λ (k : ℕ). reads_given part kept c.turn_until_started.new.self (bytes ++ take k piece)) count ∙ known.2)
+    (known.0, known.1, ap (λ (k : ℕ). reads_given part kept c.turn_until_started.new.self (bytes ++ take k piece)) (end_count c) ∙ known.2)
 
 pub returns-then-turn_until_started-clause-room : goal.returns-then-turn_until_started-clause-room
 returns-then-turn_until_started-clause-room c = λ part kept wrapped bytes s.
     let piece : List ℕ = c.args.piece.now in
-    let used = c.turn_until_started.ensures.took.used_up c.if-turn_until_started.true in
-    let count : taken_until (length piece) c.answer-then-turn_until_started.result ≡ c.turn_until_started.new.at =
-    count_is c.answer-then-turn_until_started.result c.started-then-turn_until_started.result fed.All (length piece) c.turn_until_started.new.at c.answer-then-turn_until_started.ensures (sym used.all) in
-    subst (λ (k : ℕ). RoomBefore (record { part = part; kept = kept; wrapped = wrapped; bytes = bytes }) piece k (reads_given part kept c.args.self.now bytes) c.args.read.now) (sym count) (
+    subst (λ (k : ℕ). RoomBefore (record { part = part; kept = kept; wrapped = wrapped; bytes = bytes }) piece k (reads_given part kept c.args.self.now bytes) c.args.read.now) (sym (end_count c)) (
     let taken : List ℕ = bytes ++ take c.runs.at c.args.piece.now in
     let gives = c.give.ensures.given part kept wrapped taken (c.runs.invariant.stands part kept wrapped bytes s) in
     let due : NoWordDue c.give.new.self = c.give.ensures.none_left.0 c.if-not-give.false in

@@ -22,8 +22,5 @@ returns-clause-back c = λ part kept wrapped bytes s.
 pub returns-clause-stopped : goal.returns-clause-stopped
 returns-clause-stopped c = λ part kept wrapped bytes s e. let same = c.feed-fed.ensures.stopped part kept wrapped bytes s e in (same.0, refl, same.2)
 
-pub returns-clause-stays : goal.returns-clause-stays
-returns-clause-stays c = λ e. let same = c.feed-fed.ensures.stays e in (same.0, refl, same.2)
-
 pub returns-clause-answers_stop : goal.returns-clause-answers_stop
 returns-clause-answers_stop c = c.feed-fed.ensures.answers_stop

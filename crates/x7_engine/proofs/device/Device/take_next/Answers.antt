@@ -34,11 +34,11 @@ turn_taken c =
           (then_commands bytes nops run stands.fits (c.pass_nops.ensures.same_history part kept wrapped bytes s) (c.take_run.ensures.turned.turn.commands part kept wrapped (bytes ++ nops) stands)));
     }
 
-pub returns-then-has_stopped : goal.returns-then-has_stopped
-returns-then-has_stopped c = record {
+pub returns-then-is_some : goal.returns-then-is_some
+returns-then-is_some c = record {
   turned = c.pass_nops.ensures.turned;
   used_up = λ e. absurd cc;
-  goes_on = λ e f. absurd (let both : true ≡ false = sym c.if-has_stopped.true ∙ c.has_stopped.ensures ∙ ap (λ (o : Option StopCause). is_some o) f in cc);
+  goes_on = λ e f. absurd (let both : true ≡ false = sym c.if-is_some.true ∙ c.is_some.ensures ∙ ap (λ (o : Option StopCause). is_some o) c.stop.ensures ∙ ap (λ (o : Option StopCause). is_some o) f in cc);
 }
 
 pub returns : goal.returns

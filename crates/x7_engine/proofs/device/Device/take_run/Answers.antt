@@ -129,7 +129,7 @@ returns c = record {
   };
   used_up = λ e. (
       let done = c.is_done.ensures.yes e in
-      let going : c.take_run-left.new.self.stop ≡ None = sym c.stop.ensures ∙ done.1 in
+      let going : c.take_run-left.new.self.stop ≡ None = done.1 in
       let need : IsNeed c.cut-run.result = c.is_need-used_up.ensures.0 done.0 in
       let all : length c.args.piece.now - c.cut-run.new.at ≡ 0 = all_used c.cut-run.result _ _ _ need c.cut-run.ensures.nearer in
       record {
@@ -138,7 +138,7 @@ returns c = record {
         no_word_due = c.take_run-left.ensures.no_word_due (tells_nothing c.cut-run.result need);
       });
   goes_on = λ e f. (
-      let unused : c.is_need-used_up.result ≡ false = c.is_done.ensures.no e (c.stop.ensures ∙ f) in
+      let unused : c.is_need-used_up.result ≡ false = c.is_done.ensures.no e f in
       let piece : ℕ = length c.args.piece.now in
       let nearer : calls_left c.cut-run.new.self (piece - c.cut-run.new.at) < calls_left c.self.inside.cutter (piece - c.args.at.now) =
       comes_nearer c.cut-run.result _ _ _ (λ n. absurd (let both : true ≡ false = sym (c.is_need-used_up.ensures.1 n) ∙ unused in cc)) c.cut-run.ensures.nearer in

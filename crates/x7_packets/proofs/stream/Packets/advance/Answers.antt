@@ -1,9 +1,9 @@
-use Rattle.std.proofs.Common.{◌≡◌, Bool, true, false, [], ◌++◌, length, ap, sym, subst, ◌∙◌, ◌<◌, ◌+◌, arith}
+use Rattle.std.proofs.Common.{◌≡◌, inl, Bool, true, false, [], ◌++◌, length, ap, sym, subst, ◌∙◌, ◌<◌, ◌+◌, arith}
 use Rattle.x7_words.specs.Input.{preceded}
 use Rattle.x7_words.proofs.InputLemmas.{preceded_nil, preceded_preceded, stays_at, stays_on}
 use Rattle.x7_packets.specs.PacketsState.{PacketsState}
 use Rattle.x7_packets.specs.Stream.{TookBytes, CutsNext}
-use Rattle.x7_packets.proofs.StreamLemmas.{gives_again, gives_end, gives_up, reads_none, reads_on, room_on, run_is_not_last, tells_run, turns_most}
+use Rattle.x7_packets.proofs.StreamLemmas.{gives_again, gives_end, gives_up, reads_none, reads_on, room_on, run_is_not_last, tells_run, turns_fewer, turns_most}
 use Rattle.x7_packets.proofs.stream.Packets.advance.Goals as goal
 
 pub returns-then-self-clause-gives_up : goal.returns-then-self-clause-gives_up
@@ -69,4 +69,48 @@ loop-self-preserved g c =
         subst (λ (p : PacketsState). TookBytes c.args.self.now p (i.reads.0 ++ f.piece)) (sym f.is) (reads_on c.args.self.now c.loop-self.self c.cut_next.new.self i.reads.0 f.piece s i.on i.reads.2),
       );
       room = room_on c.loop-self.self c.cut_next.new.self c.fill.new.self s f.piece (c.args.self.now.taken + 589824) f.is some f.most i.room;
+    }
+
+pub loop-self-smaller : goal.loop-self-smaller
+loop-self-smaller g c =
+    let s : CutsNext c.loop-self.self c.cut_next.new.self false = subst (λ (b : Bool). CutsNext c.loop-self.self c.cut_next.new.self b) c.if-cut_next.false c.cut_next.ensures in
+    let f = c.in-Ok.ensures.fills in
+    turns_fewer c.loop-self.self c.cut_next.new.self c.fill.new.self s f.piece f.is (f.some c.if-not-more.false)
+
+pub returns-then-self-clause-call : goal.returns-then-self-clause-call
+returns-then-self-clause-call g c = record {
+  failed = inl (sym (ap (λ (p : PacketsState). p.has_failed) c.self.view_is) ∙ c.if-self.true);
+  selected = tt;
+  stays = λ e. tt;
+  inputs = stays_at _;
+}
+
+pub returns-then-self-2-clause-call : goal.returns-then-self-2-clause-call
+returns-then-self-2-clause-call g c =
+    let good : c.args.self.now.has_failed ≡ false = sym (ap (λ (p : PacketsState). p.has_failed) c.self.view_is) ∙ c.if-self.false in
+    record {
+      failed = tt;
+      selected = c.requires.selected good;
+      stays = λ e. absurd (let both : true ≡ false = sym e ∙ good in cc);
+      inputs = stays_at _;
+    }
+
+pub returns-then-cut_next-clause-call : goal.returns-then-cut_next-clause-call
+returns-then-cut_next-clause-call g c =
+    let good : c.args.self.now.has_failed ≡ false = sym (ap (λ (p : PacketsState). p.has_failed) c.self.view_is) ∙ c.if-self.false in
+    record {
+      failed = tt;
+      selected = c.loop-self.invariant.selected;
+      stays = λ e. absurd (let both : true ≡ false = sym e ∙ good in cc);
+      inputs = c.loop-self.invariant.inputs;
+    }
+
+pub returns-then-not-more-clause-call : goal.returns-then-not-more-clause-call
+returns-then-not-more-clause-call g c =
+    let good : c.args.self.now.has_failed ≡ false = sym (ap (λ (p : PacketsState). p.has_failed) c.self.view_is) ∙ c.if-self.false in
+    record {
+      failed = tt;
+      selected = c.in-Ok.ensures.selected;
+      stays = λ e. absurd (let both : true ≡ false = sym e ∙ good in cc);
+      inputs = stays_on _ _ _ c.loop-self.invariant.inputs c.in-Ok.ensures.inputs;
     }
