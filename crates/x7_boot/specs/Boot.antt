@@ -5,13 +5,14 @@
 --     phase 7                  the boot has started
 --     IPROG                    an attempt at the start address in WBSTAR; after 16 attempts that all ended so, a loop
 --     a failure                a fallback at address 0; the boot stops where the attempt is one, or CTL0 forbids it
-use Rattle.std.specs.Prelude.{◌≡◌, ℕ, ◌+◌, ◌*◌, ◌==◌, ◌||◌, nat_le, if◌then◌else◌, List, [], ◌∷◌, length, map, reverse, None}
-use Rattle.x7_words.specs.Word.{field_of}
+use Rattle.std.specs.Prelude.{◌≡◌, ℕ, ◌+◌, ◌*◌, ◌==◌, ◌||◌, nat_le, if◌then◌else◌, List, [], ◌∷◌, length, map, reverse, Option, None}
+use Rattle.x7_words.specs.Flash.{IfKnown}
+use Rattle.x7_words.specs.Word.{AreBytes, field_of}
 use Rattle.x7_part.specs.Part.{PartData}
 use Rattle.x7_regs.specs.Control.{forbids_fallback}
 use Rattle.x7_regs.specs.declared.boot_status.Kind.TheVariants.{Power, Iprog, Fallback}
 use Rattle.x7_engine.specs.Kept.{is_fallback}
-use Rattle.x7_engine.specs.Standing.{DeviceState}
+use Rattle.x7_engine.specs.Standing.{DeviceState, NoWordDue}
 use Rattle.x7_engine.specs.State.{kept_after, state_of}
 use Rattle.x7_engine.specs.declared.kept.Kept.{Kept}
 use Rattle.x7_engine.specs.declared.regs.Regs.{Regs}
@@ -94,6 +95,13 @@ pub record IsBoot (part : PartData) (flash : List ℕ) (b : BootedState) : Type 
   pub leads : LeadsToEnd part flash (last ∷ older) b.end
   pub attempts : b.attempts ≡ reverse (map tried (last ∷ older))
   pub device : IsDeviceOf part b.device last
+
+-- What a boot of a part comes to, over a flash of which these bytes are known, or none: it is the boot of the part from
+-- them, its device is one of the part, and owes no word that it read out.
+pub record BootsTo (part : PartData) (known : Option (List ℕ)) (b : BootedState) : Type 0 where
+  pub booted : IfKnown known (λ all. AreBytes all → IsBoot part all b)
+  pub keeps_part : b.device.part ≡ part
+  pub no_word_due : NoWordDue b.device
 
 -- a flash has led a device through `number` attempts, which are reported as
 -- `attempts`, to the one that begins as `a` says

@@ -4,7 +4,7 @@ ghost use Rattle.x7_words.specs.Flash.{FlashFails, IfKnown};
 ghost use Rattle.x7_words.specs.Word.{AreBytes};
 ghost use Rattle.x7_words.specs.FlashCalls.{CallOnlyReads};
 ghost use Rattle.x7_engine.specs.Standing.{NoWordDue};
-ghost use Rattle.x7_boot.specs.Boot.{BootedState, IsBoot};
+ghost use Rattle.x7_boot.specs.Boot.{BootsTo, BootedState, IsBoot};
 ghost use Rattle.x7_boot.specs.Image.{flash_limit};
 ghost use Rattle.x7_boot.specs.Pages.{FaultsCounted};
 
@@ -108,10 +108,8 @@ fn try_all<F: Flash>(
     requires limit { (F.state flash.old).extent ≤ flash_limit }
     requires no_pages { pages.old.pages.entries ≡ [] }
     requires none_tried { attempts.old.items ≡ [] }
-    ensures booted { IfOk result (λ end. IfKnown (F.state flash.old).bytes (λ all. AreBytes all →
-        IsBoot device.old.part all (record { attempts = attempts.new.items; end = end; device = device.new }))) }
-    ensures part { IfOk result (λ end. device.new.part ≡ device.old.part) }
-    ensures no_word_due { IfOk result (λ end. NoWordDue device.new) }
+    ensures booted { IfOk result (λ end. BootsTo device.old.part (F.state flash.old).bytes
+        (record { attempts = attempts.new.items; end = end; device = device.new })) }
     ensures faults { FaultsCounted (F.state flash.old).faults (F.state flash.new).faults result }
     ensures only_reads { CallOnlyReads F.Flash flash.old flash.new }
 {
@@ -151,10 +149,8 @@ fn boot_device<F: Flash>(
     requires attached { (F.state flash.old).attached ≡ true }
     requires limit { (F.state flash.old).extent ≤ flash_limit }
     requires none_tried { attempts.old.items ≡ [] }
-    ensures booted { IfOk result (λ end. IfKnown (F.state flash.old).bytes (λ all. AreBytes all →
-        IsBoot device.old.part all (record { attempts = attempts.new.items; end = end; device = device.new }))) }
-    ensures part { IfOk result (λ end. device.new.part ≡ device.old.part) }
-    ensures no_word_due { IfOk result (λ end. NoWordDue device.new) }
+    ensures booted { IfOk result (λ end. BootsTo device.old.part (F.state flash.old).bytes
+        (record { attempts = attempts.new.items; end = end; device = device.new })) }
     ensures faults { FaultsCounted (F.state flash.old).faults (F.state flash.new).faults result }
     ensures only_reads { CallOnlyReads F.Flash flash.old flash.new }
 {
@@ -168,9 +164,7 @@ fn boot_device<F: Flash>(
 fn boot_part<F: Flash>(alloc: Global, part: &Part, flash: &mut F) -> Result<Booted, BootFault>
     requires attached { (F.state flash.old).attached ≡ true }
     requires limit { (F.state flash.old).extent ≤ flash_limit }
-    ensures booted { IfOk result (λ booted. IfKnown (F.state flash.old).bytes (λ all. AreBytes all → IsBoot part.now all booted)) }
-    ensures part { IfOk result (λ booted. booted.device.part ≡ part.now) }
-    ensures no_word_due { IfOk result (λ booted. NoWordDue booted.device) }
+    ensures booted { IfOk result (BootsTo part.now (F.state flash.old).bytes) }
     ensures faults { FaultsCounted (F.state flash.old).faults (F.state flash.new).faults result }
     ensures only_reads { CallOnlyReads F.Flash flash.old flash.new }
 {

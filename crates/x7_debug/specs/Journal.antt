@@ -83,14 +83,14 @@ IsFedAsTaken old new = IsFedAtMost old new (new.taken - old.taken)
 abbrev pub KeepsOldest : DeviceState → JournalState → DeviceState → JournalState → Type 0
 KeepsOldest old j new k = oldest_by new.taken (records_of k) ≡ oldest_by old.taken (records_of j)
 
--- how far records lead back after a move, and how many bytes the device was fed in it
+-- How far records lead back after a move, and how many bytes the device was fed in it. A move to where the session
+-- stands feeds none, by `never_less` and `forward_fed`.
 pub record MoveCosts (old new : SessionState) : Type 0 where
   pub stays_oldest : new.at ≡ old.at → new.oldest ≡ old.oldest
   pub forward_oldest : old.at < new.at → new.oldest ≤ max old.at (new.at - reach)
   pub near_oldest : new.at < old.at → old.oldest ≤ new.at → new.oldest ≡ old.oldest
   pub far_oldest : new.at < old.oldest → new.oldest ≤ new.at - reach
   pub never_less : old.fed ≤ new.fed
-  pub stays_fed : new.at ≡ old.at → new.fed ≡ old.fed
   pub forward_fed : old.at ≤ new.at → new.fed ≤ old.fed + (new.at - old.at)
   pub near_fed : old.oldest ≤ new.at → new.at < old.at → new.fed ≤ old.fed + (record_reach - 1)
   pub far_fed : new.at < old.oldest → new.fed ≤ old.fed + new.at

@@ -8,8 +8,8 @@ use Rattle.x7_part.specs.Keys.{name_of}
 use Rattle.x7_text.specs.Digits.{hex_byte, hex_word}
 use Rattle.x7_forms.specs.declared.bad_input.InputFault.{InputFault}
 use Rattle.x7_forms.specs.declared.bad_input.InputFault.TheVariants as input
-use Rattle.x7_forms.specs.declared.bad_input.Detail.{Detail}
-use Rattle.x7_forms.specs.declared.bad_input.Detail.TheVariants as detail
+use Rattle.x7_forms.specs.declared.message.Detail.{Detail}
+use Rattle.x7_forms.specs.declared.message.Detail.TheVariants as detail
 use Rattle.x7_forms.specs.declared.status.Status.{Status}
 use Rattle.x7_forms.specs.declared.status.Status.TheVariants as status
 use Rattle.x7_forms.specs.declared.refusal.Refusal.{Refusal}
@@ -80,12 +80,13 @@ input_fault_text input.Image = codes "image"
 input_fault_text input.Long = codes "long"
 input_fault_text (input.Layout place) = codes "layout byte " ++ decimal place
 
--- what the line of a fault of an input says after its label
+-- what the line of a refusal says after its label
 abbrev pub detail_text : Detail → List ℕ
-detail_text detail.Nothing = []
+detail_text (detail.Text text) = text.now
 detail_text (detail.Number number) = decimal number
 detail_text (detail.Word word) = hex_word word
 detail_text (detail.Sum line want got) = decimal line ++ (codes " want " ++ (hex_byte want ++ (codes " got " ++ hex_byte got)))
+detail_text (detail.InRow key row) = placed_key key.now (Some row)
 
 -- a row of the table of reasons: the status and the cause of a reason, and what its line says before and after the name
 pub record ReasonRow : Type 0 where

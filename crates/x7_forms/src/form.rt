@@ -234,10 +234,16 @@ fn plan_read_form(names: &[String]) -> Option<Form<'_>>
     let [part, far, slot_count] = names else {
         return None;
     };
+    let Some(far) = word_in(far.as_str()) else {
+        return None;
+    };
+    let Some(count) = number_in(slot_count.as_str()) else {
+        return None;
+    };
     Some(Form::PlanRead {
         part: part.as_str(),
-        far: word_in(far.as_str())?,
-        count: number_in(slot_count.as_str())?,
+        far,
+        count,
     })
 }
 

@@ -3,9 +3,9 @@
 #![tactic(auto)]
 
 mod bad_input;
-mod bad_part;
 mod beginning;
 mod form;
+mod message;
 mod part;
 mod read;
 mod refusal;

@@ -1,14 +1,12 @@
 //! Why a command has no whole text, and the line that says so.
 ghost use Rattle.std.specs.Prelude.{◌≡◌, ◌++◌, [], codes};
 ghost use Rattle.x7_words.specs.Sink.{PutsOrFails};
-ghost use Rattle.x7_forms.specs.Event.{differs, event_line};
 
-use crate::bad_input::{InputFault, say_bad_input};
-use crate::bad_part::say_bad_part;
+use crate::bad_input::InputFault;
+use crate::message::{after_name, write_line};
 use crate::status::Status;
-use itoa::Buffer;
 use x7_part::PartFault;
-use x7_words::{Failed, NoMemory, Sink, write_pieces};
+use x7_words::{NoMemory, Sink};
 
 /// Why a command has no whole text. Each reason has one status and one message.
 #[derive(Clone, Copy, Drop)]
@@ -72,25 +70,6 @@ impl Why {
     }
 }
 
-/// Writes a line that has nothing after the name but its line feed. No memory is taken.
-fn say_line<'x, E: Sink>(err: &mut E, before_name: &'x [u8], name: &'x str) -> Result<(), Failed>
-    ensures { PutsOrFails (E.state err.old) (before_name.now ++ (name.now ++ codes "\n")) (E.state err.new) }
-{
-    write_pieces(err, &[before_name, name.as_bytes(), b"\n"])
-}
-
-/// Writes the line of a byte of a flash that differs. No memory is taken.
-fn say_differs<E: Sink>(err: &mut E, name: &str, place: u64) -> Result<(), Failed>
-    ensures { PutsOrFails (E.state err.old) (event_line (differs name.now place)) (E.state err.new) }
-{
-    let mut buffer = Buffer::new();
-    let place = buffer.format(place).as_bytes();
-    write_pieces(
-        err,
-        &[b"x7: differs ", name.as_bytes(), b": byte ", place, b"\n"],
-    )
-}
-
 /// A command has no whole text: why, and which input or flash is concerned.
 #[derive(Clone, Copy, Drop)]
 pub struct Refusal<'w> {
@@ -111,24 +90,13 @@ impl<'w> Refusal<'w> {
         Refusal { reason, name: "" }
     }
 
-    /// Writes the refusal's line. A fault of the sink changes nothing else.
-    fn say<E: Sink>(&self, err: &mut E) -> Result<(), Failed>
-        ensures { PutsOrFails (E.state err.old) (event_line (event_of self.now)) (E.state err.new) }
-    {
-        match self.reason {
-            Why::BadPart(fault) => say_bad_part(err, self.name, fault),
-            Why::BadInput(fault) => say_bad_input(err, self.name, fault),
-            Why::Differs(place) => say_differs(err, self.name, place),
-            _ => say_line(err, self.reason.before_name(), self.name),
-        }
-    }
-
     /// Writes the refusal's line, and gives its status. No memory is taken.
     pub fn tell<E: Sink>(&self, err: &mut E) -> Status
         ensures status { result ≡ status_of_event (event_of self.now) }
         ensures line { PutsOrFails (E.state err.old) (event_line (event_of self.now)) (E.state err.new) }
     {
-        let _ = self.say(err);
+        let (label, detail) = after_name(self.reason);
+        let _ = write_line(err, self.reason.before_name(), self.name, label, detail);
         self.reason.status()
     }
 }

@@ -111,9 +111,7 @@ pub fn play_streams<'w, I: Inputs>(
     let Ok(mut player) = Player::new(alloc, part) else {
         return Err(Refusal::unnamed(Why::NoMemory));
     };
-    let Ok(mut piece) = vec![in alloc; 0u8; PLAY_TURN_SIZE] else {
-        return Err(Refusal::unnamed(Why::NoMemory));
-    };
+    let mut piece = [0u8; PLAY_TURN_SIZE];
     let mut left = STREAM_LIMIT;
     for name in streams {
         left = play_stream(&mut player, inputs, name.as_str(), left, &mut piece)?;

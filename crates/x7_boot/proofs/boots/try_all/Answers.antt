@@ -27,9 +27,12 @@ pub returns-in-Ends-clause-booted : goal.returns-in-Ends-clause-booted
 returns-in-Ends-clause-booted g c =
     let f = g.F.Flash in
     let i = c.attempts.invariant in
-    let t = c.in_ok-ending.ensures in
-    boot_ends c.args.device.now.part c.attempts.device.part c.attempts.kept c.attempts.address (f.state c.args.flash.now).bytes (f.state c.attempts.flash).bytes c.try_once.new.device c.in_ok-ending.ending
-    c.attempts.attempts.items c.push.new.self.items c.attempts.number c.next_by.result c.in-Ends.end i.flash.bytes i.part i.led t.tried c.next_by.ensures.table c.in-Ends.is c.in-Ok.ensures.items
+    let t = c.in_ok-ending.ensures in record {
+      booted = boot_ends c.args.device.now.part c.attempts.device.part c.attempts.kept c.attempts.address (f.state c.args.flash.now).bytes (f.state c.attempts.flash).bytes c.try_once.new.device c.in_ok-ending.ending
+          c.attempts.attempts.items c.push.new.self.items c.attempts.number c.next_by.result c.in-Ends.end i.flash.bytes i.part i.led t.tried c.next_by.ensures.table c.in-Ends.is c.in-Ok.ensures.items;
+      keeps_part = t.part ∙ i.part;
+      no_word_due = t.no_word_due;
+    }
 
 pub try_once-requires-clause-pages : goal.try_once-requires-clause-pages
 try_once-requires-clause-pages g c =

@@ -61,3 +61,18 @@ returns-then-turn-clause-gives_few g c =
     let i = g.I.Inputs in
     let v = c.loop-turn.invariant in
     gives_on (i.state c.args.inputs.now) (i.state c.loop-turn.inputs) (i.state c.next_turn.new.inputs) v.known.0 c.args.limit c.loop-turn.left v.known.1.2 v.known.1.1 v.ends c.next_turn.ensures.gives_few
+
+pub loop-turn-smaller : goal.loop-turn-smaller
+loop-turn-smaller g c = omega (arith, c.in_ok-turn.ensures.fills c.if-turn.false, c.loop-turn.invariant.piece, c.in_ok-turn.ensures.within.0)
+
+pub next_turn-requires-clause-not_empty : goal.next_turn-requires-clause-not_empty
+next_turn-requires-clause-not_empty g c = omega (arith, c.loop-turn.invariant.piece)
+
+pub returns-in_err-turn-clause-inputs : goal.returns-in_err-turn-clause-inputs
+returns-in_err-turn-clause-inputs g c = stays_on _ _ _ c.loop-turn.invariant.inputs c.next_turn.ensures.inputs
+
+pub returns-in_err-put_text-clause-inputs : goal.returns-in_err-put_text-clause-inputs
+returns-in_err-put_text-clause-inputs g c = stays_on _ _ _ c.loop-turn.invariant.inputs c.next_turn.ensures.inputs
+
+pub returns-then-turn-clause-inputs : goal.returns-then-turn-clause-inputs
+returns-then-turn-clause-inputs g c = stays_on _ _ _ c.loop-turn.invariant.inputs c.next_turn.ensures.inputs

@@ -59,3 +59,21 @@ returns-in_err-turn-clause-no_end_read g c = λ e. let never : false ≡ true = 
 
 pub returns-then-turn-clause-no_end_read : goal.returns-then-turn-clause-no_end_read
 returns-then-turn-clause-no_end_read g c = λ e. let never : false ≡ true = sym c.if-last.false ∙ e in absurd cc
+
+pub loop-turn-smaller : goal.loop-turn-smaller
+loop-turn-smaller g c = omega (arith, c.in_ok-turn.ensures.fills c.if-turn.false, c.loop-turn.invariant.buffer, c.requires.not_empty, c.in_ok-turn.ensures.within.0)
+
+pub next_turn-requires-clause-not_empty : goal.next_turn-requires-clause-not_empty
+next_turn-requires-clause-not_empty g c = omega (arith, c.loop-turn.invariant.buffer, c.requires.not_empty)
+
+pub returns-in_err-turn-clause-inputs : goal.returns-in_err-turn-clause-inputs
+returns-in_err-turn-clause-inputs g c = stays_on _ _ _ c.loop-turn.invariant.inputs c.next_turn.ensures.inputs
+
+pub returns-then-turn-clause-inputs : goal.returns-then-turn-clause-inputs
+returns-then-turn-clause-inputs g c = stays_on _ _ _ c.loop-turn.invariant.inputs c.next_turn.ensures.inputs
+
+pub returns-in_err-turn-clause-length : goal.returns-in_err-turn-clause-length
+returns-in_err-turn-clause-length g c = c.next_turn.ensures.length ∙ c.loop-turn.invariant.buffer
+
+pub returns-then-turn-clause-length : goal.returns-then-turn-clause-length
+returns-then-turn-clause-length g c = c.next_turn.ensures.length ∙ c.loop-turn.invariant.buffer

@@ -81,3 +81,46 @@ returns-then-is_err-clause-no_end_read g c = λ e. let never : false ≡ true = 
 
 pub returns-then-turn-clause-no_end_read : goal.returns-then-turn-clause-no_end_read
 returns-then-turn-clause-no_end_read g c = λ e. let never : false ≡ true = sym c.if-last.false ∙ e in absurd cc
+
+pub loop-turn-smaller : goal.loop-turn-smaller
+loop-turn-smaller g c = omega (arith, c.in_ok-turn.ensures.fills c.if-turn.false, c.loop-turn.invariant.piece, c.in_ok-turn.ensures.within.0)
+
+pub next_turn-requires-clause-not_empty : goal.next_turn-requires-clause-not_empty
+next_turn-requires-clause-not_empty g c = omega (arith, c.loop-turn.invariant.piece)
+
+pub next_turn-requires-clause-selected : goal.next_turn-requires-clause-selected
+next_turn-requires-clause-selected g c = c.loop-turn.invariant.selected
+
+pub overflow_sub-left : goal.overflow_sub-left
+overflow_sub-left g c = c.in_ok-turn.ensures.within.0
+
+pub returns-in_err-turn-clause-inputs : goal.returns-in_err-turn-clause-inputs
+returns-in_err-turn-clause-inputs g c = stays_on _ _ _ c.loop-turn.invariant.inputs c.next_turn.ensures.inputs
+
+pub returns-then-is_err-clause-inputs : goal.returns-then-is_err-clause-inputs
+returns-then-is_err-clause-inputs g c = stays_on _ _ _ c.loop-turn.invariant.inputs c.next_turn.ensures.inputs
+
+pub returns-then-turn-clause-inputs : goal.returns-then-turn-clause-inputs
+returns-then-turn-clause-inputs g c = stays_on _ _ _ c.loop-turn.invariant.inputs c.next_turn.ensures.inputs
+
+pub returns-in_err-turn-clause-length : goal.returns-in_err-turn-clause-length
+returns-in_err-turn-clause-length g c = c.next_turn.ensures.length ∙ c.loop-turn.invariant.piece ∙ sym c.requires.buffer
+
+pub returns-then-is_err-clause-gives_few : goal.returns-then-is_err-clause-gives_few
+returns-then-is_err-clause-gives_few g c =
+    let i = g.I.Inputs in
+    let v = c.loop-turn.invariant in
+    gives_on (i.state c.args.inputs.now) (i.state c.loop-turn.inputs) (i.state c.next_turn.new.inputs) v.known.0 c.args.limit c.loop-turn.left v.known.1.2 v.known.1.0 v.ends c.next_turn.ensures.gives_few
+
+pub slice_bounds-play-end-in-loop-turn : goal.slice_bounds-play-end-in-loop-turn
+slice_bounds-play-end-in-loop-turn g c =
+    sym (length-take-le c.in_ok-turn.turn.count c.next_turn.new.buffer (omega (arith, c.in_ok-turn.ensures.within.1, c.next_turn.ensures.length)))
+
+pub slice_bounds-play-end : goal.slice_bounds-play-end
+slice_bounds-play-end g c = omega (arith, c.in_ok-turn.ensures.within.1, c.next_turn.ensures.length)
+
+pub returns-then-is_err-clause-length : goal.returns-then-is_err-clause-length
+returns-then-is_err-clause-length g c = c.next_turn.ensures.length ∙ c.loop-turn.invariant.piece ∙ sym c.requires.buffer
+
+pub returns-then-turn-clause-length : goal.returns-then-turn-clause-length
+returns-then-turn-clause-length g c = c.next_turn.ensures.length ∙ c.loop-turn.invariant.piece ∙ sym c.requires.buffer

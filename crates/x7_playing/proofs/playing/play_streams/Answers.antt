@@ -1,6 +1,5 @@
-use Rattle.std.proofs.Common.{◌≡◌, [], ◌∷◌, ◌++◌, ◌+◌, None, arith, drop, length, length-append, length-take-le, map, string_bytes, ◌∙◌, ap}
+use Rattle.std.proofs.Common.{[], ◌∷◌, ◌++◌, ◌+◌, None, arith, length, length-append, map, string_bytes, refl, ◌∙◌}
 use Rattle.x7_words.proofs.InputLemmas.{few_at, few_more, few_on, stays_at, stays_on}
-use Rattle.x7_forms.specs.Turn.{play_turn_size}
 use Rattle.x7_forms.specs.Event.{event_of}
 use Rattle.x7_forms.specs.Known.{StreamRead, stream_limit}
 use Rattle.x7_forms.specs.Step.{CameIn, step_over}
@@ -18,7 +17,7 @@ loop-name-init g c =
       asks = few_at _;
       within = omega arith;
       limits = limits_first (i.state c.args.inputs.now).contents stream_limit (map string_bytes c.args.streams.now);
-      piece = omega (arith, c.in-Ok-vec.ensures.len, c.in-Ok-vec.piece.ok.0);
+      piece = refl;
       played = ([], (c.in-Ok.ensures, omega arith, rests_none (i.state c.args.inputs.now).contents (map string_bytes c.args.streams.now) stream_limit));
     }
 
@@ -44,16 +43,13 @@ loop-name-preserved g c =
     let read : StreamRead = record { bytes = p.bytes; room = c.in_ok-left.left } in
     let next = stream_next string_bytes (i.state c.args.inputs.now).contents (i.state c.loop-name.inputs).contents C c.args.streams.now c.loop-name.name-index stream_limit c.loop-name.left c.name-item.result name v.played.0 read
     v.inputs.map c.loop-name-test.true c.name-item.is c.as_str.ensures.value v.played.1.2 p.reads in
-    let new = c.play_stream.new.piece in
-    let old = c.loop-name.piece.items in
-    let size : length new ≡ play_turn_size = c.play_stream.ensures.length ∙ ap length c.deref_mut.ensures.value ∙ v.piece in
     record {
       inputs = stays_on _ _ _ v.inputs c.play_stream.ensures.inputs;
       asks = few_on _ _ _ c.loop-name.name-index 1 v.asks c.play_stream.ensures.asks;
       within = omega (arith, c.loop-name-test.true);
       limits = limits_next string_bytes (limited_together (i.state c.args.inputs.now).contents stream_limit (map string_bytes c.args.streams.now)) (i.state c.args.inputs.now).contents c.args.streams.now c.loop-name.name-index c.loop-name.left c.in_ok-left.left c.name-item.result name
           c.loop-name-test.true c.name-item.is c.as_str.ensures.value v.limits (room_left (i.state c.args.inputs.now).contents (i.state c.loop-name.inputs).contents C name c.loop-name.left read v.inputs.map (omega (arith, p.within)) (p.reads None));
-      piece = omega (arith, length-take-le c.loop-name.piece.len (new ++ drop (length new) old) (omega (arith, length-append new (drop (length new) old), size, v.piece, c.loop-name.piece.ok.0)), v.piece, c.loop-name.piece.ok.0);
+      piece = c.play_stream.ensures.length ∙ v.piece;
       played = (v.played.0 ++ p.bytes, (p.plays c.args.part.now v.played.0 v.played.1.0, omega (arith, v.played.1.1, p.within, length-append v.played.0 p.bytes), next));
     }
 

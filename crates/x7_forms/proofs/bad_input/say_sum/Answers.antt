@@ -1,5 +1,0 @@
-use Rattle.x7_forms.proofs.bad_input.say_sum.Goals as goal
-
-pub returns : goal.returns
-returns g c =
-    rw (c.hex_of_byte.ensures, c.hex_of_byte-2.ensures, c.as_bytes-line.ensures.value, c.format.ensures.text, c.as_bytes.ensures.value) at c.write_pieces.ensures.puts

@@ -1,4 +1,0 @@
-use Rattle.x7_forms.proofs.bad_part.say_key_in_row.Goals as goal
-
-pub returns : goal.returns
-returns g c = rw (← c.format-digits.ensures.text, ← c.as_bytes.ensures.value, ← c.as_bytes-2.ensures.value, ← c.as_bytes-3.ensures.value) c.write_pieces.ensures.puts

@@ -1,0 +1,196 @@
+//! What the line of a refusal says after the name of the input or of the flash, and the line. No memory is taken.
+ghost use Rattle.std.specs.Prelude.{◌≡◌, ◌++◌, codes, decimal};
+ghost use Rattle.x7_words.specs.Sink.{PutsOrFails};
+ghost use Rattle.x7_text.specs.Digits.{hex_byte};
+ghost use Rattle.x7_forms.specs.Event.{detail_text, input_fault_text, part_fault_text, reason_row, which_text};
+
+use crate::bad_input::InputFault;
+use crate::refusal::Why;
+use itoa::Buffer;
+use x7_part::{PartFault, Which};
+use x7_text::{hex_of_byte, hex_of_word};
+use x7_words::{Failed, Sink, write_pieces};
+
+/// What the line of a refusal says after the name and a label.
+#[derive(Clone, Copy, Drop)]
+pub(crate) enum Detail {
+    /// The text, which may be empty.
+    Text(&'static str),
+    /// A number.
+    Number(u64),
+    /// A word.
+    Word(u32),
+    /// A line, the byte that would make the sum of its bytes 0, and the one that stands there.
+    Sum {
+        /// The line.
+        line: u64,
+        /// The byte that makes the sum 0.
+        want: u8,
+        /// The byte that stands there.
+        got: u8,
+    },
+    /// A key of a row of a part file.
+    InRow {
+        /// The key.
+        key: &'static str,
+        /// The number of the row, from 1.
+        row: u32,
+    },
+}
+
+/// What the line of an input that was refused says after its name: a label, and what comes after that.
+fn of_input(fault: InputFault) -> (&'static [u8], Detail)
+    ensures { codes ": " ++ input_fault_text fault ≡ result.0.now ++ detail_text result.1 }
+{
+    match fault {
+        InputFault::Byte(place) => (b": byte ", Detail::Number(place)),
+        InputFault::Line(line) => (b": line ", Detail::Number(line)),
+        InputFault::LongLine(line) => (b": long line ", Detail::Number(line)),
+        InputFault::Sum { line, want, got } => (b": sum line ", Detail::Sum { line, want, got }),
+        InputFault::LargeLine(line) => (b": large line ", Detail::Number(line)),
+        InputFault::Overlap(place) => (b": overlap ", Detail::Word(place)),
+        InputFault::NoEnd => (b": no end", Detail::Text("")),
+        InputFault::AddressLine(line) => (b": address line ", Detail::Number(line)),
+        InputFault::TwiceLine(line) => (b": twice line ", Detail::Number(line)),
+        InputFault::Empty => (b": empty", Detail::Text("")),
+        InputFault::Foreign => (b": foreign", Detail::Text("")),
+        InputFault::Range => (b": range", Detail::Text("")),
+        InputFault::Image => (b": image", Detail::Text("")),
+        InputFault::Long => (b": long", Detail::Text("")),
+        InputFault::Layout(place) => (b": layout byte ", Detail::Number(place)),
+    }
+}
+
+/// The key that a fault of a part file names, with its row where it is a row's.
+fn of_key(place: Which) -> Detail
+    ensures { which_text place ≡ detail_text result }
+{
+    let key = place.key.name();
+    match place.row {
+        Some(row) => Detail::InRow { key, row },
+        None => Detail::Text(key),
+    }
+}
+
+/// What the line of a part file that was refused says after its name: a label, and what comes after that.
+fn of_part(fault: PartFault) -> (&'static [u8], Detail)
+    ensures { codes ": " ++ part_fault_text fault ≡ result.0.now ++ detail_text result.1 }
+{
+    match fault {
+        PartFault::Toml => (b": toml", Detail::Text("")),
+        PartFault::Key(place) => (b": key ", of_key(place)),
+        PartFault::Range(place) => (b": range ", of_key(place)),
+        PartFault::SameRow(row) => (b": same row ", Detail::Number(u64::from(row))),
+        PartFault::TooMany(frames) => (b": too many ", Detail::Number(u64::from(frames))),
+        PartFault::NoMemory => (b": no memory", Detail::Text("")),
+    }
+}
+
+/// What the line of a refusal says after the name: a label, and what comes after that.
+pub(crate) fn after_name(reason: Why) -> (&'static [u8], Detail)
+    ensures { (reason_row reason).after_name ≡ result.0.now ++ detail_text result.1 }
+{
+    match reason {
+        Why::BadPart(fault) => of_part(fault),
+        Why::BadInput(fault) => of_input(fault),
+        Why::Differs(place) => (b": byte ", Detail::Number(place)),
+        _ => (b"", Detail::Text("")),
+    }
+}
+
+/// Writes a line: what stands before the name, the name, a label, and a text.
+fn write_text<'x, E: Sink>(
+    err: &mut E,
+    before_name: &'x [u8],
+    name: &'x str,
+    label: &'x [u8],
+    text: &'x [u8],
+) -> Result<(), Failed>
+    ensures { PutsOrFails (E.state err.old) (before_name.now ++ (name.now ++ (label.now ++ (text.now ++ codes "\n")))) (E.state err.new) }
+{
+    write_pieces(err, &[before_name, name.as_bytes(), label, text, b"\n"])
+}
+
+/// Writes the line of a record whose last byte isn't the one that makes the sum 0.
+fn write_sum<'x, E: Sink>(
+    err: &mut E,
+    before_name: &'x [u8],
+    name: &'x str,
+    label: &'x [u8],
+    line: u64,
+    want: u8,
+    got: u8,
+) -> Result<(), Failed>
+    ensures { PutsOrFails (E.state err.old) (before_name.now ++ (name.now ++ (label.now
+        ++ ((decimal line ++ (codes " want " ++ (hex_byte want ++ (codes " got " ++ hex_byte got)))) ++ codes "\n")))) (E.state err.new) }
+{
+    let mut buffer = Buffer::new();
+    let line = buffer.format(line).as_bytes();
+    write_pieces(
+        err,
+        &[
+            before_name,
+            name.as_bytes(),
+            label,
+            line,
+            b" want ",
+            &hex_of_byte(want),
+            b" got ",
+            &hex_of_byte(got),
+            b"\n",
+        ],
+    )
+}
+
+/// Writes the line of a fault that names a key of a row of a part file.
+fn write_in_row<'x, E: Sink>(
+    err: &mut E,
+    before_name: &'x [u8],
+    name: &'x str,
+    label: &'x [u8],
+    key: &'x str,
+    row: u32,
+) -> Result<(), Failed>
+    ensures { PutsOrFails (E.state err.old) (before_name.now ++ (name.now ++ (label.now
+        ++ ((key.now ++ codes " in row " ++ decimal row) ++ codes "\n")))) (E.state err.new) }
+{
+    let mut buffer = Buffer::new();
+    let row = buffer.format(row).as_bytes();
+    write_pieces(
+        err,
+        &[
+            before_name,
+            name.as_bytes(),
+            label,
+            key.as_bytes(),
+            b" in row ",
+            row,
+            b"\n",
+        ],
+    )
+}
+
+/// Writes a line: what stands before the name, the name, a label, and what comes after that.
+pub(crate) fn write_line<E: Sink>(
+    err: &mut E,
+    before_name: &[u8],
+    name: &str,
+    label: &[u8],
+    detail: Detail,
+) -> Result<(), Failed>
+    ensures { PutsOrFails (E.state err.old) (before_name.now ++ (name.now ++ (label.now ++ (detail_text detail ++ codes "\n")))) (E.state err.new) }
+{
+    match detail {
+        Detail::Text(text) => write_text(err, before_name, name, label, text.as_bytes()),
+        Detail::Number(number) => {
+            let mut buffer = Buffer::new();
+            let digits = buffer.format(number).as_bytes();
+            write_text(err, before_name, name, label, digits)
+        }
+        Detail::Word(word) => write_text(err, before_name, name, label, &hex_of_word(word)),
+        Detail::Sum { line, want, got } => {
+            write_sum(err, before_name, name, label, line, want, got)
+        }
+        Detail::InRow { key, row } => write_in_row(err, before_name, name, label, key, row),
+    }
+}
