@@ -13,29 +13,19 @@ use std::marker::Model;
 use std::rt::Files;
 use x7_words::{Failed, Inputs, SelectFault, Sink, ends_counted, raised};
 
-/// What a select or an attach answers where no file was opened, by the kind of the error: only a file that isn't there
-/// is missing.
-fn select_fault(kind: ErrorKind) -> SelectFault
-    ensures { RefusedFor (Some kind) result }
-{
-    if kind == ErrorKind::NotFound {
-        return SelectFault::Missing;
-    }
-    SelectFault::Failed
-}
-
-/// Counts a file that was not opened as an absence or a fault, by the kind of the error, and says which.
+/// Counts a file that was not opened, by the kind of the error: as an absence where the file isn't there, and for
+/// nothing else, and else as a fault. Says which.
 pub(crate) fn count_refusal(kind: ErrorKind, faults: &mut u64, absences: &mut u64) -> SelectFault
     ensures refused { RefusedFor (Some kind) result }
     ensures faults { faults.new ≡ faults_after result faults.old }
     ensures absences { absences.new ≡ absences_after result absences.old }
 {
-    let fault = select_fault(kind);
-    match fault {
-        SelectFault::Missing => *absences = raised(*absences),
-        SelectFault::Failed => *faults = raised(*faults),
+    if kind == ErrorKind::NotFound {
+        *absences = raised(*absences);
+        return SelectFault::Missing;
     }
-    fault
+    *faults = raised(*faults);
+    SelectFault::Failed
 }
 
 /// One read of a file; every error is a fault.

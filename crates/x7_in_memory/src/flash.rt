@@ -203,7 +203,7 @@ impl MemoryFlash {
         ensures answer { is_err result ≡ write_refused self.old count }
         ensures begun { OnOk result (self.new ≡ begun self.old) }
         ensures refused { OnErr result (self.new ≡ after_refusal self.old) }
-        ensures rises { self.old.write_faults ≤ self.new.write_faults }
+        ensures never_falls { self.old.write_faults ≤ self.new.write_faults }
     {
         self.seen_from = usize::MAX;
         self.seen_to = 0;

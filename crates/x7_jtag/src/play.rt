@@ -29,7 +29,7 @@ fn walk(tap: &mut Tap, device: &mut Device, path: &[bool])
     ensures { MakesClocks tap.old device.old tap.new device.new (λ p. walk_clocks path.now) }
 {
     let mut rest = path;
-    while !rest.is_empty() {
+    while rest.len() > 0 {
         tap.clock(rest[0], false, device);
         rest = &rest[1..];
     }

@@ -52,14 +52,18 @@ lines_failed first mid new head lines e p = rw (ap (λ t. head ++ t) (sym (appen
 
 -- ---- the whole report
 
-pub head_is : (name : List ℕ) (state : Regs) (reads none first second : List ℕ) (count : ℕ) → none ≡ [] → first ≡ none ++ state_text name state ++ reads_text reads
-    → second ≡ first ++ codes "frames " ++ decimal count ++ codes "\n" → second ≡ state_text name state ++ reads_text reads ++ codes "frames " ++ decimal count ++ codes "\n"
-head_is name state reads none first second count z e f =
-    f ∙ ap (λ (t : List ℕ). t ++ codes "frames " ++ decimal count ++ codes "\n") (e ∙ ap (λ (t : List ℕ). t ++ state_text name state ++ reads_text reads) z)
-
 after : (prefix a b c d : List ℕ) → prefix ++ a ++ b ++ c ++ d ≡ prefix ++ (a ++ b ++ c ++ d)
 after prefix a b c d =
     ap (λ t. t ++ c ++ d) (append_assoc prefix a b) ∙ ap (λ t. t ++ d) (append_assoc prefix (a ++ b) c) ∙ append_assoc prefix (a ++ b ++ c) d
+
+-- a state, words read out and a number of frames that were put one after the other are what a report has before the
+-- lines of its frames
+pub head_is : (name part_name : List ℕ) (regs state : Regs) (reads old first second third : List ℕ) (count : ℕ) → name ≡ part_name → regs ≡ state → first ≡ old ++ state_text name regs → second ≡ first ++ reads_text reads
+    → third ≡ second ++ codes "frames " ++ decimal count ++ codes "\n" → third ≡ old ++ (state_text part_name state ++ reads_text reads ++ codes "frames " ++ decimal count ++ codes "\n")
+head_is name part_name regs state reads old first second third count a b e f g =
+    let shown = state_text part_name state in
+    g ∙ ap (λ (t : List ℕ). t ++ codes "frames " ++ decimal count ++ codes "\n") (f ∙ ap (λ (t : List ℕ). t ++ reads_text reads) (e ∙ ap (λ (x : List ℕ). old ++ state_text x regs) a ∙ ap (λ (x : Regs). old ++ state_text part_name x) b))
+    ∙ ap (λ (t : List ℕ). t ++ codes "\n") (after old shown (reads_text reads) (codes "frames ") (decimal count)) ∙ append_assoc old (shown ++ reads_text reads ++ codes "frames " ++ decimal count) (codes "\n")
 
 pub play_is : (p q : PartData) (state : Regs) (reads : List ℕ) (frames : List (List ℕ)) (n : FrameMap) (head fars : List ℕ) → p ≡ q → AreSame (frame_at q frames) n → fars ≡ addresses_shown (frame_at p frames) (addresses_in p) →
     head ≡ state_text q.name state ++ reads_text reads ++ codes "frames " ++ decimal (length fars) ++ codes "\n" → head ++ frame_lines_text (frame_at p frames) fars ≡ report_text q state reads n
@@ -75,7 +79,7 @@ play_is p q state reads frames n head fars d same e h =
 
 -- ---- a report that is written
 
-joined : (p q : PartData) (frames memory : List (List ℕ)) (head kept fars places : List ℕ) → p ≡ q → frames ≡ memory → head ≡ kept → fars ≡ places →
+pub joined : (p q : PartData) (frames memory : List (List ℕ)) (head kept fars places : List ℕ) → p ≡ q → frames ≡ memory → head ≡ kept → fars ≡ places →
     head ++ frame_lines_text (frame_at p frames) fars ≡ kept ++ frame_lines_text (frame_at q memory) places
 joined p q frames memory head kept fars places a b e f =
     ap (λ (t : List ℕ). t ++ frame_lines_text (frame_at p frames) fars) e ∙ ap (λ (x : PartData). kept ++ frame_lines_text (frame_at x frames) fars) a
@@ -91,10 +95,6 @@ pub report_whole : (first mid new : Option (List ℕ)) (p q : PartData) (frames 
     kept ++ frame_lines_text (frame_at q memory) places ≡ text → mid ≡ appended first head → new ≡ appended mid (frame_lines_text (frame_at p frames) fars) → new ≡ appended first text
 report_whole first mid new p q frames memory head kept fars places text a b e f t put lines =
     after_head first mid new head (frame_lines_text (frame_at p frames) fars) put lines ∙ ap (appended first) (joined p q frames memory head kept fars places a b e f ∙ t)
-
--- a text that was put whole was put as a prefix
-pub whole_put : (first new : Option (List ℕ)) (text : List ℕ) → new ≡ appended first text → PutsPrefix first text new
-whole_put first new text e = (text, ([], sym (append-nil text), e))
 
 -- a prefix of a report's head is one of the report
 pub report_began : (first new : Option (List ℕ)) (head kept lines text : List ℕ) → head ≡ kept → kept ++ lines ≡ text → PutsPrefix first head new → PutsPrefix first text new

@@ -5,15 +5,8 @@ use Rattle.std.proofs.lemmas.Grind.{flat_map-append}
 use Rattle.std.proofs.lemmas.List.{take_all, take_more}
 use Rattle.std.specs.declared.alloc.Global.{Global}
 use Rattle.x7_text.specs.Appends.{Appends}
-use Rattle.x7_part.specs.AddressOrder.{addresses_in}
-use Rattle.x7_part.specs.Part.{PartData}
 use Rattle.x7_memory.specs.FrameMap.{AreSame, FrameMap}
-use Rattle.x7_memory.specs.PartFrames.{frame_at}
-use Rattle.x7_engine.specs.declared.regs.Regs.{Regs}
 use Rattle.x7_report.specs.Frames.{frames_text, is_shown, frame_text_if, addresses_shown}
-use Rattle.x7_report.specs.Reads.{reads_text}
-use Rattle.x7_report.specs.Reports.{report_text}
-use Rattle.x7_report.specs.State.{state_text}
 
 pub shown_append : (memory : FrameMap) (xs ys : List ℕ) → addresses_shown memory (xs ++ ys) ≡ addresses_shown memory xs ++ addresses_shown memory ys
 shown_append memory [] ys = refl
@@ -42,20 +35,6 @@ unfolding frames_text
 frames_same m n fars same =
     ap (λ (xs : List ℕ). codes "frames " ++ decimal (length xs) ++ codes "\n" ++ flat_map (λ far. frame_text_if far (m far)) xs) (shown_same m n fars same)
     ∙ ap (λ (t : List ℕ). codes "frames " ++ decimal (length (addresses_shown n fars)) ++ codes "\n" ++ t) (lines_same m n (addresses_shown n fars) same)
-
--- a state and words read out that were put are those of a part and a state
-pub before_frames : (name part_name : List ℕ) (regs state : Regs) (reads old first second : List ℕ) → name ≡ part_name → regs ≡ state → first ≡ old ++ state_text name regs → second ≡ first ++ reads_text reads
-    → second ≡ old ++ state_text part_name state ++ reads_text reads
-before_frames name part_name regs state reads old first second a b e f =
-    f ∙ ap (λ (t : List ℕ). t ++ reads_text reads) (e ∙ ap (λ (x : List ℕ). old ++ state_text x regs) a ∙ ap (λ (x : Regs). old ++ state_text part_name x) b)
-
-pub report_is : (p q : PartData) (state : Regs) (reads : List ℕ) (frames : List (List ℕ)) (n : FrameMap) (none first second : List ℕ) → p ≡ q → AreSame (frame_at q frames) n → none ≡ []
-    → first ≡ none ++ state_text q.name state ++ reads_text reads → second ≡ first ++ frames_text (frame_at p frames) (addresses_in p) → second ≡ report_text q state reads n
-unfolding report_text
-report_is p q state reads frames n none first second d same z e f =
-    f ∙ ap (λ (x : PartData). first ++ frames_text (frame_at x frames) (addresses_in x)) d
-    ∙ ap (λ (t : List ℕ). first ++ t) (frames_same (frame_at q frames) n (addresses_in q) same)
-    ∙ ap (λ (t : List ℕ). t ++ frames_text n (addresses_in q)) (e ∙ ap (λ (t : List ℕ). t ++ state_text q.name state ++ reads_text reads) z)
 
 -- one item more is appended, in a loop over all items
 pub item_more : {A : Type 0} (text : A → List ℕ) (items : List A) (default : A) (i was now most : ℕ) (start old new : Vec ℕ Global) → i < length items → now ≡ was + most

@@ -14,7 +14,7 @@ use Rattle.x7_report.specs.State.{state_text}
 
 -- the state that a device of this past shows: FAR is that of the words given so far
 abbrev pub state_reported : DeviceState → Past → Regs
-state_reported d p = state_owing p.part p.kept p.wrapped p.bytes (frames_due d.registers.due)
+state_reported device past = state_owing past.part past.kept past.wrapped past.bytes (frames_due device.registers.due)
 
 -- what a report has before the lines of its frames, of which it shows `count`
 abbrev pub report_head : PartData → Regs → List ℕ → ℕ → List ℕ
@@ -24,9 +24,9 @@ report_head part regs reads count = state_text part.name regs ++ reads_text read
 unfoldable pub report_text : PartData → Regs → List ℕ → FrameMap → List ℕ
 report_text part regs reads memory = state_text part.name regs ++ reads_text reads ++ frames_text memory (addresses_in part)
 
--- a text that begins so, and goes on with the lines of the device's frames at these addresses
+-- the text of this head and of the lines after it, those of the device's frames at these addresses
 abbrev pub text_begun : DeviceState → List ℕ → List ℕ → List ℕ
-text_begun d head fars = head ++ frame_lines_text (frame_at d.part d.registers.frames.memory) fars
+text_begun device head fars = head ++ frame_lines_text (frame_at device.part device.registers.frames.memory) fars
 
 -- a report that is ready to be written, and whether what it reports stopped, as its caller says
 pub record PlayTextState : Type 0 where

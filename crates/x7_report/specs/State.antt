@@ -15,7 +15,7 @@ use Rattle.x7_engine.specs.declared.regs.Regs.{Regs}
 
 -- the kind of a fault, and its words
 abbrev pub fault_text : Fault → List ℕ
-fault_text (fault.Packet w) = codes "Packet " ++ hex_word w
+fault_text (fault.Packet word) = codes "Packet " ++ hex_word word
 fault_text (fault.Id want got) = codes "Id " ++ hex_word want ++ space_byte ∷ hex_word got
 fault_text (fault.Crc want got) = codes "Crc " ++ hex_word want ++ space_byte ∷ hex_word got
 fault_text (fault.Address far) = codes "Address " ++ hex_word far
@@ -37,11 +37,11 @@ unfoldable pub end_text : End → List ℕ
 end_text at_end.Searching = codes "searching"
 end_text at_end.Synced = codes "synced"
 end_text (at_end.Iprog wbstar) = codes "iprog " ++ hex_word wbstar
-end_text (at_end.Fault f) = codes "fault " ++ fault_text f
+end_text (at_end.Fault fault) = codes "fault " ++ fault_text fault
 
 -- the digit of DONE, GTS_CFG_B or GWE, 0 or 1
 abbrev pub line_digit : Bool → List ℕ
-line_digit b = if b then codes "1" else codes "0"
+line_digit is_high = if is_high then codes "1" else codes "0"
 
 -- the most bytes of the line of startup, with 20 digits for its phase, as a number of 64 bits may have
 abbrev pub phase_room : ℕ
@@ -49,32 +49,32 @@ phase_room = 46
 
 -- the line of startup: its phase, and DONE, GTS_CFG_B and GWE
 unfoldable pub phase_text : Regs → List ℕ
-phase_text r =
-    codes "phase " ++ decimal r.phase
-    ++ codes " done " ++ line_digit r.lines.done
-    ++ codes " gts " ++ line_digit r.lines.gts
-    ++ codes " gwe " ++ line_digit r.lines.gwe
+phase_text regs =
+    codes "phase " ++ decimal regs.phase
+    ++ codes " done " ++ line_digit regs.lines.done
+    ++ codes " gts " ++ line_digit regs.lines.gts
+    ++ codes " gwe " ++ line_digit regs.lines.gwe
     ++ codes "\n"
 
 -- the registers that a report shows, each with its word, in the order of their numbers; without those of frame data
 -- (FDRI, FDRO, MFWR), LOUT and CBC
 abbrev pub reg_words : Regs → List (Reg × ℕ)
-reg_words r =
-    (reg.Crc, r.crc)
-    ∷ (reg.Far, r.far)
-    ∷ (reg.Cmd, r.cmd)
-    ∷ (reg.Ctl0, r.ctl0)
-    ∷ (reg.Mask, r.mask)
-    ∷ (reg.Stat, r.stat)
-    ∷ (reg.Cor0, r.cor0)
-    ∷ (reg.Idcode, r.idcode)
-    ∷ (reg.Axss, r.axss)
-    ∷ (reg.Cor1, r.cor1)
-    ∷ (reg.Wbstar, r.wbstar)
-    ∷ (reg.Timer, r.timer)
-    ∷ (reg.Bootsts, r.bootsts)
-    ∷ (reg.Ctl1, r.ctl1)
-    ∷ (reg.Bspi, r.bspi)
+reg_words regs =
+    (reg.Crc, regs.crc)
+    ∷ (reg.Far, regs.far)
+    ∷ (reg.Cmd, regs.cmd)
+    ∷ (reg.Ctl0, regs.ctl0)
+    ∷ (reg.Mask, regs.mask)
+    ∷ (reg.Stat, regs.stat)
+    ∷ (reg.Cor0, regs.cor0)
+    ∷ (reg.Idcode, regs.idcode)
+    ∷ (reg.Axss, regs.axss)
+    ∷ (reg.Cor1, regs.cor1)
+    ∷ (reg.Wbstar, regs.wbstar)
+    ∷ (reg.Timer, regs.timer)
+    ∷ (reg.Bootsts, regs.bootsts)
+    ∷ (reg.Ctl1, regs.ctl1)
+    ∷ (reg.Bspi, regs.bspi)
     ∷ []
 
 -- the line of a register: its name and its word
@@ -87,7 +87,7 @@ reg_line_room = 21
 
 -- the lines of the registers
 unfoldable pub reg_text : Regs → List ℕ
-reg_text r = flat_map reg_line (reg_words r)
+reg_text regs = flat_map reg_line (reg_words regs)
 
 -- the device's part, the bytes that it took, where they end, startup and the registers
 unfoldable pub state_text : List ℕ → Regs → List ℕ

@@ -6,29 +6,26 @@ ghost use Rattle.x7_text.specs.Digits.{hex_word};
 ghost use Rattle.x7_words.specs.Word.{bytes_of_word};
 ghost use Rattle.x7_part.specs.AddressOrder.{addresses_in};
 ghost use Rattle.x7_memory.specs.PartFrames.{AreFramesOf, frame_at};
-ghost use Rattle.x7_report.specs.Frames.{frame_line_size, frame_text, frames_text, is_shown, frame_lines_text, frame_text_if, addresses_shown};
+ghost use Rattle.x7_report.specs.Frames.{frame_line_room, frame_line_size, frame_text, is_shown, frame_lines_text, frame_text_if, addresses_shown};
 
+use crate::state::put_named_word;
 use std::alloc::Global;
 use std::simd::prelude::*;
 use x7_memory::{Memory, are_zeros};
-use x7_part::Part;
+use x7_part::{MOST_FRAME_WORDS, Part};
 use x7_text::{hex_of_block, hex_of_word, make_room, put, put_number, put_text};
 use x7_words::NoMemory;
 
 /// How many digits a word has.
-pub(crate) const DIGITS_PER_WORD: usize = 8;
+const DIGITS_PER_WORD: usize = 8;
 
 /// How many bytes the line of a frame takes besides the digits of its words: those of `frame `, its address, a blank
 /// and a line end.
-pub(crate) const LINE_SIZE_WITHOUT_WORDS: usize = 16;
+const LINE_SIZE_WITHOUT_WORDS: usize = 16;
 
-/// Appends the digits of a word.
-fn put_word_digits(out: &mut Vec<u8>, word: u32)
-    requires { HasSpareRoom out.old DIGITS_PER_WORD }
-    ensures appends { Appends out.old out.new (hex_word word) DIGITS_PER_WORD }
-{
-    put(out, &hex_of_word(word));
-}
+/// The most bytes that the line of a frame takes.
+pub(crate) const FRAME_LINE_ROOM: usize = LINE_SIZE_WITHOUT_WORDS
+    + DIGITS_PER_WORD * MOST_FRAME_WORDS as usize;
 
 /// The bytes of eight words, the highest of each word first.
 #[inline(always)]
@@ -65,7 +62,7 @@ fn put_digits_one_by_one(out: &mut Vec<u8>, words: &[u32])
     ensures appends { Appends out.old out.new (flat_map hex_word words.now) (DIGITS_PER_WORD * length words.now) }
 {
     for word in words {
-        put_word_digits(out, *word);
+        put(out, &hex_of_word(*word));
     }
 }
 
@@ -95,8 +92,7 @@ pub fn put_frame(out: &mut Vec<u8>, far: u32, words: &[u32])
     requires { HasSpareRoom out.old (frame_line_size (length words.now)) }
     ensures appends { Appends out.old out.new (frame_text far words.now) (frame_line_size (length words.now)) }
 {
-    put(out, b"frame ");
-    put_word_digits(out, far);
+    put_named_word(out, b"frame ", far);
     put(out, b" ");
     put_digits(out, words);
     put(out, b"\n");
@@ -160,19 +156,23 @@ pub(crate) fn shown_frames(
     Ok(fars)
 }
 
-/// Appends the line of the frame at an address, and nothing where there is no frame.
-fn put_line_at(text: &mut Vec<u8>, part: &Part, memory: &Memory, far: u32) -> Result<(), NoMemory>
-    requires { AreFramesOf part.now memory.now }
-    ensures { OnOk result (text.new.items ≡ text.old.items ++ frame_text_if far (frame_at part.now memory.now far)) }
+/// Appends the line of the frame at an address, and nothing where there is no frame. There is room for it, and so it
+/// takes no memory.
+pub(crate) fn put_frame_at(text: &mut Vec<u8>, part: &Part, memory: &Memory, far: u32)
+    requires memory { AreFramesOf part.now memory.now }
+    requires room { HasSpareRoom text.old frame_line_room }
+    ensures appends { Appends text.old text.new (frame_text_if far (frame_at part.now memory.now far)) frame_line_room }
 {
+    // For the proof alone: a frame has at most `MOST_FRAME_WORDS` words.
+    let _words = part.words();
     match memory.frame(part, far) {
-        Some(words) => frame_line(text, far, words),
-        None => Ok(()),
+        Some(words) => put_frame(text, far, words),
+        None => (),
     }
 }
 
 /// Appends the lines of the frames at these addresses.
-fn put_frame_lines(
+pub(crate) fn put_frame_lines(
     text: &mut Vec<u8>,
     part: &Part,
     memory: &Memory,
@@ -182,7 +182,8 @@ fn put_frame_lines(
     ensures { OnOk result (text.new.items ≡ text.old.items ++ frame_lines_text (frame_at part.now memory.now) fars.now) }
 {
     for far in fars {
-        put_line_at(text, part, memory, *far)?;
+        make_room(text, FRAME_LINE_ROOM)?;
+        put_frame_at(text, part, memory, *far);
     }
     Ok(())
 }
@@ -193,20 +194,4 @@ pub(crate) fn put_frame_count(text: &mut Vec<u8>, count: usize) -> Result<(), No
 {
     put_text(text, b"frames ")?;
     put_number(text, count as u64)
-}
-
-/// Appends the lines of the frames that have a word other than 0.
-#[tactic(auto, unfolding(crate::specs::Frames::frames_text))]
-pub(crate) fn put_frames(
-    alloc: Global,
-    text: &mut Vec<u8>,
-    part: &Part,
-    memory: &Memory,
-) -> Result<(), NoMemory>
-    requires { AreFramesOf part.now memory.now }
-    ensures { OnOk result (text.new.items ≡ text.old.items ++ frames_text (frame_at part.now memory.now) (addresses_in part.now)) }
-{
-    let fars = shown_frames(alloc, part, memory)?;
-    put_frame_count(text, fars.len())?;
-    put_frame_lines(text, part, memory, &fars)
 }

@@ -2,57 +2,60 @@
 ghost use Rattle.std.specs.Prelude.{◌≡◌, ◌++◌, IfOk, OnOk};
 ghost use Rattle.x7_engine.specs.Past.{OfPast, memory_at, state_at};
 ghost use Rattle.x7_engine.specs.Standing.{NoWordDue};
-ghost use Rattle.x7_report.specs.Reads.{reads_text};
-ghost use Rattle.x7_report.specs.Reports.{report_head, report_text, state_reported};
-ghost use Rattle.x7_report.specs.State.{state_text};
+ghost use Rattle.x7_report.specs.Reports.{report_head, report_text, state_reported, text_begun};
 
-use crate::frames::{put_frame_count, put_frames};
+use crate::frames::{put_frame_count, put_frame_lines, shown_frames};
 use crate::reads::put_reads;
 use crate::state::put_state;
 use std::alloc::Global;
 use x7_engine::Device;
 use x7_words::NoMemory;
 
-/// Appends what a report has before its frames: the lines of the device's state, and those of the words read out.
-fn put_before_frames(text: &mut Vec<u8>, device: &Device, reads: &[u32]) -> Result<(), NoMemory>
-    ensures value { OnOk result (OfPast device.now (λ p. NoWordDue device.now
-        → text.new.items ≡ text.old.items ++ state_text p.part.name (state_at p) ++ reads_text reads.now)) }
-    ensures owing { OnOk result (OfPast device.now (λ p.
-        text.new.items ≡ text.old.items ++ state_text p.part.name (state_reported device.now p) ++ reads_text reads.now)) }
-{
-    put_state(text, device.part().name(), &device.state())?;
-    put_reads(text, reads)
-}
-
-/// What a report has before the lines of its frames, of which it shows `count`.
-pub(crate) fn report_head(
-    alloc: Global,
+/// Appends what a report has before the lines of its frames, of which it shows `count`: the lines of the device's state,
+/// those of the words read out, and the line of that number.
+fn put_head(
+    text: &mut Vec<u8>,
     device: &Device,
     reads: &[u32],
     count: usize,
-) -> Result<Vec<u8>, NoMemory>
-    ensures value { IfOk result (λ text. OfPast device.now (λ p. NoWordDue device.now
-        → text.items ≡ report_head p.part (state_at p) reads.now count)) }
-    ensures owing { IfOk result (λ text. OfPast device.now (λ p. text.items ≡ report_head p.part (state_reported device.now p) reads.now count)) }
+) -> Result<(), NoMemory>
+    ensures value { OnOk result (OfPast device.now (λ p. NoWordDue device.now
+        → text.new.items ≡ text.old.items ++ report_head p.part (state_at p) reads.now count)) }
+    ensures owing { OnOk result (OfPast device.now (λ p.
+        text.new.items ≡ text.old.items ++ report_head p.part (state_reported device.now p) reads.now count)) }
 {
-    let mut text = Vec::new(alloc);
-    put_before_frames(&mut text, device, reads)?;
-    put_frame_count(&mut text, count)?;
-    Ok(text)
+    put_state(text, device.part().name(), &device.state())?;
+    put_reads(text, reads)?;
+    put_frame_count(text, count)
+}
+
+/// What a report has before the lines of its frames, and the addresses of the frames that it shows.
+pub(crate) fn head_and_frames(
+    alloc: Global,
+    device: &Device,
+    reads: &[u32],
+) -> Result<(Vec<u8>, Vec<u32>), NoMemory>
+    ensures value { IfOk result (λ begun. OfPast device.now (λ p. NoWordDue device.now
+        → text_begun device.now begun.0.items begun.1.items ≡ report_text p.part (state_at p) reads.now (memory_at p))) }
+    ensures owing { IfOk result (λ begun. OfPast device.now (λ p.
+        text_begun device.now begun.0.items begun.1.items ≡ report_text p.part (state_reported device.now p) reads.now (memory_at p))) }
+{
+    let fars = shown_frames(alloc, device.part(), device.memory())?;
+    let mut head = Vec::new(alloc);
+    put_head(&mut head, device, reads, fars.len())?;
+    Ok((head, fars))
 }
 
 /// The report of a device and of the words that it read out (this project's choice): `part NAME`; `taken N`, the bytes
 /// that it took; `end` and where they end; `phase P done D gts G gwe E`; fifteen lines `reg NAME WORD`; `reads N` and
 /// the words in `data` lines of eight; `frames N` and the `frame` lines of all frames that have a word other than 0.
 /// While words of frame data are due, FAR is that of the words given so far.
-#[tactic(auto, unfolding(crate::specs::Reports::report_text))]
 pub fn report(alloc: Global, device: &Device, reads: &[u32]) -> Result<Vec<u8>, NoMemory>
     ensures value { IfOk result (λ text. OfPast device.now (λ p. NoWordDue device.now
         → text.items ≡ report_text p.part (state_at p) reads.now (memory_at p))) }
     ensures owing { IfOk result (λ text. OfPast device.now (λ p. text.items ≡ report_text p.part (state_reported device.now p) reads.now (memory_at p))) }
 {
-    let mut text = Vec::new(alloc);
-    put_before_frames(&mut text, device, reads)?;
-    put_frames(alloc, &mut text, device.part(), device.memory())?;
+    let (mut text, fars) = head_and_frames(alloc, device, reads)?;
+    put_frame_lines(&mut text, device.part(), device.memory(), &fars)?;
     Ok(text)
 }

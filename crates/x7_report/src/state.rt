@@ -24,9 +24,9 @@ const REG_LINES: usize = 15;
 const REG_LINE_ROOM: usize = 21;
 
 /// Appends a name and the digits of a word.
-fn put_named_word(out: &mut Vec<u8>, name: &[u8], word: u32)
+pub(crate) fn put_named_word(out: &mut Vec<u8>, name: &[u8], word: u32)
     requires { HasSpareRoom out.old (length name.now + 8) }
-    ensures { out.new.items ≡ out.old.items ++ (name.now ++ hex_word word) }
+    ensures appends { Appends out.old out.new (name.now ++ hex_word word) (length name.now + 8) }
 {
     put(out, name);
     put(out, &hex_of_word(word));
@@ -37,10 +37,8 @@ fn put_named_pair(out: &mut Vec<u8>, name: &[u8], want: u32, got: u32)
     requires { HasSpareRoom out.old (length name.now + 17) }
     ensures { out.new.items ≡ out.old.items ++ (name.now ++ hex_word want ++ space_byte ∷ hex_word got) }
 {
-    put(out, name);
-    put(out, &hex_of_word(want));
-    put(out, b" ");
-    put(out, &hex_of_word(got));
+    put_named_word(out, name, want);
+    put_named_word(out, b" ", got);
 }
 
 /// Appends the kind of a fault, and its words.
@@ -155,8 +153,7 @@ fn put_row(out: &mut Vec<u8>, row: (Reg, u32))
     let (reg, word) = row;
     put(out, b"reg ");
     put(out, name_of(reg.number()).bytes());
-    put(out, b" ");
-    put(out, &hex_of_word(word));
+    put_named_word(out, b" ", word);
     put(out, b"\n");
 }
 

@@ -5,42 +5,23 @@ ghost use Rattle.x7_text.specs.Appends.{Appends, HasSpareRoom};
 ghost use Rattle.x7_memory.specs.PartFrames.{AreFramesOf, frame_at};
 ghost use Rattle.x7_engine.specs.Past.{OfPast, memory_at, state_at};
 ghost use Rattle.x7_engine.specs.Standing.{NoWordDue};
-ghost use Rattle.x7_report.specs.Frames.{frame_line_room, frame_text_if, room_at_once, frame_lines_text};
-ghost use Rattle.x7_report.specs.Reports.{report_text, state_reported, text_begun};
+ghost use Rattle.x7_report.specs.Frames.{frame_line_room, room_at_once, frame_lines_text};
+ghost use Rattle.x7_report.specs.Reports.{report_text, state_reported};
 
-use crate::frames::{DIGITS_PER_WORD, LINE_SIZE_WITHOUT_WORDS, put_frame, shown_frames};
-use crate::reports::report_head;
+use crate::frames::{FRAME_LINE_ROOM, put_frame_at};
+use crate::reports::head_and_frames;
 use std::alloc::Global;
 use std::marker::Model;
 use x7_engine::Device;
 use x7_memory::Memory;
-use x7_part::{MOST_FRAME_WORDS, Part};
+use x7_part::Part;
 use x7_words::{Failed, NoMemory, Sink, write_all};
 
 /// How many lines of frames are written at once.
 const LINES_AT_ONCE: usize = 128;
 
-/// The most bytes that the line of a frame takes.
-const FRAME_LINE_ROOM: usize = LINE_SIZE_WITHOUT_WORDS
-    + DIGITS_PER_WORD * MOST_FRAME_WORDS as usize;
-
 /// The most bytes that the lines written at once take.
 const ROOM_AT_ONCE: usize = LINES_AT_ONCE * FRAME_LINE_ROOM;
-
-/// Appends the line of the frame at an address, and nothing where there is no frame. There is room for it, and so it
-/// takes no memory.
-fn put_frame_at(text: &mut Vec<u8>, part: &Part, memory: &Memory, far: u32)
-    requires memory { AreFramesOf part.now memory.now }
-    requires room { HasSpareRoom text.old frame_line_room }
-    ensures appends { Appends text.old text.new (frame_text_if far (frame_at part.now memory.now far)) frame_line_room }
-{
-    // For the proof alone: a frame has at most `MOST_FRAME_WORDS` words.
-    let _words = part.words();
-    match memory.frame(part, far) {
-        Some(words) => put_frame(text, far, words),
-        None => (),
-    }
-}
 
 /// Appends the lines of the frames at these addresses, where there is room for them, and so takes no memory.
 fn put_lines(text: &mut Vec<u8>, part: &Part, memory: &Memory, fars: &[u32])
@@ -78,22 +59,6 @@ fn write_lines<S: Sink>(
         rest = more;
     }
     Ok(())
-}
-
-/// What a report has before the lines of its frames, and the addresses of the frames that it shows.
-fn head_and_frames(
-    alloc: Global,
-    device: &Device,
-    reads: &[u32],
-) -> Result<(Vec<u8>, Vec<u32>), NoMemory>
-    ensures value { IfOk result (λ begun. OfPast device.now (λ p. NoWordDue device.now
-        → text_begun device.now begun.0.items begun.1.items ≡ report_text p.part (state_at p) reads.now (memory_at p))) }
-    ensures owing { IfOk result (λ begun. OfPast device.now (λ p.
-        text_begun device.now begun.0.items begun.1.items ≡ report_text p.part (state_reported device.now p) reads.now (memory_at p))) }
-{
-    let fars = shown_frames(alloc, device.part(), device.memory())?;
-    let head = report_head(alloc, device, reads, fars.len())?;
-    Ok((head, fars))
 }
 
 /// The report of a device, ready to be written: what comes before the lines of its frames, the addresses of the frames
@@ -136,12 +101,12 @@ impl PlayText {
             text ≡ record { stopped = stopped; text = report_text p.part (state_reported device p) reads.now (memory_at p) })) }
     {
         let buffer = Vec::with_capacity(alloc, ROOM_AT_ONCE)?;
-        let begun = head_and_frames(alloc, &device, reads)?;
+        let (head, fars) = head_and_frames(alloc, &device, reads)?;
         Ok(PlayText {
             stopped,
             device,
-            head: begun.0,
-            fars: begun.1,
+            head,
+            fars,
             buffer,
         })
     }
@@ -177,7 +142,6 @@ impl PlayText {
             self.device.memory(),
             &self.fars,
             &mut self.buffer,
-        )?;
-        Ok(())
+        )
     }
 }

@@ -75,15 +75,15 @@ free_on m ms e = rw e refl
 other_value : (n : ℕ) → nat_eq n 114 ≡ true → nat_eq n 115 ≡ false
 other_value n h = grind (arith, common_steps)
 
-first_false : (a b : Bool) → a ≡ false → (a && b) ≡ false
-first_false true b e = absurd cc
-first_false false b e = refl
+and_false : (a b : Bool) → a ≡ false → (a && b) ≡ false
+and_false true b e = absurd cc
+and_false false b e = refl
 
 not_state : (k : List ℕ) → is_keyword k (codes "RUNTEST") ≡ true → is_keyword k (codes "STATE") ≡ false
 not_state [] h = refl
 not_state (c ∷ cs) h =
     let parts = both (nat_eq (to_ascii_lowercase c) 114) _ h in
-    first_false (nat_eq (to_ascii_lowercase c) 115) _ (other_value (to_ascii_lowercase c) parts.0)
+    and_false (nat_eq (to_ascii_lowercase c) 115) _ (other_value (to_ascii_lowercase c) parts.0)
 
 second : (a b : Bool) (x y z : Option Statement) → a ≡ false → b ≡ true → (if a then x else (if b then y else z)) ≡ y
 second true b x y z e f = absurd cc

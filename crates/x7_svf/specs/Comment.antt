@@ -4,23 +4,23 @@ use Rattle.x7_words.specs.Characters.{exclamation_byte, line_end_byte, return_by
 
 -- the text begins with this byte
 abbrev pub begins_with : ℕ → List ℕ → Bool
-begins_with d [] = false
-begins_with d (c ∷ cs) = c == d
+begins_with wanted [] = false
+begins_with wanted (byte ∷ after) = byte == wanted
 
 -- a comment begins at this byte, which these follow: `!` or `//`
 abbrev pub begins_comment : ℕ → List ℕ → Bool
-begins_comment c cs = c == exclamation_byte || (c == slash_byte && begins_with slash_byte cs)
+begins_comment byte after = byte == exclamation_byte || (byte == slash_byte && begins_with slash_byte after)
 
 -- the byte, which these follow, is one of a comment; the first argument says whether the byte before it was one
 abbrev pub is_inside : Bool → ℕ → List ℕ → Bool
-is_inside true c cs = not (c == line_end_byte)
-is_inside false c cs = begins_comment c cs
+is_inside true byte after = not (byte == line_end_byte)
+is_inside false byte after = begins_comment byte after
 
 -- what stands for a byte: a blank for those of comments and for 0D before 0A
 abbrev pub stand_in : Bool → ℕ → List ℕ → ℕ
-stand_in is_in_comment c cs = if is_in_comment then space_byte else (if c == return_byte && begins_with line_end_byte cs then space_byte else c)
+stand_in is_in_comment byte after = if is_in_comment then space_byte else (if byte == return_byte && begins_with line_end_byte after then space_byte else byte)
 
 -- the text with what stands for each byte
 abbrev pub clean_text : Bool → List ℕ → List ℕ
 clean_text is_in_comment [] = []
-clean_text is_in_comment (c ∷ cs) = stand_in (is_inside is_in_comment c cs) c cs ∷ clean_text (is_inside is_in_comment c cs) cs
+clean_text is_in_comment (byte ∷ after) = stand_in (is_inside is_in_comment byte after) byte after ∷ clean_text (is_inside is_in_comment byte after) after

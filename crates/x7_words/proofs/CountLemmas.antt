@@ -1,4 +1,4 @@
--- Lemmas on counts that only rise.
+-- Lemmas on counts that never fall.
 use Rattle.std.proofs.Common.{◌≡◌, ℕ, ◌≤◌, inl, inr, arith}
 use Rattle.std.proofs.lemmas.Grind.{common_steps}
 use Rattle.x7_words.specs.Count.{HasRisen, raised}

@@ -61,28 +61,28 @@ exponent_byte = 69
 
 -- a decimal digit, `0` to `9`
 abbrev pub is_decimal_digit : ℕ → Bool
-is_decimal_digit c = nat_le 48 c && nat_le c 57
+is_decimal_digit byte = nat_le 48 byte && nat_le byte 57
 
 -- a hexadecimal digit that is an upper-case letter, `A` to `F`
 abbrev pub is_upper_digit : ℕ → Bool
-is_upper_digit c = nat_le 65 c && nat_le c 70
+is_upper_digit byte = nat_le 65 byte && nat_le byte 70
 
 -- a hexadecimal digit that is a lower-case letter, `a` to `f`
 abbrev pub is_lower_digit : ℕ → Bool
-is_lower_digit c = nat_le 97 c && nat_le c 102
+is_lower_digit byte = nat_le 97 byte && nat_le byte 102
 
 -- a hexadecimal digit of either case
 abbrev pub is_hex_digit : ℕ → Bool
-is_hex_digit c = is_decimal_digit c || is_upper_digit c || is_lower_digit c
+is_hex_digit byte = is_decimal_digit byte || is_upper_digit byte || is_lower_digit byte
 
 -- the number that a hexadecimal digit of either case stands for; none for any other byte
 abbrev pub number_of_digit : ℕ → Option ℕ
-number_of_digit c =
-    if is_decimal_digit c then Some (c - 48)
-    else if is_upper_digit c then Some (c - 55)
-    else if is_lower_digit c then Some (c - 87)
+number_of_digit byte =
+    if is_decimal_digit byte then Some (byte - 48)
+    else if is_upper_digit byte then Some (byte - 55)
+    else if is_lower_digit byte then Some (byte - 87)
     else None
 
 -- the number that a hexadecimal digit of either case stands for; nothing is meant by that of any other byte
 abbrev pub digit_number : ℕ → ℕ
-digit_number c = if nat_le c 57 then c - 48 else (if nat_le c 70 then c - 55 else c - 87)
+digit_number byte = if nat_le byte 57 then byte - 48 else (if nat_le byte 70 then byte - 55 else byte - 87)

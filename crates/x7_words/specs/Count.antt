@@ -1,13 +1,13 @@
--- Counts of 64 bits that only rise, and stop at 2^64 - 1 (this project's choice).
+-- Counts of 64 bits that never fall, and stop at 2^64 - 1 (this project's choice).
 use Rattle.std.specs.Prelude.{◌≡◌, ℕ, ◌<◌, ◌≤◌, ◌⊎◌, ◌^◌, ◌+◌, ◌-◌, min, if◌then◌else◌, ◌==◌}
 
 -- the count rose, or it stands at 2^64 - 1, where counts stop
 abbrev pub HasRisen : ℕ → ℕ → Type 0
 HasRisen old new = (old < new) ⊎ (new + 1 ≡ 2 ^ 64)
 
--- the second is a later value of a count of 64 bits: it did not fall
+-- the second is a later value of the same count of 64 bits, which never falls
 pub record IsLaterCount (old new : ℕ) : Type 0 where
-  pub rises : old ≤ new
+  pub never_falls : old ≤ new
   pub fits : new < 2 ^ 64
 
 -- the next count, which stops at 2^64 - 1

@@ -76,7 +76,7 @@ pub record Unwritten (old new : FlashState) (found_before found_after : ℕ → 
   pub nothing_else : (moment : ℕ) (found : List ℕ) → found_after moment found → found_before moment found
   pub keeps : (moment : ℕ) (found : List ℕ) → found_before moment found → found_after moment found
 
--- the bytes stay, nothing was written, and no count falls
+-- the bytes stay, nothing was written, and the counts of faults and of absences do not fall
 pub record FlashStays (old new : FlashState) (found_before found_after : ℕ → List ℕ → Type 0) : Type 0 where
   pub bytes : new.bytes ≡ old.bytes
   pub faults : old.faults ≤ new.faults

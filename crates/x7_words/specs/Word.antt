@@ -12,7 +12,7 @@ word_of_bytes (a ∷ b ∷ c ∷ d ∷ _) = a * 2 ^ 24 + b * 2 ^ 16 + c * 2 ^ 8 
 
 -- the four bytes of a word, the highest first
 abbrev pub bytes_of_word : ℕ → List ℕ
-bytes_of_word w = w / 2 ^ 24 % 256 ∷ w / 2 ^ 16 % 256 ∷ w / 2 ^ 8 % 256 ∷ w % 256 ∷ []
+bytes_of_word word = word / 2 ^ 24 % 256 ∷ word / 2 ^ 16 % 256 ∷ word / 2 ^ 8 % 256 ∷ word % 256 ∷ []
 
 -- the words of whole groups of four bytes; a shorter rest is no word
 abbrev pub words_of_bytes : List ℕ → List ℕ
@@ -28,11 +28,11 @@ AreWholeWords bytes = length bytes % 4 ≡ 0
 
 -- each number of the list is a byte
 abbrev pub AreBytes : List ℕ → Type 0
-AreBytes bs = AllByRecursion (λ b. b < 256) bs
+AreBytes numbers = AllByRecursion (λ number. number < 256) numbers
 
 -- each number of the list is a word of 32 bits
 abbrev pub AreWords : List ℕ → Type 0
-AreWords ws = AllByRecursion (λ w. w < 2 ^ 32) ws
+AreWords numbers = AllByRecursion (λ number. number < 2 ^ 32) numbers
 
 -- the number in `width` bits of a word, from bit `low` up
 abbrev pub field_of : ℕ → ℕ → ℕ → ℕ

@@ -1,11 +1,11 @@
-//! Counts that only rise.
+//! Counts that never fall.
 ghost use Rattle.std.specs.Prelude.{◌≡◌, ◌≤◌, ◌+◌};
 ghost use Rattle.x7_words.specs.Count.{ends_counted, raised};
 
 /// The next count, which stops at 2^64 - 1.
 pub fn raised(count: u64) -> u64
     ensures value { result ≡ raised count }
-    ensures rises { count ≤ result }
+    ensures never_falls { count ≤ result }
     ensures at_most_one_more { result ≤ count + 1 }
 {
     count.saturating_add(1)

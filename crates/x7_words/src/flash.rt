@@ -20,7 +20,7 @@ pub const FLASH_LIMIT: u64 = 134_217_728;
 ///
 /// What was read stays seen until the next write; no clause says that anything is seen after one.
 ///
-/// The counts only rise, by at least one at each fault or absence. A count that has reached the
+/// The counts never fall, and rise by at least one at each fault or absence. A count that has reached the
 /// last u64 stays there, and counts as risen.
 pub trait Flash {
     /// What the flash has come to.

@@ -35,8 +35,8 @@ pub enum SelectFault {
 
 /// Inputs of bytes by name, of which one is selected at a time and read from its first byte on.
 ///
-/// The counts of faults and absences only rise, by at least one at each fault or absence. A count that has reached the
-/// last u64 stays there, and counts as risen.
+/// The counts of faults and absences never fall, and rise by at least one at each fault or absence. A count that has
+/// reached the last u64 stays there, and counts as risen.
 pub trait Inputs {
     /// What the inputs have come to.
     ghost state: { Self → InputsState };

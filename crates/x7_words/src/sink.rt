@@ -6,7 +6,7 @@ use crate::input::Failed;
 
 /// Where bytes are written, one after the other.
 ///
-/// The count of faults only rises, by at least one at each fault. A count that has reached the last u64
+/// The count of faults never falls, and rises by at least one at each fault. A count that has reached the last u64
 /// stays there, and counts as risen.
 pub trait Sink {
     /// What the sink has come to.

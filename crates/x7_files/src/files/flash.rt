@@ -1,6 +1,5 @@
 //! A file as a flash.
 ghost use Rattle.std.specs.Prelude.{◌≡◌, ◌+◌, ◌<◌, ◌≤◌, ◌^◌, length, bit_and, is_some, None, Some, true, IfErr, IfOk, OnOk, OnErr};
-ghost use Rattle.std.specs.Io.KnownBytes.{Consumes};
 ghost use Rattle.std.specs.Io.Seek.{MovesTo};
 ghost use Rattle.x7_words.specs.Count.{IsLaterCount, raised};
 ghost use Rattle.x7_files.specs.Files.{after_attach, file_tells, known_flash, AsksReadAndWriteAlone, ClearsBits, ClearsAt, EndsAt, IsExtent, ReadsAt, RefusedFor, TriesWrite, WhileOpen, WritesAt};
@@ -31,21 +30,13 @@ fn go_to<F: Seek>(file: &mut F, place: u64) -> io::Result<()>
     Ok(())
 }
 
-/// Fills the buffer with a file's next bytes.
-fn fill<F: Read>(file: &mut F, buf: &mut [u8]) -> io::Result<()>
-    ensures length { length buf.new ≡ length buf.old }
-    ensures bytes { OnOk result (Consumes (F.remaining file.old) (F.remaining file.new) buf.new) }
-{
-    file.read_exact(buf)
-}
-
 /// Fills the buffer with the bytes from the place on.
 fn read_from<F: Read + Seek>(file: &mut F, place: u64, buf: &mut [u8]) -> io::Result<()>
     ensures length { length buf.new ≡ length buf.old }
     ensures read { OnOk result (ReadsAt (file_tells F.stream_position F.remaining) place buf.new file.old file.new) }
 {
     go_to(file, place)?;
-    fill(file, buf)
+    file.read_exact(buf)
 }
 
 /// How many bytes a program reads and writes at once.

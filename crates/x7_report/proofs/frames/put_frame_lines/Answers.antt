@@ -8,8 +8,8 @@ use Rattle.x7_report.proofs.frames.put_frame_lines.Goals as goal
 
 pub loop-far-preserved : goal.loop-far-preserved
 loop-far-preserved c =
-    lines_on (λ far. frame_text_if far (frame_at c.args.part.now c.args.memory.now far)) c.args.fars.now c.loop-far.far-index c.args.text.now.items c.loop-far.text.items c.put_line_at.new.text.items
-    c.loop-far-test.true c.loop-far.invariant c.in_ok-put_line_at.ensures
+    lines_on (λ far. frame_text_if far (frame_at c.args.part.now c.args.memory.now far)) c.args.fars.now c.loop-far.far-index c.args.text.now.items c.make_room.new.text.items c.put_frame_at.new.text.items
+    c.loop-far-test.true (c.make_room.ensures.items ∙ c.loop-far.invariant) c.put_frame_at.ensures.appends.items
 
 pub returns : goal.returns
 returns c =

@@ -12,7 +12,7 @@ select-tells g c =
       not_selected = opened_err old new new.rest new.refusal c.result c.ensures.after;
       asks = opened_asks old new new.rest new.refusal c.args.name.now c.result c.ensures.after;
       at_most_one_more = record { selects = c.ensures.at_most_one_more; ends = omega (arith, c.ensures.ends) };
-      stays = record { map = refl; faults = c.ensures.counts.faults.rises; absences = c.ensures.counts.absences.rises };
+      stays = record { map = refl; faults = c.ensures.counts.faults.never_falls; absences = c.ensures.counts.absences.never_falls };
       fits = (c.ensures.counts.faults.fits, c.ensures.counts.absences.fits);
     }
 
@@ -28,6 +28,6 @@ read-tells g c =
       no_end = read_no_end old new c.result c.ensures.counted;
       failed = failed_read old new c.result c.ensures.failed;
       asks = record { asked = refl; selects = read_selects old new c.result c.ensures.counted c.ensures.failed; ends = c.ensures.at_most_one_more };
-      stays = record { map = refl; faults = c.ensures.counts.faults.rises; absences = c.ensures.counts.absences.rises };
+      stays = record { map = refl; faults = c.ensures.counts.faults.never_falls; absences = c.ensures.counts.absences.never_falls };
       fits = (c.ensures.counts.faults.fits, c.ensures.counts.absences.fits);
     }

@@ -22,7 +22,7 @@ erase-tells c =
         names = p.names;
         faults = p.faults;
         absences = p.absences;
-        write_faults = c.ensures.write_faults.rises;
+        write_faults = c.ensures.write_faults.never_falls;
       };
       known_length = refl;
       fits = c.ensures.write_faults.fits;
@@ -48,7 +48,7 @@ program-tells c =
         names = p.names;
         faults = p.faults;
         absences = p.absences;
-        write_faults = c.ensures.write_faults.rises;
+        write_faults = c.ensures.write_faults.never_falls;
       };
       known_length = refl;
       fits = c.ensures.write_faults.fits;
@@ -63,7 +63,7 @@ attach-tells c =
       refused = search rules;
       not_attached = search rules;
       asks = attach_asks old new c.args.name.now c.ensures.after;
-      stays = attach_stays old new c.args.name.now c.ensures.after c.ensures.faults.rises c.ensures.absences.rises;
+      stays = attach_stays old new c.args.name.now c.ensures.after c.ensures.faults.never_falls c.ensures.absences.never_falls;
       known_length = refl;
       bytes = c.ensures.bytes;
       fits = (c.ensures.faults.fits, c.ensures.absences.fits);
@@ -79,7 +79,7 @@ read_at-tells c =
       seen = read_sees old new c.args.place (length c.args.buf.now) c.ensures.after c.new.buf.now c.result c.ensures.length c.ensures.answer c.ensures.read;
       no_fault = search rules;
       failed = search rules;
-      only = read_stays old new c.args.place (length c.args.buf.now) c.ensures.after c.ensures.faults.rises;
+      only = read_stays old new c.args.place (length c.args.buf.now) c.ensures.after c.ensures.faults.never_falls;
       known_length = refl;
       fits = c.ensures.faults.fits;
     }

@@ -7,6 +7,6 @@ answer_with stopped text = record { stopped = stopped; text = text }
 
 pub returns : goal.returns
 returns c = record {
-  value = λ part kept wrapped bytes s none. ap (answer_with c.args.stopped) (c.in_ok-begun.ensures.value part kept wrapped bytes s none);
-  owing = λ part kept wrapped bytes s. ap (answer_with c.args.stopped) (c.in_ok-begun.ensures.owing part kept wrapped bytes s);
+  value = λ part kept wrapped bytes s none. ap (answer_with c.args.stopped) (c.in_ok-head.ensures.value part kept wrapped bytes s none);
+  owing = λ part kept wrapped bytes s. ap (answer_with c.args.stopped) (c.in_ok-head.ensures.owing part kept wrapped bytes s);
 }

@@ -13,8 +13,8 @@ attach-tells g c =
       asks = record { asked = refl; no_other = λ other had. inl refl };
       stays = record {
         bytes = refl;
-        faults = c.ensures.faults.rises;
-        absences = c.ensures.absences.rises;
+        faults = c.ensures.faults.never_falls;
+        absences = c.ensures.absences.never_falls;
         unwritten = unknown_unwritten old new (attach_write_faults old new c.result c.ensures.after);
       };
       known_length = tt;
@@ -32,7 +32,7 @@ read_at-tells g c =
       seen = on_ok c.result (λ i h. refl);
       no_fault = quiet_read_at old new new.file c.result c.ensures.no_fault;
       failed = failed_read_at old new new.file c.result c.ensures.failed;
-      only = only_reads old new c.result c.requires.attached c.ensures.is_open c.ensures.no_fault c.ensures.failed c.ensures.faults.rises;
+      only = only_reads old new c.result c.requires.attached c.ensures.is_open c.ensures.no_fault c.ensures.failed c.ensures.faults.never_falls;
       known_length = tt;
       fits = c.ensures.faults.fits;
     }
@@ -47,7 +47,7 @@ erase-tells g c =
       passes = unknown_passes;
       moment = omega arith;
       failed = failed_write old new new.file c.result c.ensures.failed;
-      only = only_writes old new c.result c.requires.attached c.ensures.is_open c.ensures.no_fault c.ensures.failed c.ensures.write_faults.rises;
+      only = only_writes old new c.result c.requires.attached c.ensures.is_open c.ensures.no_fault c.ensures.failed c.ensures.write_faults.never_falls;
       known_length = tt;
       fits = c.ensures.write_faults.fits;
     }
@@ -62,7 +62,7 @@ program-tells g c =
       passes = unknown_passes;
       moment = omega arith;
       failed = failed_write old new new.file c.result c.ensures.failed;
-      only = only_writes old new c.result c.requires.attached c.ensures.is_open c.ensures.no_fault c.ensures.failed c.ensures.write_faults.rises;
+      only = only_writes old new c.result c.requires.attached c.ensures.is_open c.ensures.no_fault c.ensures.failed c.ensures.write_faults.never_falls;
       known_length = tt;
       fits = c.ensures.write_faults.fits;
     }
