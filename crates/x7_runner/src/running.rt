@@ -114,6 +114,20 @@ fn replace(old: &mut Vec<u8>, bytes: &[u8]) -> Result<(), Fault> {
 }
 
 impl Objects {
+    /// Objects without inputs, and no call that fails.
+    fn new(alloc: Global, given: &Given) -> Result<Objects, Fault> {
+        let flash = &given.flash;
+        let out = MemorySink::new(alloc, given.room as usize)?;
+        let err = MemorySink::new(alloc, ERR_ROOM)?;
+        let flash = MemoryFlash::new(alloc, flash.name.as_str(), &flash.bytes)?;
+        Ok(Objects {
+            inputs: MemoryInputs::new(alloc),
+            flash,
+            out,
+            err,
+        })
+    }
+
     /// The call of this number is to fail; 0 is no call.
     fn fail(&mut self, object: Object, call: u32) -> Result<(), NoMemory> {
         let call = u64::from(call);
@@ -200,15 +214,8 @@ pub(crate) fn run_command<C: Command>(
     variation: &Variation,
     ending: &mut Ending,
 ) -> Result<(), Fault> {
-    let flash = &given.flash;
-    let flash = MemoryFlash::new(alloc, flash.name.as_str(), &flash.bytes)?;
-    let out = MemorySink::new(alloc, given.room as usize)?;
-    let err = MemorySink::new(alloc, ERR_ROOM)?;
-    let mut objects = Objects {
-        inputs: MemoryInputs::new(alloc),
-        flash,
-        out,
-        err,
-    };
-    objects.run(command, alloc, shared, given, variation, ending)
+    match Objects::new(alloc, given) {
+        Ok(mut objects) => objects.run(command, alloc, shared, given, variation, ending),
+        Err(fault) => Err(fault),
+    }
 }
