@@ -1,79 +1,101 @@
 //! Real files and writers; and inputs in memory, read in pieces and put anew while one is read.
-use crate::paths::path_of;
+use crate::paths::{filled, path_of};
+use std::alloc::Global;
 use std::io::{ErrorKind, Write};
 use std::rt::Files;
-use std::test::Fail;
 use std::{env, fs, io};
 use x7_files::{FileFlash, FileInputs, KnownSink, StdSink};
 use x7_in_memory::MemoryInputs;
 use x7_words::{Failed, Flash, Inputs, SelectFault, Sink, write_all};
 
-/// Selects an input, and reads it three times, into four bytes of the buffer each: how many bytes each read gave.
-fn three_reads<I: Inputs>(
-    inputs: &mut I,
-    name: &str,
-    buf: &mut [u8; 12],
-) -> Result<[usize; 3], SelectFault> {
+/// What three reads of an input give: how many bytes each, and its buffer of four bytes.
+type Reads = Result<[(usize, [u8; 4]); 3], SelectFault>;
+
+/// Selects an input, and reads it three times.
+fn three_reads<I: Inputs>(inputs: &mut I, name: &str) -> Reads {
     inputs.select(name)?;
-    let Ok(first) = inputs.read(&mut buf[..4]) else {
+    let (mut one, mut two, mut three) = ([0; 4], [0; 4], [0; 4]);
+    let Ok(first) = inputs.read(&mut one) else {
         return Err(SelectFault::Failed);
     };
-    let Ok(second) = inputs.read(&mut buf[4..8]) else {
+    let Ok(second) = inputs.read(&mut two) else {
         return Err(SelectFault::Failed);
     };
-    let Ok(third) = inputs.read(&mut buf[8..]) else {
-        return Err(SelectFault::Failed);
-    };
-    Ok([first, second, third])
-}
-
-#[test]
-fn inputs_are_read_in_pieces(rt: HostRuntime) -> Result<(), Fail> {
-    // the most bytes of a read, the counts, what the buffer holds
-    let cases = [
-        (1, [1, 1, 1], [1, 0, 0, 0, 2, 0, 0, 0, 3, 0, 0, 0]),
-        (2, [2, 2, 1], [1, 2, 0, 0, 3, 4, 0, 0, 5, 0, 0, 0]),
-        (9, [4, 1, 0], [1, 2, 3, 4, 5, 0, 0, 0, 0, 0, 0, 0]),
-    ];
-    let mut inputs = MemoryInputs::new(rt.alloc());
-    inputs.put("one", &[1, 2, 3])?;
-    inputs.put("two", &[7])?;
-    inputs.put("one", &[1, 2, 3, 4, 5])?;
-    for (most, counts, bytes) in cases {
-        inputs.piece(most);
-        let mut buf = [0; 12];
-        assert!(rt; three_reads(&mut inputs, "one", &mut buf) == Ok(counts));
-        assert!(rt; buf == bytes);
+    match inputs.read(&mut three) {
+        Ok(third) => Ok([(first, one), (second, two), (third, three)]),
+        Err(_) => Err(SelectFault::Failed),
     }
-    let mut buf = [0; 12];
-    assert!(rt; three_reads(&mut inputs, "two", &mut buf) == Ok([1, 0, 0]));
-    assert!(rt; buf == [7, 0, 0, 0, 0, 0, 0, 0, 0, 0, 0, 0]);
-    Ok(())
+}
+
+/// Inputs in memory: `one` of five bytes, put in place of three others, and `two` of one byte.
+fn two_inputs(alloc: Global) -> Option<MemoryInputs> {
+    let mut inputs = MemoryInputs::new(alloc);
+    inputs.put("one", &[1, 2, 3]).ok()?;
+    inputs.put("two", &[7]).ok()?;
+    match inputs.put("one", &[1, 2, 3, 4, 5]) {
+        Ok(()) => Some(inputs),
+        Err(_) => None,
+    }
 }
 
 #[test]
-fn a_put_leaves_what_is_being_read(rt: HostRuntime) -> Result<(), Fail> {
-    let mut inputs = MemoryInputs::new(rt.alloc());
-    inputs.put("one", &[1, 2, 3])?;
-    inputs.piece(2);
-    let mut buf = [0; 4];
-    inputs.select("one")?;
-    assert!(rt; inputs.read(&mut buf) == Ok(2));
-    inputs.put("one", &[8, 9])?;
-    assert!(rt; inputs.read(&mut buf) == Ok(1));
-    assert!(rt; buf == [3, 2, 0, 0]);
-    inputs.select("one")?;
-    assert!(rt; inputs.read(&mut buf) == Ok(2));
-    assert!(rt; buf == [8, 9, 0, 0]);
-    Ok(())
+fn inputs_are_read_in_pieces(rt: HostRuntime) {
+    // the name, the most bytes of a read, and of each read the count and what the buffer holds
+    let cases = [
+        (
+            "one",
+            1,
+            [(1, [1, 0, 0, 0]), (1, [2, 0, 0, 0]), (1, [3, 0, 0, 0])],
+        ),
+        (
+            "one",
+            2,
+            [(2, [1, 2, 0, 0]), (2, [3, 4, 0, 0]), (1, [5, 0, 0, 0])],
+        ),
+        (
+            "one",
+            9,
+            [(4, [1, 2, 3, 4]), (1, [5, 0, 0, 0]), (0, [0; 4])],
+        ),
+        ("two", 9, [(1, [7, 0, 0, 0]), (0, [0; 4]), (0, [0; 4])]),
+    ];
+    let Some(mut inputs) = two_inputs(rt.alloc()) else {
+        panic!(rt; "no memory")
+    };
+    for (name, most, reads) in cases {
+        inputs.piece(most);
+        assert!(rt; three_reads(&mut inputs, name) == Ok(reads));
+    }
 }
 
-/// Attaches a flash: its size, and three bytes from the place on, zeros where it has fewer there.
-fn size_and_bytes<F: Flash>(
-    flash: &mut F,
-    name: &str,
-    place: u64,
-) -> Result<(u64, [u8; 3]), SelectFault> {
+/// Reads an input of three bytes in pieces of two, once before two other bytes are put under its name and once after,
+/// and then those from their start: the counts, and the buffer after the last two reads. None where a call is refused.
+fn reads_around_a_put(alloc: Global) -> Option<([usize; 3], [[u8; 4]; 2])> {
+    let mut inputs = MemoryInputs::new(alloc);
+    inputs.put("one", &[1, 2, 3]).ok()?;
+    inputs.piece(2);
+    inputs.select("one").ok()?;
+    let mut buf = [0; 4];
+    let first = inputs.read(&mut buf).ok()?;
+    inputs.put("one", &[8, 9]).ok()?;
+    let second = inputs.read(&mut buf).ok()?;
+    let old = buf;
+    inputs.select("one").ok()?;
+    let third = inputs.read(&mut buf).ok()?;
+    Some(([first, second, third], [old, buf]))
+}
+
+#[test]
+fn a_put_leaves_what_is_being_read(rt: HostRuntime) {
+    let wanted = ([2, 1, 2], [[3, 2, 0, 0], [8, 9, 0, 0]]);
+    assert!(rt; reads_around_a_put(rt.alloc()) == Some(wanted));
+}
+
+/// What a flash gives: its size, and three bytes from a place on, zeros where it has fewer there.
+type Bytes = Result<(u64, [u8; 3]), SelectFault>;
+
+/// Attaches a flash, and reads three bytes from the place on.
+fn size_and_bytes<F: Flash>(flash: &mut F, name: &str, place: u64) -> Bytes {
     flash.attach(name)?;
     let size = flash.size();
     let mut buf = [0; 3];
@@ -86,106 +108,97 @@ fn size_and_bytes<F: Flash>(
     }
 }
 
-#[test]
-fn a_file_is_a_flash(rt: HostRuntime) -> Result<(), Fail> {
-    let folder = env::temp_dir(&rt)?;
-    let path = path_of(&rt, "flash")?;
-    fs::write(&rt, path.as_path(), b"hello")?;
-    let mut flash = FileFlash::new(&rt);
-    let late = size_and_bytes(&mut flash, path.as_path().as_str(), 2);
-    let early = size_and_bytes(&mut flash, path.as_path().as_str(), 0);
-    fs::remove_file(&rt, path.as_path())?;
-    let gone = size_and_bytes(&mut flash, path.as_path().as_str(), 0);
-    let no_file = size_and_bytes(&mut flash, folder.as_path().as_str(), 0);
-    assert!(rt; late == Ok((5, *b"llo")));
-    assert!(rt; early == Ok((5, *b"hel")));
-    assert!(rt; gone == Err(SelectFault::Missing));
-    assert!(rt; no_file == Err(SelectFault::Failed));
-    Ok(())
+/// What a name leads to, as an input and as a flash.
+fn found<I: Inputs, F: Flash>(
+    inputs: &mut I,
+    flash: &mut F,
+    name: &str,
+    place: u64,
+) -> (Reads, Bytes) {
+    (
+        three_reads(inputs, name),
+        size_and_bytes(flash, name, place),
+    )
+}
+
+/// What these lead to, one after another, by the same inputs and the same flash: the path of a new file of five bytes,
+/// with the place 2 and with the place 0, the path without the last byte of its name, one below the file, its folder,
+/// and the path once the file is removed. None where a file can't be made or removed.
+fn found_around(
+    rt: &HostRuntime,
+    path: &str,
+    below: &str,
+    folder: &str,
+) -> Option<[(Reads, Bytes); 6]> {
+    fs::write(rt, path, b"hello").ok()?;
+    let mut inputs = FileInputs::new(rt);
+    let mut flash = FileFlash::new(rt);
+    let late = found(&mut inputs, &mut flash, path, 2);
+    let early = found(&mut inputs, &mut flash, path, 0);
+    let trimmed = found(&mut inputs, &mut flash, path.trim_end(), 0);
+    let lower = found(&mut inputs, &mut flash, below, 0);
+    let no_file = found(&mut inputs, &mut flash, folder, 0);
+    fs::remove_file(rt, path).ok()?;
+    let gone = found(&mut inputs, &mut flash, path, 0);
+    Some([late, early, trimmed, lower, no_file, gone])
+}
+
+/// The same of a file with a space at the end of its name.
+fn found_by_names(rt: &HostRuntime) -> Option<[(Reads, Bytes); 6]> {
+    let path = path_of(rt, "name ")?;
+    let below = path.join(rt.alloc(), "one").ok()?;
+    let folder = env::temp_dir(rt).ok()?;
+    found_around(
+        rt,
+        path.as_path().as_str(),
+        below.as_path().as_str(),
+        folder.as_path().as_str(),
+    )
 }
 
 #[test]
-fn files_are_read_by_their_paths(rt: HostRuntime) -> Result<(), Fail> {
-    let folder = env::temp_dir(&rt)?;
-    let path = path_of(&rt, "inputs")?;
-    fs::write(&rt, path.as_path(), b"hello")?;
-    let mut buf = [0; 12];
-    let mut inputs = FileInputs::new(&rt);
-    let found = three_reads(&mut inputs, path.as_path().as_str(), &mut buf);
-    fs::remove_file(&rt, path.as_path())?;
-    let gone = three_reads(&mut inputs, path.as_path().as_str(), &mut [0; 12]);
-    let unreadable = three_reads(&mut inputs, folder.as_path().as_str(), &mut [0; 12]);
-    assert!(rt; found == Ok([4, 1, 0]));
-    assert!(rt; buf.as_slice() == b"hello\0\0\0\0\0\0\0".as_slice());
-    assert!(rt; gone == Err(SelectFault::Missing));
-    assert!(rt; unreadable == Err(SelectFault::Failed));
-    Ok(())
-}
-
-#[test]
-fn a_path_below_a_file_is_a_fault(rt: HostRuntime) -> Result<(), Fail> {
-    let path = path_of(&rt, "below")?;
-    let below = path.join(rt.alloc(), "one")?;
-    fs::write(&rt, path.as_path(), b"hello")?;
-    let mut inputs = FileInputs::new(&rt);
-    let mut flash = FileFlash::new(&rt);
-    let selected = inputs.select(below.as_path().as_str());
-    let attached = flash.attach(below.as_path().as_str());
-    fs::remove_file(&rt, path.as_path())?;
-    assert!(rt; selected == Err(SelectFault::Failed));
-    assert!(rt; attached == Err(SelectFault::Failed));
-    Ok(())
+fn files_are_found_by_their_whole_names(rt: HostRuntime) {
+    let whole = Ok([(4, *b"hell"), (1, *b"o\0\0\0"), (0, [0; 4])]);
+    let missing = (Err(SelectFault::Missing), Err(SelectFault::Missing));
+    let failed = (Err(SelectFault::Failed), Err(SelectFault::Failed));
+    let late = (whole, Ok((5, *b"llo")));
+    let early = (whole, Ok((5, *b"hel")));
+    assert!(rt; found_by_names(&rt) == Some([late, early, missing, failed, failed, missing]));
 }
 
 /// Attaches a file of five bytes, reads its bytes 2 to 4, cuts it to three bytes, and reads 2 to 4 and 0 to 2: what
-/// each read gave, if it succeeded.
-fn reads_of_a_cut_file<R: Files>(rt: &R, name: &str) -> Result<[Option<[u8; 3]>; 3], Fail> {
-    fs::write(rt, name, b"hello")?;
+/// each read gave, if it succeeded. None where the file can't be written, attached or removed.
+fn reads_of_a_cut_file<R: Files>(rt: &R, name: &str) -> Option<[Option<[u8; 3]>; 3]> {
+    fs::write(rt, name, b"hello").ok()?;
     let mut flash = FileFlash::new(rt);
-    flash.attach(name)?;
+    flash.attach(name).ok()?;
     if flash.size() != 5 {
-        return Ok([None, None, None]);
+        return None;
     }
     let mut whole = [0; 3];
     let is_whole = flash.read_at(2, &mut whole).is_ok();
-    fs::write(rt, name, b"hel")?;
+    fs::write(rt, name, b"hel").ok()?;
     let mut cut = [0; 3];
     let is_cut = flash.read_at(2, &mut cut).is_ok();
     let mut left = [0; 3];
     let is_left = flash.read_at(0, &mut left).is_ok();
-    fs::remove_file(rt, name)?;
-    Ok([
+    fs::remove_file(rt, name).ok()?;
+    Some([
         is_whole.then_some(whole),
         is_cut.then_some(cut),
         is_left.then_some(left),
     ])
 }
 
-#[test]
-fn a_file_that_shrank_is_a_fault(rt: HostRuntime) -> Result<(), Fail> {
-    let path = path_of(&rt, "shrunk")?;
-    let reads = reads_of_a_cut_file(&rt, path.as_path().as_str())?;
-    assert!(rt; reads == [Some(*b"llo"), None, Some(*b"hel")]);
-    Ok(())
+/// The same of a new file.
+fn reads_of_a_new_file(rt: &HostRuntime) -> Option<[Option<[u8; 3]>; 3]> {
+    let path = path_of(rt, "shrunk")?;
+    reads_of_a_cut_file(rt, path.as_path().as_str())
 }
 
 #[test]
-fn a_space_at_the_end_of_a_name_counts(rt: HostRuntime) -> Result<(), Fail> {
-    let path = path_of(&rt, "name ")?;
-    let trimmed = path_of(&rt, "name")?;
-    fs::write(&rt, path.as_path(), b"hello")?;
-    let mut inputs = FileInputs::new(&rt);
-    let mut flash = FileFlash::new(&rt);
-    let found = three_reads(&mut inputs, path.as_path().as_str(), &mut [0; 12]);
-    let attached = flash.attach(path.as_path().as_str());
-    let gone = inputs.select(trimmed.as_path().as_str());
-    let lacking = flash.attach(trimmed.as_path().as_str());
-    fs::remove_file(&rt, path.as_path())?;
-    assert!(rt; found == Ok([4, 1, 0]));
-    assert!(rt; attached == Ok(()));
-    assert!(rt; gone == Err(SelectFault::Missing));
-    assert!(rt; lacking == Err(SelectFault::Missing));
-    Ok(())
+fn a_file_that_shrank_is_a_fault(rt: HostRuntime) {
+    assert!(rt; reads_of_a_new_file(&rt) == Some([Some(*b"llo"), None, Some(*b"hel")]));
 }
 
 /// Attaches a file of two sectors, erases the second, programs bytes over its start, and reads five of them.
@@ -212,24 +225,32 @@ fn written_bytes<F: Flash>(flash: &mut F, name: &str) -> Option<[u8; 5]> {
     }
 }
 
+/// Writes a new file as a flash: the bytes that are read of the flash, and all of the file.
+fn written(rt: &HostRuntime, name: &str) -> Option<([u8; 5], Vec<u8>)> {
+    let bytes = filled(rt.alloc(), &[(131072, 0x3C)])?;
+    fs::write(rt, name, bytes.as_slice()).ok()?;
+    let found = written_bytes(&mut FileFlash::new(rt), name)?;
+    let kept = fs::read(rt, name).ok()?;
+    match fs::remove_file(rt, name) {
+        Ok(()) => Some((found, kept)),
+        Err(_) => None,
+    }
+}
+
+/// The same, and whether the file is then what it was up to the program, and erased after it.
+fn written_file(rt: &HostRuntime) -> Option<([u8; 5], bool)> {
+    let path = path_of(rt, "written")?;
+    let (found, kept) = written(rt, path.as_path().as_str())?;
+    let wanted = filled(
+        rt.alloc(),
+        &[(65535, 0x3C), (65536, 0x0C), (65537, 0x50), (131072, 0xFF)],
+    )?;
+    Some((found, kept == wanted))
+}
+
 #[test]
-fn a_file_is_written_as_a_flash(rt: HostRuntime) -> Result<(), Fail> {
-    let alloc = rt.alloc();
-    let mut bytes = Vec::new(alloc);
-    bytes.resize(131072, 0x3C)?;
-    let path = path_of(&rt, "written")?;
-    fs::write(&rt, path.as_path(), bytes.as_slice())?;
-    let mut flash = FileFlash::new(&rt);
-    let found = written_bytes(&mut flash, path.as_path().as_str());
-    let kept = fs::read(&rt, path.as_path())?;
-    fs::remove_file(&rt, path.as_path())?;
-    // the file is what it was up to the program, and erased after it
-    bytes.truncate(65535);
-    bytes.extend_from_slice(&[0x0C, 0x50])?;
-    bytes.resize(131072, 0xFF)?;
-    assert!(rt; found == Some([0x3C, 0x0C, 0x50, 0xFF, 0xFF]));
-    assert!(rt; kept.as_slice() == bytes.as_slice());
-    Ok(())
+fn a_file_is_written_as_a_flash(rt: HostRuntime) {
+    assert!(rt; written_file(&rt) == Some(([0x3C, 0x0C, 0x50, 0xFF, 0xFF], true)));
 }
 
 /// A writer that takes one byte a call, up to a number of bytes.
@@ -261,6 +282,13 @@ impl Write for Narrow {
     }
 }
 
+/// What writing five bytes answers, and then an empty write.
+fn answers<W: Write + Drop>(writer: W) -> (Result<(), Failed>, Result<usize, Failed>) {
+    let mut sink = StdSink::new(writer);
+    let written = write_all(&mut sink, b"hello");
+    (written, sink.write(b""))
+}
+
 #[test]
 fn writers_are_sinks(rt: HostRuntime) {
     // how many bytes the writer takes, what it does then, the answer
@@ -270,20 +298,24 @@ fn writers_are_sinks(rt: HostRuntime) {
         (4, Some(ErrorKind::BrokenPipe), Err(Failed)),
     ];
     for (left, then, answer) in cases {
-        let mut sink = StdSink::new(Narrow { left, then });
-        assert!(rt; write_all(&mut sink, b"hello") == answer);
-        assert!(rt; sink.write(b"") == Ok(0));
+        assert!(rt; answers(Narrow { left, then }) == (answer, Ok(0)));
     }
-    let mut out = StdSink::new(io::writer(&rt));
-    assert!(rt; out.write(b"") == Ok(0));
-    let mut err = StdSink::new(rt.stderr());
-    assert!(rt; err.write(b"") == Ok(0));
+}
+
+#[test]
+fn standard_output_and_standard_error_are_sinks(rt: HostRuntime) {
+    let out = StdSink::new(io::writer(&rt)).write(b"");
+    let err = StdSink::new(rt.stderr()).write(b"");
+    assert!(rt; (out, err) == (Ok(0), Ok(0)));
 }
 
 #[test]
 fn a_writer_that_knows_what_it_holds_is_a_sink(rt: HostRuntime) {
     let mut sink = KnownSink::new(Vec::new(rt.alloc()));
-    assert!(rt; write_all(&mut sink, b"hello") == Ok(()));
-    assert!(rt; write_all(&mut sink, b", world") == Ok(()));
-    assert!(rt; sink.into_writer().as_slice() == b"hello, world".as_slice());
+    let first = write_all(&mut sink, b"hello");
+    let second = write_all(&mut sink, b", world");
+    let all = sink.into_writer();
+    assert!(rt;
+        (first, second) == (Ok(()), Ok(())) && all.as_slice() == b"hello, world".as_slice()
+    );
 }

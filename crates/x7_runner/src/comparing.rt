@@ -41,19 +41,31 @@ pub(crate) fn prefix_of<'a>(whole: &'a [u8], came: &'a [u8]) -> &'a [u8] {
     if whole.starts_with(came) { came } else { whole }
 }
 
-/// Compares the status, the text, the message and the flash with those that a run left.
-pub(crate) fn compare_run(
-    notes: &mut Notes,
-    status: u8,
-    out: &[u8],
-    err: &[u8],
-    flash: &[u8],
-    came: &Ending,
-) {
-    notes.compare_numbers("status", u64::from(status), u64::from(came.status));
-    notes.compare_texts("out", out, &came.out);
-    notes.compare_texts("err", err, &came.err);
-    notes.compare_texts("flash", flash, &came.flash);
+/// What a run should leave: its status, its text, its message, and the bytes of its flash.
+#[derive(Clone, Copy, Drop)]
+pub(crate) struct Due<'a> {
+    pub(crate) status: u8,
+    pub(crate) out: &'a [u8],
+    pub(crate) err: &'a [u8],
+    pub(crate) flash: &'a [u8],
+}
+
+/// All that a run left.
+pub(crate) fn all_of(ending: &Ending) -> Due<'_> {
+    Due {
+        status: ending.status,
+        out: &ending.out,
+        err: &ending.err,
+        flash: &ending.flash,
+    }
+}
+
+/// Notes where a run left other things than it should.
+pub(crate) fn compare_run(notes: &mut Notes, due: Due<'_>, came: &Ending) {
+    notes.compare_numbers("status", u64::from(due.status), u64::from(came.status));
+    notes.compare_texts("out", due.out, &came.out);
+    notes.compare_texts("err", due.err, &came.err);
+    notes.compare_texts("flash", due.flash, &came.flash);
 }
 
 /// The text that should come, where it is said, and else what came.
@@ -84,22 +96,23 @@ fn due_flash<'a>(expected: &'a Expected, given: &'a Given) -> &'a [u8] {
 }
 
 /// Compares all that a run left with what it should come to.
-pub(crate) fn compare(
+pub(crate) fn compare<'a>(
     notes: &mut Notes,
-    given: &Given,
-    expected: &Expected,
+    given: &'a Given,
+    expected: &'a Expected,
     variation: &Variation,
-    came: &Ending,
+    came: &'a Ending,
 ) {
-    let flash = due_flash(expected, given);
-    let text: &[u8] = &came.out;
-    let message: &[u8] = &came.err;
+    let mut due = all_of(came);
+    due.flash = due_flash(expected, given);
     if let Extent::Any = expected.extent {
-        return compare_run(notes, came.status, text, message, flash, came);
+        return compare_run(notes, due, came);
     }
-    let out = due_out(expected, text);
-    let err = due_err(expected, variation, message);
-    compare_run(notes, expected.status, out, err, flash, came);
+    let text = due.out;
+    due.status = expected.status;
+    due.out = due_out(expected, text);
+    due.err = due_err(expected, variation, due.err);
+    compare_run(notes, due, came);
     if let Some(length) = expected.length {
         notes.compare_numbers("out length", u64::from(length), text.len() as u64);
     }

@@ -1,5 +1,5 @@
 //! A run in which a call failed, beside the one in which none did.
-use crate::comparing::{compare_run, prefix_of, text_of};
+use crate::comparing::{Due, all_of, compare_run, prefix_of, text_of};
 use crate::given::Object;
 use crate::named::{Named, has_name, put_under};
 use crate::notes::Notes;
@@ -17,8 +17,7 @@ const WRITE_MESSAGE: &[u8] = b"x7: write fault\n";
 
 /// Notes where a run in which no call failed differs from the whole run.
 pub(crate) fn compare_alike(notes: &mut Notes, whole: &Ending, came: &Ending) {
-    let (out, err) = (&whole.out, &whole.err);
-    compare_run(notes, whole.status, out, err, &whole.flash, came);
+    compare_run(notes, all_of(whole), came);
 }
 
 /// The name in the message of a read fault.
@@ -74,8 +73,8 @@ impl Blamed {
 
     /// Notes each of these inputs that the words name and no message did.
     pub(crate) fn compare_all(&self, notes: &mut Notes, words: &[String], inputs: &[Named]) {
-        for word in words.iter().skip(1) {
-            let name = word.as_str();
+        for place in 1..words.len() {
+            let name = words[place].as_str();
             if has_name(inputs, name) && !has_name(&self.names, name) {
                 notes.put("fails_each in", name, "no read fault of this name");
             }
@@ -91,53 +90,51 @@ fn is_of(words: &[String], command: &str) -> bool {
     }
 }
 
-/// Notes where a failed call of the inputs or the flash left not its message, or more than a prefix of a listing.
-fn compare_read_failed(
+/// What a run leaves in which a call of the inputs or the flash failed: a read fault, and at most a prefix of a listing.
+fn due_after_read<'a>(
     notes: &mut Notes,
     words: &[String],
     blamed: &mut Blamed,
-    whole: &Ending,
-    came: &Ending,
-) {
-    let listed: &[u8] = if is_of(words, "list") {
-        &whole.out
+    whole: &'a Ending,
+    came: &'a Ending,
+) -> Due<'a> {
+    let mut due = all_of(came);
+    due.status = READ_FAULT;
+    due.out = if is_of(words, "list") {
+        prefix_of(&whole.out, due.out)
     } else {
         &[]
     };
-    let out = prefix_of(listed, &came.out);
-    let message: &[u8] = &came.err;
-    let err = if blamed.take(notes, words, message) {
-        message
-    } else {
-        b"x7: read fault NAME\n"
-    };
-    compare_run(notes, READ_FAULT, out, err, &came.flash, came);
+    if !blamed.take(notes, words, due.err) {
+        due.err = b"x7: read fault NAME\n";
+    }
+    due
 }
 
 /// Notes where a run in which a call of the object failed didn't end as it should.
-pub(crate) fn compare_failed(
+pub(crate) fn compare_failed<'a>(
     notes: &mut Notes,
     words: &[String],
     blamed: &mut Blamed,
     object: Object,
-    whole: &Ending,
-    came: &Ending,
+    whole: &'a Ending,
+    came: &'a Ending,
 ) {
-    let flash: &[u8] = &whole.flash;
+    let mut due = all_of(whole);
     match object {
-        Object::Err => {
-            let err = prefix_of(&whole.err, &came.err);
-            compare_run(notes, whole.status, &whole.out, err, flash, came);
-        }
+        Object::Err => due.err = prefix_of(due.err, &came.err),
         Object::Out => {
-            let out = prefix_of(&whole.out, &came.out);
-            compare_run(notes, WRITE_FAULT, out, WRITE_MESSAGE, flash, came);
+            due.status = WRITE_FAULT;
+            due.out = prefix_of(due.out, &came.out);
+            due.err = WRITE_MESSAGE;
         }
         // an update that ends so failed at a write of its flash
         Object::Flash if is_of(words, "update") && came.status == WRITE_FAULT => {
-            let flash = &came.flash;
-            compare_run(notes, WRITE_FAULT, &[], WRITE_MESSAGE, flash, came);
+            due = all_of(came);
+            due.out = &[];
+            due.err = WRITE_MESSAGE;
         }
-        Object::In | Object::Flash => compare_read_failed(notes, words, blamed, whole, came),
+        Object::In | Object::Flash => due = due_after_read(notes, words, blamed, whole, came),
     }
+    compare_run(notes, due, came);
 }

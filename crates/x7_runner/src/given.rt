@@ -2,7 +2,7 @@
 use crate::damage::{Damage, Damaged};
 use crate::fault::Fault;
 use crate::named::{Named, put, put_named};
-use crate::token::{first_word, positive, put_numbers};
+use crate::token::{first_word, positive, put_number};
 use crate::writing::Writing;
 use std::alloc::Global;
 
@@ -88,31 +88,26 @@ fn put_positive(number: &mut u32, token: &str) -> Result<(), Fault> {
     Ok(())
 }
 
+/// Appends a word.
+fn put_word(alloc: Global, list: &mut Vec<String>, word: &str) -> Result<(), Fault> {
+    let word = String::from_str(alloc, word)?;
+    list.push(word).or(Err(Fault::NoMemory))
+}
+
 /// Appends an object whose calls fail in turn.
 fn put_each(list: &mut Vec<Object>, name: &str) -> Result<(), Fault> {
-    list.push(object_of(name)?)?;
-    Ok(())
+    let object = object_of(name)?;
+    list.push(object).or(Err(Fault::NoMemory))
 }
 
-/// Appends words.
-fn put_words(alloc: Global, list: &mut Vec<String>, words: &str) -> Result<(), Fault> {
-    for word in words.split(' ') {
-        list.push(String::from_str(alloc, word)?)?;
-    }
-    Ok(())
-}
-
-/// Appends the calls that fail, of the object that the key names.
-fn put_failing(list: &mut Vec<Failing>, key: &str, numbers: &str) -> Result<(), Fault> {
+/// Appends a call that fails, of the object that the key names.
+fn put_failing(list: &mut Vec<Failing>, key: &str, number: &str) -> Result<(), Fault> {
     let Some(name) = key.strip_suffix("_fails") else {
         return Err(Fault::Key);
     };
     let object = object_of(name)?;
-    for number in numbers.split(' ') {
-        let call = positive(number)?;
-        list.push(Failing { object, call })?;
-    }
-    Ok(())
+    let call = positive(number)?;
+    list.push(Failing { object, call }).or(Err(Fault::NoMemory))
 }
 
 impl Given {
@@ -153,7 +148,6 @@ impl Given {
     /// Takes a line that says what a run is given.
     pub(crate) fn take(&mut self, shared: &[Named], key: &str, rest: &str) -> Result<(), Fault> {
         match key {
-            "words" => put_words(self.alloc, &mut self.words, rest),
             "bytes" | "text" | "text_lines" | "slice" => {
                 put_named(self.alloc, &mut self.inputs, shared, key, rest)
             }
@@ -169,12 +163,28 @@ impl Given {
         match key {
             "flash_room" => self.writing.put_room(rest),
             "flash_tears" => self.writing.put_tear(rest),
-            "piece" => put_numbers(&mut self.pieces, rest),
-            "alike" => put_numbers(&mut self.alike, rest),
             "write_piece" => put_positive(&mut self.write_piece, rest),
             "room" => put_positive(&mut self.room, rest),
             "fails_each" => put_each(&mut self.each, rest),
-            _ => put_failing(&mut self.failing, key, rest),
+            _ => self.take_list(key, rest),
+        }
+    }
+
+    /// Takes a line of words, or of numbers.
+    fn take_list(&mut self, key: &str, rest: &str) -> Result<(), Fault> {
+        for token in rest.split(' ') {
+            self.take_token(key, token)?;
+        }
+        Ok(())
+    }
+
+    /// Takes one of a line's words or numbers.
+    fn take_token(&mut self, key: &str, token: &str) -> Result<(), Fault> {
+        match key {
+            "words" => put_word(self.alloc, &mut self.words, token),
+            "piece" => put_number(&mut self.pieces, token),
+            "alike" => put_number(&mut self.alike, token),
+            _ => put_failing(&mut self.failing, key, token),
         }
     }
 }

@@ -10,19 +10,27 @@ pub(crate) struct Named {
     pub(crate) bytes: Vec<u8>,
 }
 
-/// The bytes under the name, if the list has it.
-pub(crate) fn bytes_of<'a>(list: &'a [Named], name: &str) -> Option<&'a [u8]> {
-    for named in list {
-        if named.name.as_str() == name {
-            return Some(&named.bytes);
+/// The place of the name in the list; the list's length where it lacks the name.
+fn place_of(list: &[Named], name: &str) -> usize {
+    for place in 0..list.len() {
+        if list[place].name.as_str() == name {
+            return place;
         }
     }
-    None
+    list.len()
+}
+
+/// The bytes under the name, if the list has it.
+pub(crate) fn bytes_of<'a>(list: &'a [Named], name: &str) -> Option<&'a [u8]> {
+    match list.get(place_of(list, name)) {
+        Some(named) => Some(&named.bytes),
+        None => None,
+    }
 }
 
 /// Whether the list has the name.
 pub(crate) fn has_name(list: &[Named], name: &str) -> bool {
-    bytes_of(list, name).is_some()
+    place_of(list, name) < list.len()
 }
 
 /// The bytes under the name, none yet where it is new.
@@ -31,17 +39,16 @@ fn bytes_under<'a>(
     list: &'a mut Vec<Named>,
     name: &str,
 ) -> Result<&'a mut Vec<u8>, Fault> {
-    if !has_name(list, name) {
-        let bytes = Vec::new(alloc);
+    let place = place_of(list, name);
+    if place == list.len() {
         let name = String::from_str(alloc, name)?;
+        let bytes = Vec::new(alloc);
         list.push(Named { name, bytes })?;
     }
-    for named in list.iter_mut() {
-        if named.name.as_str() == name {
-            return Ok(&mut named.bytes);
-        }
+    match list.get_mut(place) {
+        Some(named) => Ok(&mut named.bytes),
+        None => Err(Fault::Line),
     }
-    Err(Fault::Line)
 }
 
 /// Appends bytes to those under the name.

@@ -16,7 +16,7 @@ pub(crate) fn common_length(one: &[u8], other: &[u8]) -> usize {
 /// How many lines end before the place.
 fn lines_before(text: &[u8], place: usize) -> usize {
     let mut lines: usize = 0;
-    for byte in text.iter().take(place) {
+    for byte in &text[..place.min(text.len())] {
         if *byte == b'\n' {
             lines = lines.saturating_add(1);
         }

@@ -8,6 +8,7 @@ use crate::running::Ending;
 use crate::token::first_word;
 use crate::trial::Trial;
 use std::alloc::Global;
+use x7_words::raised;
 
 /// A file of cases, by the lines taken so far.
 #[derive(Drop)]
@@ -126,9 +127,11 @@ impl Subject {
 
     /// Takes all lines of the file, as long as memory is left.
     fn take_all<C: Command>(&mut self, command: &C, name: &str, text: &str) {
-        for (index, line) in text.lines().enumerate() {
+        let mut number = 0;
+        for line in text.lines() {
+            number = raised(number);
             if !self.notes.lacks_memory {
-                self.take_numbered(command, name, index as u64 + 1, line);
+                self.take_numbered(command, name, number, line);
             }
         }
     }

@@ -16,12 +16,10 @@ pub(crate) fn positive(token: &str) -> Result<u32, Fault> {
     }
 }
 
-/// Appends numbers from 1 to a list.
-pub(crate) fn put_numbers(list: &mut Vec<u32>, numbers: &str) -> Result<(), Fault> {
-    for number in numbers.split(' ') {
-        list.push(positive(number)?)?;
-    }
-    Ok(())
+/// Appends a number from 1 to a list.
+pub(crate) fn put_number(list: &mut Vec<u32>, token: &str) -> Result<(), Fault> {
+    let number = positive(token)?;
+    list.push(number).or(Err(Fault::NoMemory))
 }
 
 /// The numbers of `FROM TO`.
@@ -65,13 +63,10 @@ fn put_group(text: &mut Vec<u8>, group: &str) -> Result<(), Fault> {
 
 /// Appends a line, in which `<TEXT*N>` is the text N times, and its end.
 pub(crate) fn put_line(text: &mut Vec<u8>, line: &str) -> Result<(), Fault> {
-    for (place, group) in line.split('<').enumerate() {
-        let put = if place == 0 {
-            append(text, group.as_bytes())
-        } else {
-            put_group(text, group)
-        };
-        put?;
+    let mut groups = line.split('<');
+    append(text, groups.next().unwrap_or("").as_bytes())?;
+    for group in groups {
+        put_group(text, group)?;
     }
     append(text, b"\n")
 }

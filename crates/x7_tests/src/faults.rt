@@ -1,6 +1,7 @@
 //! The texts of faults, and the number of one of the two statuses to which no worked case comes: 8, and 11, to which
 //! x7_tool_tests comes.
-use std::test::Fail;
+use std::alloc::Global;
+use std::fmt::Display;
 use x7_forms::Status;
 use x7_listing::AsmFault;
 use x7_part::{PartFault, PartKey, Which};
@@ -15,8 +16,16 @@ fn at_the_top(key: PartKey) -> Which {
     Which { row: None, key }
 }
 
+/// Whether the value is printed as this text. Without memory it isn't.
+fn is_printed<D: Display>(alloc: Global, value: &D, text: &str) -> bool {
+    match format!(in alloc; "{value}") {
+        Ok(printed) => printed.as_str() == text,
+        Err(_) => false,
+    }
+}
+
 #[test]
-fn part_faults_name_the_key_and_the_row(rt: HostRuntime) -> Result<(), Fail> {
+fn part_faults_name_the_key_and_the_row(rt: HostRuntime) {
     let cases = [
         (PartFault::Toml, "the text is no TOML"),
         (
@@ -31,13 +40,12 @@ fn part_faults_name_the_key_and_the_row(rt: HostRuntime) -> Result<(), Fail> {
         (PartFault::TooMany(131_073), "too many frames: 131073"),
     ];
     for (fault, text) in cases {
-        assert!(rt; format!(in rt.alloc(); "{fault}")?.as_str() == text);
+        assert!(rt; is_printed(rt.alloc(), &fault, text));
     }
-    Ok(())
 }
 
 #[test]
-fn assembly_faults_name_the_line(rt: HostRuntime) -> Result<(), Fail> {
+fn assembly_faults_name_the_line(rt: HostRuntime) {
     let cases = [
         (AsmFault::Line(2), "line 2 is no line"),
         (
@@ -47,9 +55,8 @@ fn assembly_faults_name_the_line(rt: HostRuntime) -> Result<(), Fail> {
         (AsmFault::NoMemory, "no memory"),
     ];
     for (fault, text) in cases {
-        assert!(rt; format!(in rt.alloc(); "{fault}")?.as_str() == text);
+        assert!(rt; is_printed(rt.alloc(), &fault, text));
     }
-    Ok(())
 }
 
 /// By its clause it is 8 too: here the number is written out.

@@ -2,7 +2,6 @@
 ghost use Rattle.x7_memory.specs.PartFrames.{AreFramesOf};
 
 use std::alloc::Global;
-use std::test::Fail;
 use x7_memory::{Memory, Plan};
 use x7_part::{Part, part_of};
 use x7_words::NoMemory;
@@ -24,43 +23,39 @@ fn has_frame(part: &Part, memory: &Memory, far: u32, word: u32) -> bool
     memory.frame(part, far) == Some([word; FRAME_WORDS].as_slice())
 }
 
-/// Puts a frame of this word, again and again, at the address. False, and the memory as it was, where the part lacks
-/// the address.
-fn put(memory: &mut Memory, part: &Part, far: u32, word: u32) -> bool
+/// Puts a frame of sevens at address 1, and clears the memory once it is copied: whether the copy still has the frame,
+/// and the memory one of zeros. None where the part lacks the address, and without memory.
+fn copied_and_cleared(alloc: Global, part: &Part, memory: &mut Memory) -> Option<(bool, bool)>
     requires { AreFramesOf part.now memory.old }
-    ensures { AreFramesOf part.now memory.new }
 {
-    if !part.is_address(far) {
-        return false;
+    if !part.is_address(1) {
+        return None;
     }
-    memory.put(
-        part,
-        far,
-        &[word; MOST_FRAME_WORDS][..part.words() as usize],
-    );
-    true
+    memory.put(part, 1, &[7; MOST_FRAME_WORDS][..part.words() as usize]);
+    let Ok(copied) = memory.copy(alloc) else {
+        return None;
+    };
+    memory.clear();
+    Some((
+        has_frame(part, &copied, 1, 7),
+        has_frame(part, memory, 1, 0),
+    ))
+}
+
+/// The same of a new memory.
+fn copied(alloc: Global) -> Option<(bool, bool)> {
+    let Ok(part) = part_of(alloc, PART.as_bytes()) else {
+        return None;
+    };
+    match Memory::new(alloc, &part) {
+        Ok(mut memory) => copied_and_cleared(alloc, &part, &mut memory),
+        Err(_) => None,
+    }
 }
 
 #[test]
-fn a_copy_keeps_the_frames_that_are_cleared(rt: HostRuntime) -> Result<(), Fail> {
-    let part = part_of(rt.alloc(), PART.as_bytes())?;
-    let mut memory = Memory::new(rt.alloc(), &part)?;
-    let is_put = put(&mut memory, &part, 1, 7);
-    assert!(rt; is_put);
-    let copied = memory.copy(rt.alloc())?;
-    memory.clear();
-    assert!(rt; has_frame(&part, &copied, 1, 7));
-    assert!(rt; has_frame(&part, &memory, 1, 0));
-    Ok(())
-}
-
-/// A plan of frames that came in no order, one address twice.
-fn planned(alloc: Global) -> Result<Plan, NoMemory> {
-    let mut plan = Plan::new(alloc, 2);
-    plan.insert(7, &[0, 0])?;
-    plan.insert(3, &[1, 1])?;
-    plan.insert(7, &[2, 2])?;
-    Ok(plan)
+fn a_copy_keeps_the_frames_that_are_cleared(rt: HostRuntime) {
+    assert!(rt; copied(rt.alloc()) == Some((true, true)));
 }
 
 /// Whether the plan's rows stand in order, each once, with the words that came first.
@@ -71,10 +66,16 @@ fn is_in_order(plan: &Plan) -> bool {
         && plan.get(5).is_none()
 }
 
+/// Whether a plan of frames that came in no order, one address twice, has its rows in order; an error without memory.
+fn planned(alloc: Global) -> Result<bool, NoMemory> {
+    let mut plan = Plan::new(alloc, 2);
+    plan.insert(7, &[0, 0])?;
+    plan.insert(3, &[1, 1])?;
+    plan.insert(7, &[2, 2])?;
+    Ok(is_in_order(&plan))
+}
+
 #[test]
 fn rows_of_a_plan_stand_in_order(rt: HostRuntime) {
-    let Ok(plan) = planned(rt.alloc()) else {
-        panic!(rt; "no memory")
-    };
-    assert!(rt; is_in_order(&plan));
+    assert!(rt; planned(rt.alloc()) == Ok(true));
 }

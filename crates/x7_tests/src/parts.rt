@@ -1,7 +1,6 @@
 //! Addresses, ranks and slots of two parts, asked one by one.
 use crate::tiny::TINY;
 use std::alloc::Global;
-use std::test::Fail;
 use x7_part::{Part, Slot, part_of};
 
 /// A part with five columns of logic, of 172 frames, and one column of block memory, of 128.
@@ -50,35 +49,43 @@ fn slots(part: &Part) -> [Option<Slot>; 5] {
     ]
 }
 
+/// What the tiny part answers, its slots, and the number of slots from its second address on; none where the part is
+/// refused.
+fn tiny_answers(alloc: Global) -> Option<([Option<u32>; 7], [Option<Slot>; 5], Option<u64>)> {
+    match part_of(alloc, TINY) {
+        Ok(part) => Some((answers(&part), slots(&part), slots_from(&part, 0x0000_0001))),
+        Err(_) => None,
+    }
+}
+
 #[test]
-fn two_rows_have_their_addresses_ranks_and_slots_in_order(rt: HostRuntime) -> Result<(), Fail> {
-    let part = part_of(rt.alloc(), TINY)?;
+fn two_rows_have_their_addresses_ranks_and_slots_in_order(rt: HostRuntime) {
     // the first address of the bottom row, whose rank is 2
     let third = Some(0x0040_0000);
-    assert!(rt; answers(&part) == [third, None, None, Some(2), None, third, None]);
+    let answers = [third, None, None, Some(2), None, third, None];
     // two pads stand after each row; four frames and four pads are all slots
     let pad = Some(Slot::Pad);
-    assert!(rt;
-        slots(&part)
-            == [
-                Some(Slot::Frame(0x0000_0001)),
-                pad,
-                pad,
-                Some(Slot::Frame(0x0040_0000)),
-                Some(Slot::End)
-            ]
-    );
+    let slots = [
+        Some(Slot::Frame(0x0000_0001)),
+        pad,
+        pad,
+        Some(Slot::Frame(0x0040_0000)),
+        Some(Slot::End),
+    ];
     // all eight slots but that of the first address
-    assert!(rt; slots_from(&part, 0x0000_0001) == Some(7));
-    Ok(())
+    assert!(rt; tiny_answers(rt.alloc()) == Some((answers, slots, Some(7))));
 }
 
 /// What a copy of the part of the columns answers: its IDCODE and the number of its frames, the address after each of
 /// two, the ranks of two, and the address of the last rank.
 #[rattlefmt::skip]
 fn copy_answers(alloc: Global) -> Option<[Option<u32>; 7]> {
-    let part = part_of(alloc, COLUMNS).ok()?;
-    let copy = part.copy(alloc).ok()?;
+    let Ok(part) = part_of(alloc, COLUMNS) else {
+        return None;
+    };
+    let Ok(copy) = part.copy(alloc) else {
+        return None;
+    };
     Some([
         Some(copy.idcode()),
         Some(copy.frames()),

@@ -22,19 +22,33 @@ fn frame_write(alloc: Global) -> Option<Vec<u8>> {
     Some(stream)
 }
 
-/// Whether the report of a device, its state and its frames, is that of a new one that is fed the stream's first
-/// `count` bytes; none where a call is refused.
-fn is_as_played(alloc: Global, part: &Part, device: &Device, count: usize) -> Option<bool> {
-    let stream = frame_write(alloc)?;
-    let bytes = stream.get(..count)?;
+/// Whether two devices have one report: their states and their frames. None without memory.
+fn have_one_report(alloc: Global, one: &Device, other: &Device) -> Option<bool> {
+    let Ok(text) = report(alloc, one, &[]) else {
+        return None;
+    };
+    match report(alloc, other, &[]) {
+        Ok(wanted) => Some(text == wanted),
+        Err(_) => None,
+    }
+}
+
+/// Whether the report of a device is that of a new one that is fed these bytes; none without memory.
+fn is_as_fed(alloc: Global, part: &Part, device: &Device, bytes: &[u8]) -> Option<bool> {
     match Device::new(alloc, part) {
         Ok(mut fresh) => {
             fresh.feed(bytes, &mut ReadBuf::dropping());
-            let wanted = report(alloc, &fresh, &[]).ok()?;
-            Some(report(alloc, device, &[]).ok()? == wanted)
+            have_one_report(alloc, device, &fresh)
         }
         Err(_) => None,
     }
+}
+
+/// Whether the report of a device is that of a new one that is fed the stream's first `count` bytes; none where a call
+/// is refused.
+fn is_as_played(alloc: Global, part: &Part, device: &Device, count: usize) -> Option<bool> {
+    let stream = frame_write(alloc)?;
+    is_as_fed(alloc, part, device, stream.get(..count)?)
 }
 
 /// By how much a move back by `count` bytes raises the count of bytes fed to the session's device, and whether the

@@ -53,13 +53,23 @@ fn are_bytes_of(bytes: &[u8], words: &[u32]) -> bool {
     bytes.len() == 4 * words.len()
 }
 
+/// Whether a frames text for this part has a plan whose text is this; none where `planned` has none.
+fn is_planned_as(alloc: Global, part: &[u8], text: &[u8], want: &[u8]) -> Option<bool> {
+    let (_, again) = planned(alloc, part, text)?;
+    Some(again.as_slice() == want)
+}
+
+/// Whether a frames text for the small part has the full stream of `PLANNED`; none where `planned` has none.
+fn is_in_the_list(alloc: Global, text: &[u8]) -> Option<bool> {
+    let (stream, _) = planned(alloc, SMALL, text)?;
+    Some(are_bytes_of(&stream, &PLANNED))
+}
+
 #[test]
 fn a_full_stream_is_its_list_of_words(rt: HostRuntime) {
     let text = b"frame 00400000 DEADBEEF01234567\n";
-    let Some((stream, again)) = planned(rt.alloc(), SMALL, text) else {
-        panic!(rt; "no stream")
-    };
-    assert!(rt; are_bytes_of(&stream, &PLANNED) && again.as_slice() == text.as_slice());
+    assert!(rt; is_in_the_list(rt.alloc(), text) == Some(true));
+    assert!(rt; is_planned_as(rt.alloc(), SMALL, text, text) == Some(true));
 }
 
 /// A line of a frame of words 11111111 at 00000000.
@@ -70,23 +80,20 @@ pub(crate) fn line(alloc: Global) -> Option<Vec<u8>> {
     Some(text)
 }
 
+/// Whether the text of that line's plan is the line; none where a call is refused.
+fn is_line_again(alloc: Global) -> Option<bool> {
+    let line = line(alloc)?;
+    is_planned_as(alloc, TINY, &line, &line)
+}
+
 #[test]
 fn the_text_of_a_plan_is_its_line(rt: HostRuntime) {
-    let Some(line) = line(rt.alloc()) else {
-        panic!(rt; "no memory")
-    };
-    let Some((_, again)) = planned(rt.alloc(), TINY, &line) else {
-        panic!(rt; "no stream")
-    };
-    assert!(rt; again == line);
+    assert!(rt; is_line_again(rt.alloc()) == Some(true));
 }
 
 #[test]
 fn frames_come_again_in_order_and_in_upper_case(rt: HostRuntime) {
     let text = b"# two frames\n\nframe 00400000 0123456789abcdef\nframe 00000001 aAaAbBbBCCCCDDDD";
     let lines = b"frame 00000001 AAAABBBBCCCCDDDD\nframe 00400000 0123456789ABCDEF\n";
-    let Some((_, again)) = planned(rt.alloc(), SMALL, text) else {
-        panic!(rt; "no stream")
-    };
-    assert!(rt; again.as_slice() == lines.as_slice());
+    assert!(rt; is_planned_as(rt.alloc(), SMALL, text, lines) == Some(true));
 }

@@ -6,47 +6,68 @@ use x7_mcs::{flash_of, mcs_text};
 use x7_packets::{Packets, Run, Step};
 use x7_words::{Inputs, NoMemory};
 
-/// The Intel HEX text of three bytes, and the image of that text; none where one is refused, or without memory.
-fn text_and_image(alloc: Global) -> Option<(Vec<u8>, Vec<u8>)> {
-    let text = mcs_text(alloc, &[1, 2, 3]).ok()?;
-    let image = flash_of(alloc, &text).ok()?;
-    Some((text, image))
+/// The Intel HEX text of three bytes.
+const HEX_TEXT: &[u8] = b":020000040000FA\n:03000000010203F7\n:00000001FF\n";
+
+/// Whether three bytes have that text, and the text these bytes; none where one is refused, or without memory.
+fn text_and_image(alloc: Global) -> Option<(bool, bool)> {
+    let Ok(text) = mcs_text(alloc, &[1, 2, 3]) else {
+        return None;
+    };
+    match flash_of(alloc, &text) {
+        Ok(image) => Some((
+            text.as_slice() == HEX_TEXT,
+            image.as_slice() == [1, 2, 3].as_slice(),
+        )),
+        Err(_) => None,
+    }
 }
 
 #[test]
 fn an_image_comes_back_from_its_intel_hex_text(rt: HostRuntime) {
-    let Some((text, image)) = text_and_image(rt.alloc()) else {
-        panic!(rt; "refused, or no memory")
-    };
-    let want = b":020000040000FA\n:03000000010203F7\n:00000001FF\n";
-    assert!(rt; text.as_slice() == want.as_slice());
-    assert!(rt; image.as_slice() == [1, 2, 3].as_slice());
+    assert!(rt; text_and_image(rt.alloc()) == Some((true, true)));
+}
+
+/// Whether the text assembles to these bytes.
+fn assembles_to(alloc: Global, text: &[u8], want: &[u8]) -> bool {
+    match assemble(alloc, text) {
+        Ok(bytes) => bytes.as_slice() == want,
+        Err(_) => false,
+    }
 }
 
 #[test]
 fn a_text_assembles_at_once(rt: HostRuntime) {
-    let Ok(bytes) = assemble(rt.alloc(), b"sync\nwrite CMD 1\ndata 00000001\ncrc\n") else {
-        panic!(rt; "refused, or no memory")
-    };
+    let text = b"sync\nwrite CMD 1\ndata 00000001\ncrc\n";
     let want = b"\xAA\x99\x55\x66\x30\0\x80\x01\0\0\0\x01\x30\0\0\x01\xE5\xDA\x85\x4F";
-    assert!(rt; bytes.as_slice() == want.as_slice());
+    assert!(rt; assembles_to(rt.alloc(), text, want));
 }
 
 /// Whether the first run of an input that gives five bytes at a time is a gap of these bytes, or, where there are none,
-/// the stream's end; and how many were taken of the input. None without memory.
-fn first_run(alloc: Global, stream: &[u8], gap: &[u8]) -> Option<(bool, u64)> {
-    let mut inputs = MemoryInputs::new(alloc);
-    inputs.put("stream", stream).ok()?;
+/// the stream's end; and how many were taken of the input. None where a call is refused.
+fn first_of(alloc: Global, inputs: &mut MemoryInputs, gap: &[u8]) -> Option<(bool, u64)> {
     inputs.piece(5);
-    inputs.select("stream").ok()?;
-    let mut packets = Packets::new(alloc, b"").ok()?;
-    let is_so = match packets.next_run(&mut inputs) {
+    let Ok(()) = inputs.select("stream") else {
+        return None;
+    };
+    let Ok(mut packets) = Packets::new(alloc, b"") else {
+        return None;
+    };
+    let is_so = match packets.next_run(inputs) {
         Ok(Run::Skip(bytes)) => bytes == gap,
         Ok(Run::End) => gap.is_empty(),
-        Ok(_) => false,
-        Err(_) => return None,
+        _ => false,
     };
     Some((is_so, packets.taken()))
+}
+
+/// The same of an input that holds the stream.
+fn first_run(alloc: Global, stream: &[u8], gap: &[u8]) -> Option<(bool, u64)> {
+    let mut inputs = MemoryInputs::new(alloc);
+    match inputs.put("stream", stream) {
+        Ok(()) => first_of(alloc, &mut inputs, gap),
+        Err(_) => None,
+    }
 }
 
 #[test]
@@ -69,22 +90,19 @@ const RUNS: [Run<'static>; 8] = [
     Run::End,
 ];
 
-/// A lister that took runs, one after another.
-fn listed_by_runs(alloc: Global) -> Result<Lister, NoMemory> {
+/// Whether a lister that took the runs, one after another, has this text; an error without memory.
+fn is_listed_by_runs(alloc: Global, want: &[u8]) -> Result<bool, NoMemory> {
     let mut lister = Lister::new(alloc);
     for run in &RUNS {
         lister.take(run)?;
     }
-    Ok(lister)
+    Ok(lister.text() == want)
 }
 
 #[test]
 fn a_stream_is_listed_by_its_runs(rt: HostRuntime) {
-    let Ok(lister) = listed_by_runs(rt.alloc()) else {
-        panic!(rt; "no memory")
-    };
     let want = b"bytes FF\nsync\nnop\nwrite FDRI 2\ndata 00000011 00000012\nbytes 0102\n";
-    assert!(rt; lister.text() == want.as_slice());
+    assert!(rt; is_listed_by_runs(rt.alloc(), want) == Ok(true));
 }
 
 /// Three streams, each of which begins with the other half of a word.
@@ -94,21 +112,18 @@ const HALVES: [&[u8]; 3] = [
     b"\0\x07\x20\0\0\0",
 ];
 
-/// A lister that has listed the three streams.
-fn listed_in_turn(alloc: Global) -> Result<Lister, NoMemory> {
+/// Whether a lister that has listed the three streams has this text; an error without memory.
+fn is_listed_in_turn(alloc: Global, want: &[u8]) -> Result<bool, NoMemory> {
     let mut lister = Lister::new(alloc);
     for stream in HALVES {
         lister.feed(stream)?;
         lister.finish()?;
     }
-    Ok(lister)
+    Ok(lister.text() == want)
 }
 
 #[test]
 fn a_new_listing_begins_after_finish(rt: HostRuntime) {
-    let Ok(lister) = listed_in_turn(rt.alloc()) else {
-        panic!(rt; "no memory")
-    };
     let want = b"bytes AA99\nbytes 5566\nsync\nwrite CMD 2\nbytes 0000\nbytes 000720000000\n";
-    assert!(rt; lister.text() == want.as_slice());
+    assert!(rt; is_listed_in_turn(rt.alloc(), want) == Ok(true));
 }

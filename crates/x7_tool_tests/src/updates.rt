@@ -1,11 +1,11 @@
 //! Updates of a flash that forgets, and of real files.
 use crate::forgetful::Forgetful;
-use std::alloc::{AllocError, Global};
+use std::alloc::Global;
 use std::os::unix::fs::symlink;
-use std::path::{Path, PathBuf};
+use std::path::PathBuf;
 use std::{env, fs, process};
-use x7_files::FileFlash;
-use x7_in_memory::{MemoryFlash, MemoryInputs, MemorySink};
+use x7_files::{FileFlash, KnownSink};
+use x7_in_memory::{MemoryFlash, MemoryInputs};
 use x7_tool::run;
 use x7_update::{UpdateFault, update};
 use x7_words::Flash;
@@ -30,45 +30,44 @@ const SLOT: [u8; 32] = [
 const AFTER_SLOTS: [(usize, u8); 3] = [(131_072, 0x11), (131_172, 0x22), (262_144, 0xFF)];
 
 /// A flash of four sectors: slots, of which the first is open, a golden stream of 65,536 bytes 11, an update of 22.
-fn image(alloc: Global) -> Result<Vec<u8>, AllocError> {
-    let mut all = Vec::from_slice(alloc, &OPEN)?;
-    all.extend_from_slice(&SLOT[4..])?;
-    for _ in 1..2048 {
-        all.extend_from_slice(&SLOT)?;
+fn image(alloc: Global) -> Option<Vec<u8>> {
+    let mut all = Vec::new(alloc);
+    for _ in 0..2048 {
+        all.extend_from_slice(&SLOT).ok()?;
     }
     for (length, byte) in AFTER_SLOTS {
-        all.resize(length, byte)?;
+        all.resize(length, byte).ok()?;
     }
-    Ok(all)
+    *all.first_chunk_mut()? = OPEN;
+    Some(all)
 }
 
-/// The stream of an update: 70,000 bytes.
-fn stream(alloc: Global) -> Result<Vec<u8>, AllocError> {
-    let mut all = Vec::from_slice(alloc, &[0xFF; 16])?;
-    all.resize(70_000, 0x35)?;
-    Ok(all)
-}
-
-/// Whether the bytes at the place are these.
-fn stands_at(all: &[u8], place: usize, bytes: &[u8]) -> bool {
-    match all.get(place..) {
-        None => false,
-        Some(rest) => rest.starts_with(bytes),
+/// Whether the bytes at each of these places are those beside it.
+fn have_all(all: &[u8], pieces: &[(usize, &[u8])]) -> bool {
+    for (place, bytes) in pieces {
+        let Some(rest) = all.get(*place..) else {
+            return false;
+        };
+        if !rest.starts_with(bytes) {
+            return false;
+        }
     }
+    true
 }
 
 /// The words of `update NAME n`.
-fn words_of(alloc: Global, name: &str) -> Result<Vec<String>, AllocError> {
-    let mut words = Vec::with_capacity(alloc, 3)?;
+fn words_of(alloc: Global, name: &str) -> Option<Vec<String>> {
+    let mut words = Vec::new(alloc);
     for word in ["update", name, "n"] {
-        words.push(String::from_str(alloc, word)?)?;
+        words.push(String::from_str(alloc, word).ok()?).ok()?;
     }
-    Ok(words)
+    Some(words)
 }
 
-/// Inputs that have the stream under the name `n`.
+/// Inputs that have the stream of an update under the name `n`: 70,000 bytes.
 fn inputs_of(alloc: Global) -> Option<MemoryInputs> {
-    let stream = stream(alloc).ok()?;
+    let mut stream = [0x35; 70_000];
+    stream[..16].fill(0xFF);
     let mut inputs = MemoryInputs::new(alloc);
     match inputs.put("n", &stream) {
         Ok(()) => Some(inputs),
@@ -76,57 +75,49 @@ fn inputs_of(alloc: Global) -> Option<MemoryInputs> {
     }
 }
 
-/// Runs `update NAME n` over the flash: the status.
-fn run_on<F: Flash>(
-    alloc: Global,
-    flash: &mut F,
-    name: &str,
-    out: &mut MemorySink,
-    err: &mut MemorySink,
-) -> Option<u8> {
-    let words = words_of(alloc, name).ok()?;
-    match inputs_of(alloc) {
-        Some(mut inputs) => Some(run(alloc, &words, &mut inputs, flash, out, err).number()),
-        None => None,
-    }
-}
+/// What the command comes to: its status, and whether it wrote the message that it should, and no text.
+type Answer = (u8, bool);
 
-/// Runs `update NAME n` over the flash: the status, and whether it was so with this message and no text.
-fn run_over<F: Flash>(
-    alloc: Global,
-    flash: &mut F,
-    name: &str,
-    message: &[u8],
-) -> Option<(u8, bool)> {
-    let mut out = MemorySink::new(alloc, 10).ok()?;
-    let mut err = MemorySink::new(alloc, 200).ok()?;
-    match run_on(alloc, flash, name, &mut out, &mut err) {
-        Some(status) => Some((status, out.bytes().is_empty() && err.bytes() == message)),
-        None => None,
-    }
+/// Runs `update NAME n` over the flash, which should write this message. None without memory.
+fn updated<F: Flash>(alloc: Global, flash: &mut F, name: &str, message: &[u8]) -> Option<Answer> {
+    let words = words_of(alloc, name)?;
+    let mut inputs = inputs_of(alloc)?;
+    let mut out = KnownSink::new(Vec::new(alloc));
+    let mut err = KnownSink::new(Vec::new(alloc));
+    let status = run(alloc, &words, &mut inputs, flash, &mut out, &mut err).number();
+    let text = out.into_writer();
+    let told = err.into_writer();
+    Some((status, text.is_empty() && told.as_slice() == message))
 }
 
 /// A flash in memory that holds the image, with room for an update.
 fn flash_of(alloc: Global) -> Option<MemoryFlash> {
-    let image = image(alloc).ok()?;
-    let mut flash = MemoryFlash::new(alloc, "i", &image).ok()?;
+    let image = image(alloc)?;
+    let Ok(mut flash) = MemoryFlash::new(alloc, "i", &image) else {
+        return None;
+    };
     match flash.make_room(20, 1_000_000) {
         Ok(()) => Some(flash),
         Err(_) => None,
     }
 }
 
+/// Updates a flash in memory that forgets the update: the status, whether it was so with this message, and whether the
+/// first slot is then spent and the second one free. None without memory.
+fn updated_in_vain(alloc: Global, message: &[u8]) -> Option<(Answer, bool)> {
+    let mut flash = Forgetful {
+        flash: flash_of(alloc)?,
+    };
+    let answer = updated(alloc, &mut flash, "i", message)?;
+    let is_safe = have_all(flash.flash.bytes(), &[(0, &SPENT), (32, &FREE)]);
+    Some((answer, is_safe))
+}
+
 #[test]
 fn a_byte_that_was_lost_differs(rt: HostRuntime) {
-    let Some(flash) = flash_of(rt.alloc()) else {
-        panic!(rt; "no memory")
-    };
-    let mut flash = Forgetful { flash };
     // the first 16 bytes of the stream are FF, as an erase leaves them
     let message = b"x7: differs i: byte 131088\n";
-    assert!(rt; run_over(rt.alloc(), &mut flash, "i", message) == Some((11, true)));
-    let left = flash.flash.bytes();
-    assert!(rt; stands_at(left, 0, &SPENT) && stands_at(left, 32, &FREE));
+    assert!(rt; updated_in_vain(rt.alloc(), message) == Some(((11, true), true)));
 }
 
 /// A path of this kind in the folder of temporary files.
@@ -137,156 +128,120 @@ fn path_of(rt: &HostRuntime, kind: &str) -> Option<PathBuf> {
 }
 
 /// Writes the image into a file; none where that can't be done.
-fn put_image(rt: &HostRuntime, path: Path<'_>) -> Option<()> {
-    let image = image(rt.alloc()).ok()?;
-    fs::write(rt, path, image.as_slice()).ok()
+fn put_image(rt: &HostRuntime, name: &str) -> Option<()> {
+    let image = image(rt.alloc())?;
+    fs::write(rt, name, image.as_slice()).ok()
 }
 
 /// The bytes of a file, which is removed; none where that can't be done.
-fn taken(rt: &HostRuntime, path: Path<'_>) -> Option<Vec<u8>> {
-    let bytes = fs::read(rt, path).ok()?;
-    match fs::remove_file(rt, path) {
+fn taken(rt: &HostRuntime, name: &str) -> Option<Vec<u8>> {
+    let Ok(bytes) = fs::read(rt, name) else {
+        return None;
+    };
+    match fs::remove_file(rt, name) {
         Ok(()) => Some(bytes),
         Err(_) => None,
     }
 }
 
-/// The status of an update of a flash by this name.
-fn status_of<F: Flash>(alloc: Global, flash: &mut F, name: &str) -> Option<u8> {
-    match run_over(alloc, flash, name, b"") {
-        Some((status, _)) => Some(status),
-        None => None,
-    }
-}
-
-/// Updates a flash in memory: the status, and whether it then holds these bytes.
-fn updated_in_memory(alloc: Global, bytes: &[u8]) -> Option<(u8, bool)> {
+/// Updates a flash in memory: the status, whether it was so without a message, and whether the flash then holds these
+/// bytes.
+fn updated_in_memory(alloc: Global, bytes: &[u8]) -> Option<(Answer, bool)> {
     let mut flash = flash_of(alloc)?;
-    match status_of(alloc, &mut flash, "i") {
-        Some(status) => Some((status, flash.bytes() == bytes)),
-        None => None,
-    }
+    let answer = updated(alloc, &mut flash, "i", b"")?;
+    Some((answer, flash.bytes() == bytes))
 }
 
-/// The status of an update of a new file at the path; none where it can't be made.
-fn status_at(rt: &HostRuntime, path: Path<'_>) -> Option<u8> {
-    put_image(rt, path)?;
-    let mut file = FileFlash::new(rt);
-    status_of(rt.alloc(), &mut file, path.as_str())
+/// Updates a new file of this name, and then a flash in memory: what each comes to, and whether the flash holds what
+/// the file does. None where that can't be done.
+fn updated_twice(rt: &HostRuntime, name: &str) -> Option<(Answer, (Answer, bool))> {
+    put_image(rt, name)?;
+    let answer = updated(rt.alloc(), &mut FileFlash::new(rt), name, b"")?;
+    let bytes = taken(rt, name)?;
+    Some((answer, updated_in_memory(rt.alloc(), &bytes)?))
 }
 
-/// Updates a file: the status, and the file's bytes then; none where that can't be done.
-fn updated_in_file(rt: &HostRuntime) -> Option<(u8, Vec<u8>)> {
+/// The same of a path that no other test has.
+fn file_and_memory(rt: &HostRuntime) -> Option<(Answer, (Answer, bool))> {
     let path = path_of(rt, "updated")?;
-    let status = status_at(rt, path.as_path())?;
-    match taken(rt, path.as_path()) {
-        Some(bytes) => Some((status, bytes)),
-        None => None,
-    }
+    updated_twice(rt, path.as_path().as_str())
 }
 
 #[test]
 fn a_file_is_updated_as_a_flash_in_memory(rt: HostRuntime) {
-    let Some((status, bytes)) = updated_in_file(&rt) else {
-        panic!(rt; "no memory or no file")
-    };
-    assert!(rt; status == 0);
-    assert!(rt; updated_in_memory(rt.alloc(), &bytes) == Some((0, true)));
+    assert!(rt; file_and_memory(&rt) == Some(((0, true), ((0, true), true))));
 }
 
-/// The statuses of updates by a link, by the link once it is removed, and of a folder; none where that can't be done.
-fn statuses_of<F: Flash>(
-    rt: &HostRuntime,
-    flash: &mut F,
-    link: Path<'_>,
-    folder: Path<'_>,
-) -> Option<(u8, u8, u8)> {
-    let linked = status_of(rt.alloc(), flash, link.as_str())?;
-    fs::remove_file(rt, link).ok()?;
-    let gone = status_of(rt.alloc(), flash, link.as_str())?;
-    let no_file = status_of(rt.alloc(), flash, folder.as_str())?;
-    Some((linked, gone, no_file))
-}
-
-/// The statuses over a new file and a new link to it; none where that can't be done.
-fn statuses_by_link(rt: &HostRuntime, path: Path<'_>, link: Path<'_>) -> Option<(u8, u8, u8)> {
-    put_image(rt, path)?;
-    symlink(rt, path, link).ok()?;
+/// What updates come to by a link to a new file, by the link once it is removed, and of a folder, and whether the
+/// file's first free slot is then open; none where that can't be done.
+fn updated_by_link(rt: &HostRuntime, name: &str, link: &str) -> Option<([Answer; 3], bool)> {
+    put_image(rt, name)?;
+    symlink(rt, name, link).ok()?;
     let folder = env::temp_dir(rt).ok()?;
     let mut file = FileFlash::new(rt);
-    statuses_of(rt, &mut file, link, folder.as_path())
+    let linked = updated(rt.alloc(), &mut file, link, b"")?;
+    fs::remove_file(rt, link).ok()?;
+    let gone = updated(rt.alloc(), &mut file, link, b"")?;
+    let no_file = updated(rt.alloc(), &mut file, folder.as_path().as_str(), b"")?;
+    let bytes = taken(rt, name)?;
+    Some(([linked, gone, no_file], have_all(&bytes, &[(32, &OPEN)])))
 }
 
-/// The statuses of updates by a link to a file, by the link once it is removed, and of a folder, and whether the file's
-/// first free slot was opened; none where that can't be done.
-fn linked(rt: &HostRuntime) -> Option<((u8, u8, u8), bool)> {
+/// The same of paths that no other test has.
+fn links(rt: &HostRuntime) -> Option<([Answer; 3], bool)> {
     let path = path_of(rt, "linked")?;
     let link = path_of(rt, "link")?;
-    let statuses = statuses_by_link(rt, path.as_path(), link.as_path())?;
-    match taken(rt, path.as_path()) {
-        Some(bytes) => Some((statuses, stands_at(&bytes, 32, &OPEN))),
-        None => None,
-    }
+    updated_by_link(rt, path.as_path().as_str(), link.as_path().as_str())
 }
 
 #[test]
 fn a_link_is_its_file_and_a_folder_is_none(rt: HostRuntime) {
-    // done, missing, a read fault; and the slot is open
-    assert!(rt; linked(&rt) == Some(((0, 3, 6), true)));
+    // done, missing, a read fault, each of these two with a message; and the slot is open
+    assert!(rt; links(&rt) == Some(([(0, true), (3, false), (6, false)], true)));
 }
 
-/// Attaches a file, writes these bytes in its place, and updates it; none where that can't be done.
-fn answer_of(rt: &HostRuntime, path: Path<'_>, bytes: &[u8]) -> Option<Result<(), UpdateFault>> {
-    put_image(rt, path)?;
+/// What an update of a file came to, how many bytes the file has then, and whether it has those that it should.
+type Left = (Result<(), UpdateFault>, usize, bool);
+
+/// Attaches a new file that holds the image, writes these bytes in its place, and updates it: what the update comes to,
+/// and what the file has then of these pieces. None where that can't be done.
+fn changed(rt: &HostRuntime, name: &str, bytes: &[u8], pieces: &[(usize, &[u8])]) -> Option<Left> {
+    put_image(rt, name)?;
     let mut file = FileFlash::new(rt);
-    if file.attach(path.as_str()).is_err() || fs::write(rt, path, bytes).is_err() {
+    if file.attach(name).is_err() || fs::write(rt, name, bytes).is_err() {
         return None;
     }
-    Some(update(rt.alloc(), &mut file, b"new"))
+    let answer = update(rt.alloc(), &mut file, b"new");
+    let left = taken(rt, name)?;
+    Some((answer, left.len(), have_all(&left, pieces)))
 }
 
-/// What an update of a file comes to in whose place these bytes are written once it is attached, and what the file
-/// holds then; none where that can't be done.
-fn changed(
-    rt: &HostRuntime,
-    kind: &str,
-    bytes: &[u8],
-) -> Option<(Result<(), UpdateFault>, Vec<u8>)> {
-    let path = path_of(rt, kind)?;
-    let answer = answer_of(rt, path.as_path(), bytes)?;
-    match taken(rt, path.as_path()) {
-        Some(left) => Some((answer, left)),
-        None => None,
-    }
+/// The same where the bytes are five.
+fn shrunk(rt: &HostRuntime) -> Option<Left> {
+    let path = path_of(rt, "shrank")?;
+    changed(rt, path.as_path().as_str(), b"short", &[(0, b"short")])
 }
 
 #[test]
 fn a_file_that_shrank_cannot_be_read(rt: HostRuntime) {
-    let Some((answer, left)) = changed(&rt, "shrank", b"short") else {
-        panic!(rt; "no memory or no file")
-    };
-    assert!(rt;
-        answer == Err(UpdateFault::Failed { writing: false })
-            && left.as_slice() == b"short".as_slice()
-    );
+    assert!(rt; shrunk(&rt) == Some((Err(UpdateFault::Failed { writing: false }), 5, true)));
 }
 
-/// The image, and bytes after it.
-fn grown(alloc: Global) -> Result<Vec<u8>, AllocError> {
-    let mut all = image(alloc)?;
-    all.extend_from_slice(b"grown")?;
-    Ok(all)
+/// The same where the bytes are the image and five more.
+fn grown(rt: &HostRuntime) -> Option<Left> {
+    let path = path_of(rt, "grew")?;
+    let mut all = image(rt.alloc())?;
+    all.extend_from_slice(b"grown").ok()?;
+    let pieces: [(usize, &[u8]); 4] = [
+        (0, &SPENT),
+        (32, &OPEN),
+        (131_072, b"new\xFF"),
+        (262_144, b"grown"),
+    ];
+    changed(rt, path.as_path().as_str(), &all, &pieces)
 }
 
 #[test]
 fn a_file_that_grew_is_updated_as_far_as_it_was_attached(rt: HostRuntime) {
-    let Ok(grown) = grown(rt.alloc()) else {
-        panic!(rt; "no memory")
-    };
-    let Some((answer, left)) = changed(&rt, "grew", &grown) else {
-        panic!(rt; "no memory or no file")
-    };
-    assert!(rt; answer == Ok(()) && left.len() == 262_149);
-    assert!(rt; stands_at(&left, 0, &SPENT) && stands_at(&left, 32, &OPEN));
-    assert!(rt; stands_at(&left, 131_072, b"new\xFF") && stands_at(&left, 262_144, b"grown"));
+    assert!(rt; grown(&rt) == Some((Ok(()), 262_149, true)));
 }
