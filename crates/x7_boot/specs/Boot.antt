@@ -30,17 +30,17 @@ abbrev pub large_unit : ℕ
 large_unit = 256
 
 -- how many bits of WBSTAR, from bit 0 up, are a start address that counts steps of `large_unit` bytes
-abbrev pub large_start_bits : ℕ
-large_start_bits = 24
+abbrev pub large_start_address_bits : ℕ
+large_start_address_bits = 24
 
 -- how many bits of WBSTAR, from bit 0 up, are a start address that counts bytes
-abbrev pub start_bits : ℕ
-start_bits = 29
+abbrev pub start_address_bits : ℕ
+start_address_bits = 29
 
 -- the place in the flash, in bytes, that WBSTAR names, for a part of which one step of the start address stands for
 -- `unit` bytes: the word's bits 28:0, or, for a large unit, that many times its bits 23:0
 abbrev pub start_address : ℕ → ℕ → ℕ
-start_address unit wbstar = if unit == large_unit then large_unit * field_of 0 large_start_bits wbstar else field_of 0 start_bits wbstar
+start_address unit wbstar = if unit == large_unit then large_unit * field_of 0 large_start_address_bits wbstar else field_of 0 start_address_bits wbstar
 
 -- the state of a device at the end of an attempt
 abbrev pub end_state : PartData → AttemptCourse → Regs

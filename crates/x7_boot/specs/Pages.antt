@@ -23,8 +23,8 @@ abbrev pub page_size : ℕ
 page_size = 4096
 
 -- the most pages that are read at once
-abbrev pub block_pages : ℕ
-block_pages = 16
+abbrev pub most_pages_at_once : ℕ
+most_pages_at_once = 16
 
 -- where the page ends in which a place lies: where the next page begins, or at the flash's end
 abbrev pub page_end : ℕ → ℕ → ℕ

@@ -3,7 +3,7 @@ ghost use Rattle.std.specs.Prelude.{◌≡◌, ◌+◌, ◌*◌, ◌/◌, ◌%�
 ghost use Rattle.std.specs.Map.{lookup};
 ghost use Rattle.x7_words.specs.FlashCalls.{CallOnlyReads};
 ghost use Rattle.x7_boot.specs.Image.{flash_limit};
-ghost use Rattle.x7_boot.specs.Pages.{ArePages, FaultsCounted, HasPage, HoldsFrom, IsLoaded, IsRestOfPage, KeepsPages, BlockReaches, block_pages, page_size};
+ghost use Rattle.x7_boot.specs.Pages.{ArePages, FaultsCounted, HasPage, HoldsFrom, IsLoaded, IsRestOfPage, KeepsPages, BlockReaches, most_pages_at_once, page_size};
 
 use crate::fault::BootFault;
 use crate::pages::{BLOCK_PAGES, PAGE_SIZE, read_block};
@@ -81,7 +81,7 @@ impl PageCache {
         requires within { number * page_size < size }
         requires limit { size ≤ flash_limit }
         ensures positive { 0 < result }
-        ensures most { result ≤ block_pages }
+        ensures most { result ≤ most_pages_at_once }
         ensures within { (page : ℕ) → page < number + result → page * page_size < size }
         ensures absent { (page : ℕ) → number < page → page < number + result → lookup (nat_eq page) self.now.pages.entries ≡ None }
     {
@@ -96,7 +96,7 @@ impl PageCache {
     /// Puts the `count` pages of the block into the cache, the first of them, page `number`, as the one used last.
     fn keep_block(&mut self, number: u64, count: u64) -> Result<(), NoMemory>
         requires positive { 0 < count }
-        requires most { count ≤ block_pages }
+        requires most { count ≤ most_pages_at_once }
         requires number { number ≤ flash_limit / page_size }
         requires within { count * page_size < length self.old.block.items + page_size }
         ensures pages { KeepsPages self.old.block.items number count self.old.pages.entries self.new.pages.entries }
@@ -115,7 +115,7 @@ impl PageCache {
     /// number of the block's first page.
     fn keep_page(&mut self, number: u64, index: u64) -> Result<(), NoMemory>
         requires number { number ≤ flash_limit / page_size }
-        requires index { index < block_pages }
+        requires index { index < most_pages_at_once }
         requires within { index * page_size < length self.old.block.items }
         ensures pages { (count : ℕ) → index < count → KeepsPages self.old.block.items number count self.old.pages.entries self.new.pages.entries }
         ensures there { OnOk result (IsSome (lookup (nat_eq (number + index)) self.new.pages.entries)) }

@@ -2,7 +2,7 @@
 ghost use Rattle.std.specs.Prelude.{◌≡◌, ◌*◌, ◌<◌, ◌≤◌, ◌^◌, true, OnOk};
 ghost use Rattle.x7_words.specs.FlashCalls.{CallOnlyReads};
 ghost use Rattle.x7_boot.specs.Image.{flash_limit};
-ghost use Rattle.x7_boot.specs.Pages.{IsBlock, FaultsCounted, block_pages, page_size};
+ghost use Rattle.x7_boot.specs.Pages.{IsBlock, FaultsCounted, most_pages_at_once, page_size};
 
 use crate::fault::BootFault;
 use x7_words::Flash;
@@ -22,7 +22,7 @@ pub(crate) fn read_block<F: Flash>(
 ) -> Result<(), BootFault>
     requires attached { (F.state flash.old).attached ≡ true }
     requires within { number * page_size < (F.state flash.old).extent }
-    requires count { count ≤ block_pages }
+    requires count { count ≤ most_pages_at_once }
     requires limit { (F.state flash.old).extent ≤ flash_limit }
     ensures read { OnOk result (IsBlock (F.state flash.old).bytes (F.state flash.old).extent number count block.new.items) }
     ensures faults { FaultsCounted (F.state flash.old).faults (F.state flash.new).faults result }

@@ -9,7 +9,7 @@ use Rattle.x7_part.specs.Part.{PartData}
 use Rattle.x7_engine.specs.Kept.{on_the_bench}
 use Rattle.x7_engine.specs.Standing.{DeviceState, DeviceStandsFor, NoWordDue}
 use Rattle.x7_engine.proofs.BootLemmas.{none_due_at_first}
-use Rattle.x7_engine.specs.Undo.{AreEqual, IsUndoOf, SavesDevice, TookFewSince, UndoState}
+use Rattle.x7_engine.specs.Undo.{AreEqualButForFed, IsUndoOf, SavesDevice, TookFewSince, UndoState}
 use Rattle.x7_debug.specs.Journal.{ComesToPosition, IsFedAtMost, MoveCosts, IsOnStream, IsRecord, JournalState, LeadBack, oldest_by, records_of}
 use Rattle.x7_debug.specs.SessionFields.{session_of}
 use Rattle.x7_debug.specs.Moving.{ComesForward, ComesForwardRecorded}
@@ -88,7 +88,7 @@ reaches_now start at us few r =
 -- ---- a device and its records at another position
 
 -- a device that is equal but for the bytes that it was ever fed
-refed : (part : PartData) (stream : List ℕ) (d e : DeviceState) (n : ℕ) → AreEqual d e → StandsAtPosition part stream e n → StandsAtPosition part stream d n
+refed : (part : PartData) (stream : List ℕ) (d e : DeviceState) (n : ℕ) → AreEqualButForFed d e → StandsAtPosition part stream e n → StandsAtPosition part stream d n
 refed part stream d e n q s =
     let t : DeviceStandsFor part on_the_bench false e (take n stream) = s.stands in
     let there : StandsAtPosition part stream (record e { fed = d.fed }) n = record {
@@ -124,7 +124,7 @@ took_few part stream d at u r s low high = record {
 
 -- a device at up to four bytes after a record goes back to it
 pub goes_back : (part : PartData) (stream : List ℕ) (d new : DeviceState) (at : ℕ) (u : UndoState) (r : IsRecord part stream u) → StandsAtPosition part stream d at → u.taken ≤ at → at ≤ u.taken + 4
-    → ((more : List ℕ) (old : DeviceState) → SavesDevice u old → NoWordDue old → length more ≤ 4 → DeviceStandsFor part on_the_bench false old (take u.taken stream) → DeviceStandsFor part on_the_bench false d (take u.taken stream ++ more) → AreEqual new old)
+    → ((more : List ℕ) (old : DeviceState) → SavesDevice u old → NoWordDue old → length more ≤ 4 → DeviceStandsFor part on_the_bench false old (take u.taken stream) → DeviceStandsFor part on_the_bench false d (take u.taken stream ++ more) → AreEqualButForFed new old)
     → StandsAtPosition part stream new u.taken
 goes_back part stream d new at u r s low high back =
     let more : List ℕ = take (at - u.taken) (drop u.taken stream) in
@@ -219,7 +219,7 @@ on_more part stream d new j k to u o s low high a keeps e =
 
 -- a record less
 pub on_less : (part : PartData) (stream : List ℕ) (d new : DeviceState) (j k : JournalState) (u : UndoState) → IsOnStream part stream d j → records_of j ≡ u ∷ records_of k → AllByRecursion (IsUndoOf part) k.all
-    → ((more : List ℕ) (old : DeviceState) → SavesDevice u old → NoWordDue old → length more ≤ 4 → DeviceStandsFor part on_the_bench false old (take u.taken stream) → DeviceStandsFor part on_the_bench false d (take u.taken stream ++ more) → AreEqual new old)
+    → ((more : List ℕ) (old : DeviceState) → SavesDevice u old → NoWordDue old → length more ≤ 4 → DeviceStandsFor part on_the_bench false old (take u.taken stream) → DeviceStandsFor part on_the_bench false d (take u.taken stream ++ more) → AreEqualButForFed new old)
     → IsOnStream new.part stream new k × (new.taken ≡ u.taken) × (u.taken ≤ d.taken) × (d.taken ≤ u.taken + 4)
 on_less part stream d new j k u o e a back =
     let leads : LeadBack part stream d.taken (u ∷ records_of k) = subst (LeadBack part stream d.taken) e o.leads in

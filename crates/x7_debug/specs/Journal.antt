@@ -57,8 +57,8 @@ pub record IsOnStream (part : PartData) (stream : List ℕ) (d : DeviceState) (j
   pub leads : LeadBack part stream d.taken (records_of j)
 
 -- `Fact` holds of each stream that a device is on with its records
-abbrev pub OfStream : DeviceState → JournalState → (List ℕ → Type 0) → Type 0
-OfStream d j Fact = (stream : List ℕ) → IsOnStream d.part stream d j → Fact stream
+abbrev pub ForEachStream : DeviceState → JournalState → (List ℕ → Type 0) → Type 0
+ForEachStream d j Fact = (stream : List ℕ) → IsOnStream d.part stream d j → Fact stream
 
 -- a device came to position n of the stream, and these records lead back from there
 pub record ComesToPosition (stream : List ℕ) (old new : DeviceState) (j : JournalState) (n : ℕ) : Type 0 where

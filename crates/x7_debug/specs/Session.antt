@@ -3,7 +3,7 @@
 use Rattle.std.specs.Prelude.{◌≡◌, ◌≤◌, ◌++◌, ℕ, List, false, take}
 use Rattle.x7_part.specs.Part.{PartData}
 use Rattle.x7_engine.specs.Kept.{on_the_bench}
-use Rattle.x7_engine.specs.Past.{OfPast}
+use Rattle.x7_engine.specs.Past.{ForEachPast}
 use Rattle.x7_engine.specs.Standing.{DeviceState, DeviceStandsFor, NoWordDue}
 use Rattle.x7_engine.specs.State.{taken_of}
 use Rattle.x7_debug.specs.Position.{last_of}
@@ -33,4 +33,4 @@ pub record StandsAtPosition (part : PartData) (stream : List ℕ) (d : DeviceSta
 -- a device takes a piece, up to what stops it, and no word that it read out is due
 abbrev pub TakesUpToStop : DeviceState → DeviceState → List ℕ → Type 0
 TakesUpToStop old new piece =
-    OfPast old (λ p. DeviceStandsFor p.part p.kept p.wrapped new (take (taken_of p.part p.kept (p.bytes ++ piece)) (p.bytes ++ piece)) × NoWordDue new)
+    ForEachPast old (λ p. DeviceStandsFor p.part p.kept p.wrapped new (take (taken_of p.part p.kept (p.bytes ++ piece)) (p.bytes ++ piece)) × NoWordDue new)

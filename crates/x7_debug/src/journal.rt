@@ -2,7 +2,7 @@
 ghost use Rattle.std.specs.Prelude.{◌≡◌, ◌≤◌, ◌<◌, ◌+◌, ◌-◌, ◌∷◌, ℕ, List, length, take, IfOk};
 ghost use Rattle.x7_engine.specs.Standing.{CanBeGiven, NoWordDue, fed_of};
 ghost use Rattle.x7_engine.specs.Undo.{SavesDevice, UndoState};
-ghost use Rattle.x7_debug.specs.Journal.{AreRecordsOf, IsFedAsTaken, IsOnStream, KeepsOldest, OfStream, oldest_by, record_reach, record_room, records_of};
+ghost use Rattle.x7_debug.specs.Journal.{AreRecordsOf, IsFedAsTaken, IsOnStream, KeepsOldest, ForEachStream, oldest_by, record_reach, record_room, records_of};
 ghost use Rattle.x7_debug.specs.Session.{TakesUpToStop};
 
 use circular_buffer::HeapCircularBuffer;
@@ -94,11 +94,11 @@ impl Journal {
         requires has_record { 0 < self.old.count }
         requires records { AreRecordsOf device.old.part self.old }
         requires on_stream { (stream : List ℕ) × IsOnStream device.old.part stream device.old self.old }
-        ensures back { OfStream device.old self.old (λ stream. IsOnStream device.new.part stream device.new self.new) }
-        ensures one_record { OfStream device.old self.old (λ stream. device.new.taken ≤ device.old.taken × device.old.taken ≤ device.new.taken + record_reach) }
+        ensures back { ForEachStream device.old self.old (λ stream. IsOnStream device.new.part stream device.new self.new) }
+        ensures one_record { ForEachStream device.old self.old (λ stream. device.new.taken ≤ device.old.taken × device.old.taken ≤ device.new.taken + record_reach) }
         ensures fed { fed_of device.new ≡ fed_of device.old }
-        ensures oldest { OfStream device.old self.old (λ stream. KeepsOldest device.old self.old device.new self.new) }
-        ensures room_for_one { OfStream device.old self.old (λ stream. length (records_of self.new) < record_room) }
+        ensures oldest { ForEachStream device.old self.old (λ stream. KeepsOldest device.old self.old device.new self.new) }
+        ensures room_for_one { ForEachStream device.old self.old (λ stream. length (records_of self.new) < record_room) }
         ensures count { self.new.count + 1 ≡ self.old.count }
         ensures part { device.new.part ≡ device.old.part }
     {

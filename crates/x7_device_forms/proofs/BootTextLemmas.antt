@@ -2,7 +2,7 @@
 use Rattle.std.proofs.Common.{◌≡◌, ◌<◌, ◌≤◌, ◌++◌, ℕ, Bool, List, [], length, Option, None, Some, Result, Ok, Err, IfErr, IfOk, refl, ap, subst, sym, ◌∙◌, inl, inr, ◌⊎◌, arith}
 use Rattle.std.proofs.lemmas.Bool.{cases_lt}
 use Rattle.std.specs.Prelude.{IsTrue}
-use Rattle.x7_words.specs.Flash.{FlashIsAskedFor, FlashFails, FlashState, IsSized, OnlyReads, IfKnown}
+use Rattle.x7_words.specs.Flash.{FlashIsAskedFor, FlashFails, FlashState, ExtentIsLength, OnlyReads, IfKnown}
 use Rattle.x7_words.specs.Word.{AreBytes}
 use Rattle.x7_words.proofs.CountLemmas.{risen_from}
 use Rattle.x7_part.specs.Part.{PartData}
@@ -86,7 +86,7 @@ text_boots name part old mid new b (Ok text) r short boots due ok err size =
 text_boots name part old mid new b (Err x) r short boots due ok err size = inl err
 
 -- a flash is within the limit where it wasn't refused
-pub short_flash : (s : FlashState) → IsSized s → (flash_limit < s.extent → ⊥) → IfKnown s.bytes (λ all. length all ≤ flash_limit)
+pub short_flash : (s : FlashState) → ExtentIsLength s → (flash_limit < s.extent → ⊥) → IfKnown s.bytes (λ all. length all ≤ flash_limit)
 short_flash s e small = by s.bytes e
   where
     by : (known : Option (List ℕ)) → IfKnown known (λ all. s.extent ≡ length all) → IfKnown known (λ all. length all ≤ flash_limit)
@@ -102,7 +102,7 @@ large_flash name part None extent event e l is = is
 large_flash name part (Some all) extent event e l is = (omega (arith, l, e), is)
 
 -- a boot that came to no end
-pub fault_boots : (name : List ℕ) (part : PartData) (old mid new : FlashState) (past since : ℕ → List ℕ → Type 0) (fault : BootFault) (event : Event) → ReadsFlash name old mid → FlashIsAskedFor old name mid → IsSized mid → OnlyReads mid new past since → event ≡ boot_event name fault
+pub fault_boots : (name : List ℕ) (part : PartData) (old mid new : FlashState) (past since : ℕ → List ℕ → Type 0) (fault : BootFault) (event : Event) → ReadsFlash name old mid → FlashIsAskedFor old name mid → ExtentIsLength mid → OnlyReads mid new past since → event ≡ boot_event name fault
     → (fault ≡ boot_fault.Failed → FlashFails mid new) → (fault ≡ boot_fault.TooLarge → flash_limit < mid.extent) → FlashComes name part old new (Err event)
 fault_boots name part old mid new past since boot_fault.Failed event r a s o is failed large =
     inr (inl (inr (is, record { among = inl refl; asked = subst (λ (names : List ℕ → Bool). IsTrue (names name)) (sym o.names) a.asked; risen = risen_from old.faults mid.faults new.faults r.faults (failed refl) })))

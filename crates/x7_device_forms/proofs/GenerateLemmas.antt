@@ -7,7 +7,7 @@ use Rattle.std.proofs.lemmas.List.{drop_more, get_or-map, length-map}
 use Rattle.std.proofs.lemmas.List.FromFn.{length-range_with_len, map-range_with_len_more}
 use Rattle.x7_part.specs.AddressOrder.{Rises, addresses_in, rise}
 use Rattle.x7_part.specs.Part.{PartData, frame_words}
-use Rattle.x7_memory.specs.FrameMap.{AreSame, FrameMap}
+use Rattle.x7_memory.specs.FrameMap.{HaveSameFrames, FrameMap}
 use Rattle.x7_memory.specs.Plan.{AreAddressed, AreApart, AreInOrder, IsPlan, IsPlanRow, PlanData, PlanRow, total}
 use Rattle.x7_memory.proofs.PlanLemmas.{words_by_place}
 use Rattle.x7_part.proofs.RowLemmas.{part_rises}
@@ -116,7 +116,7 @@ sum_all m rank total all fars h t was =
     let none : words_sum m (drop rank fars) ≡ 0 = ap (words_sum m) (drop_of_length-le fars h) in
     omega (arith, t, was, none)
 
-pub sum_same : (m n : FrameMap) (fars : List ℕ) → AreSame m n → words_sum m fars ≡ words_sum n fars
+pub sum_same : (m n : FrameMap) (fars : List ℕ) → HaveSameFrames m n → words_sum m fars ≡ words_sum n fars
 sum_same m n [] same = refl
 sum_same m n (x ∷ fars) same = ap (λ (o : Option (List ℕ)). sum (unwrap_or o []) + words_sum m fars) (same x) ∙ ap (λ (k : ℕ). sum (unwrap_or (n x) []) + k) (sum_same m n fars same)
 
@@ -143,7 +143,7 @@ few_reads part plan stream is p e within s =
     omega (arith, none, all, ap length law.reads)
 
 pub summary_is : (p q : PartData) (name : List ℕ) (seed planned size phase total : ℕ) (frames : List (List ℕ)) (stream none text : List ℕ) → name ≡ p.name → p ≡ q → size ≡ length stream → phase ≡ (state_of q on_the_bench false stream).phase
-    → total ≡ words_sum (frame_at p frames) (addresses_in p) % 2 ^ 32 → AreSame (frame_at q frames) (memory_in q on_the_bench stream) → none ≡ []
+    → total ≡ words_sum (frame_at p frames) (addresses_in p) % 2 ^ 32 → HaveSameFrames (frame_at q frames) (memory_in q on_the_bench stream) → none ≡ []
     → text ≡ none ++ summary_text name seed (record { planned = planned; size = size; phase = phase; sum = total }) → text ≡ played_summary q seed planned stream
 summary_is p q name seed planned size phase total frames stream none text a d s f t same z e =
     let sums : total ≡ words_sum (memory_in q on_the_bench stream) (addresses_in q) % 2 ^ 32 =

@@ -9,7 +9,7 @@ use Rattle.x7_packets.specs.History.{History, command_held, entry, history_of}
 use Rattle.x7_packets.specs.Reading.{is_synced}
 use Rattle.x7_part.specs.Part.{PartData}
 use Rattle.x7_startup.specs.Startup.{StartupProgress}
-use Rattle.x7_memory.specs.FrameMap.{AreSame, FrameMap}
+use Rattle.x7_memory.specs.FrameMap.{HaveSameFrames, FrameMap}
 use Rattle.x7_regs.specs.Control.{forbids_reading}
 use Rattle.x7_flow.specs.Controls.{ctl0_held}
 use Rattle.x7_flow.specs.FrameMemory.{memory_of}
@@ -71,7 +71,7 @@ ready_check part kept startup h n m r = record {
 
 -- pieces through which the device goes on: what it has after them, DESYNC and the no-ops
 pub record HasPlayed (part : PartData) (kept : Kept) (startup : StartupProgress) (bytes stream : List ℕ) (m : FrameMap) : Type 0 where
-  pub memory : AreSame (memory_in part kept (bytes ++ stream)) m
+  pub memory : HaveSameFrames (memory_in part kept (bytes ++ stream)) m
   pub phase_is : (wrapped : Bool) → (state_of part kept wrapped (bytes ++ stream)).phase ≡ phase_by part startup
   pub lines_are : (wrapped : Bool) → (state_of part kept wrapped (bytes ++ stream)).lines ≡ lines_by part startup
   pub rests_again : AtRest part kept (bytes ++ stream)
@@ -79,7 +79,7 @@ pub record HasPlayed (part : PartData) (kept : Kept) (startup : StartupProgress)
 pub played : (part : PartData) (kept : Kept) (startup : StartupProgress) (bytes : List ℕ) (pieces : List Piece) (noops : ℕ) (m : FrameMap) → AreBytes bytes → is_synced (reading_of bytes).place ≡ false → ArePieces pieces → ClearFirst pieces
     → (let n : ℕ = length bytes + 36 + 4 * pieces_length pieces in
     let h : History = written (length bytes + 36) pieces (history_of bytes) in
-    IsGoing part kept startup (entry (access.Write 4 13) (n + 8) ∷ h) (n + 8 + 4 * noops) → forbids_reading (ctl0_held h) ≡ false → AreSame (memory_of part h) m → HasPlayed part kept startup bytes (stream_of pieces noops) m)
+    IsGoing part kept startup (entry (access.Write 4 13) (n + 8) ∷ h) (n + 8 + 4 * noops) → forbids_reading (ctl0_held h) ≡ false → HaveSameFrames (memory_of part h) m → HasPlayed part kept startup bytes (stream_of pieces noops) m)
 played part kept startup bytes pieces noops m f s a c g r e =
     let all : List ℕ = bytes ++ stream_of pieces noops in
     let n : ℕ = length bytes + 36 + 4 * pieces_length pieces in

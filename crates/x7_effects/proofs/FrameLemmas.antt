@@ -21,7 +21,7 @@ use Rattle.x7_words.proofs.ListLemmas.{all_append}
 use Rattle.x7_part.specs.Slot.{addresses_among, slots, slots_in, slots_from}
 use Rattle.x7_part.specs.declared.slot.Slot.{Slot}
 use Rattle.x7_part.specs.declared.slot.Slot.TheVariants.{Frame, Pad, End}
-use Rattle.x7_memory.specs.FrameMap.{FrameMap, AreSame}
+use Rattle.x7_memory.specs.FrameMap.{FrameMap, HaveSameFrames}
 use Rattle.x7_memory.specs.PartFrames.{zeros, zero_frames}
 use Rattle.x7_memory.specs.Plan.{PlanRow, PlanData, planned, planned_addresses, IsPlan, total}
 use Rattle.x7_memory.proofs.FrameLemmas.{among_none}
@@ -161,7 +161,7 @@ some_or (Some x) z = refl
 -- over any memory with frames at the part's addresses alone they leave the plan over zeros
 pub whole_over : (part : PartData) (plan : PlanData) (memory : FrameMap) → IsPart part → IsPlan plan → plan.width ≡ frame_words part
     → ((far : ℕ) → Contains (planned_addresses plan.rows) far → Contains (addresses_in part) far) → ((far : ℕ) → (Contains (addresses_in part) far → ⊥) → memory far ≡ None)
-    → AreSame (put_over (written_frames part (get_or (addresses_in part) 0 0) (onto (joined (frames_at part plan (slots_in part))) [])) memory) (total part plan)
+    → HaveSameFrames (put_over (written_frames part (get_or (addresses_in part) 0 0) (onto (joined (frames_at part plan (slots_in part))) [])) memory) (total part plan)
 whole_over part plan memory is p e within outside far =
     let fars : List ℕ = addresses_in part in
     let same : written_frames part (get_or fars 0 0) (onto (joined (frames_at part plan (slots_in part))) []) ≡ map (row_of part plan) (reverse fars) = slots_land part plan is p e ∙ sym (map_of_reverse (row_of part plan) fars) in

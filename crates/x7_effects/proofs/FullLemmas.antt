@@ -14,7 +14,7 @@ use Rattle.x7_part.specs.Ranges.{IsPart}
 use Rattle.x7_part.specs.Slot.{slots_in, slots_from}
 use Rattle.x7_part.proofs.PartLemmas.{some_address}
 use Rattle.x7_part.proofs.SlotLemmas.{slots_all}
-use Rattle.x7_memory.specs.FrameMap.{AreSame, FrameMap}
+use Rattle.x7_memory.specs.FrameMap.{HaveSameFrames, FrameMap}
 use Rattle.x7_memory.specs.Plan.{IsPlan, PlanData, planned_addresses}
 use Rattle.x7_pipeline.specs.Runs.{written_frames, onto, put_over}
 use Rattle.x7_startup.specs.Startup.{Begun, NotBegun, StartupProgress, cor0_of}
@@ -133,7 +133,7 @@ shut_down part kept startup h n g =
 quiet : (h : History) (r w : ℕ) → (r == 1) ≡ false → (r == 4) ≡ false → IsQuiet h (access.Write r w)
 quiet h r w a b = record { start = rw (b, a) refl; shutdown = rw (b, a) refl; desync = rw (b, a) refl }
 
-pub settings_ready : (part : PartData) (kept : Kept) (startup : StartupProgress) (h : History) (n : ℕ) (m : FrameMap) → IsGoing part kept startup h n → AreSame (memory_of part h) m → forbids_reading (ctl0_held h) ≡ false → has_dec (ctl0_held h) ≡ false
+pub settings_ready : (part : PartData) (kept : Kept) (startup : StartupProgress) (h : History) (n : ℕ) (m : FrameMap) → IsGoing part kept startup h n → HaveSameFrames (memory_of part h) m → forbids_reading (ctl0_held h) ≡ false → has_dec (ctl0_held h) ≡ false
     → IsReady part kept startup (written n (Put item.Noop ∷ one Idcode part.idcode ∷ one Cor0 0x02003FE5 ∷ one Mask 0x501 ∷ one Ctl0 0x101 ∷ []) h) (n + 4 + 8 + 8 + 8 + 8) m
 settings_ready part kept startup h n m g same s d =
     let a : History = entry (access.Write 12 part.idcode) (n + 4 + 4 + 4) ∷ h in
@@ -213,7 +213,7 @@ full_plays part kept bytes plan f r is p e within =
     let down : History = written n (Put item.Noop ∷ command Shutdown ∷ command Rcrc ∷ []) h in
     let k : ℕ = n + 4 + 8 + 8 in
     let shut : IsGoing part kept NotBegun down k = shut_down part kept startup h n going in
-    let same : AreSame (memory_of part down) m = quiet_one part _ (access.Write 4 7) _ m refl (quiet_one part h (access.Write 4 11) _ m refl (λ x. refl)) in
+    let same : HaveSameFrames (memory_of part down) m = quiet_one part _ (access.Write 4 7) _ m refl (quiet_one part h (access.Write 4 11) _ m refl (λ x. refl)) in
     let set : History = written k (Put item.Noop ∷ one Idcode part.idcode ∷ one Cor0 0x02003FE5 ∷ one Mask 0x501 ∷ one Ctl0 0x101 ∷ []) down in
     let ready : IsReady part kept NotBegun set (k + 4 + 8 + 8 + 8 + 8) m = settings_ready part kept NotBegun down k m shut same r.sbits (no_dec part kept h (length bytes) r.no_stop) in
     let at : ℕ = k + 4 + 8 + 8 + 8 + 8 in
@@ -231,7 +231,7 @@ full_plays part kept bytes plan f r is p e within =
     let ended : IsGoing part kept full_startup (entry (access.Write 4 13) (data_at + 8 + 8 + 8 + 8 + 8) ∷ whole) (data_at + 8 + 8 + 8 + 8 + 8 + 4 * 16) = starts part kept checked (data_at + 8) 16 check.going check.matched cor0 (omega arith) in
     let pieces : List Piece = full_pieces part plan in
     let last : data_at + 8 + 8 + 8 + 8 ≡ n + 4 * pieces_length pieces = omega arith in
-    let memory : AreSame (memory_of part whole) (put_over (written_frames part first (onto ws [])) m) =
+    let memory : HaveSameFrames (memory_of part whole) (put_over (written_frames part first (onto ws [])) m) =
     quiet_one part _ (access.Write 0 _) _ _ refl (quiet_one part _ (access.Write 4 5) _ _ refl (quiet_one part checked (access.Write 4 3) _ _ refl check.memory)) in
     let all : HasPlayed part kept full_startup bytes (stream_of pieces 16) (put_over (written_frames part first (onto ws [])) m) =
     played part kept full_startup bytes pieces 16 (put_over (written_frames part first (onto ws [])) m) f r.searching (full_fits part plan is p e (have_words plan.rows p.each)) (full_clears part plan)

@@ -7,14 +7,14 @@ use Rattle.std.proofs.lemmas.Bool.{cases_eq}
 use Rattle.std.proofs.lemmas.Bool.Decides.{nat_tests}
 use Rattle.x7_words.proofs.ListLemmas.{all_append, all_prefix, all_back}
 use Rattle.x7_part.specs.Part.{PartData}
-use Rattle.x7_memory.specs.FrameMap.{FrameMap, override, AreSame}
+use Rattle.x7_memory.specs.FrameMap.{FrameMap, override, HaveSameFrames}
 use Rattle.x7_memory.specs.Plan.{PlanRow, planned, planned_addresses, AreInOrder}
 use Rattle.x7_memory.proofs.PlanLemmas.{planned_here, planned_after, order_tail}
 use Rattle.x7_memory.proofs.MapLemmas.{override_same}
 use Rattle.x7_pipeline.specs.Runs.{put_over}
 use Rattle.x7_pipeline.proofs.LawLemmas.{put_twice}
 use Rattle.x7_planner.specs.PartialStream.{Section, Copies, Rows}
-use Rattle.x7_planner.specs.PartialStream.{with_content, is_shared, leads_group, groups_led, rows_not_shared, follows, with_row, runs_of, sections_of}
+use Rattle.x7_planner.specs.PartialStream.{with_content, is_shared, is_first_of_group, groups_led, rows_not_shared, follows, with_row, runs_of, sections_of}
 use Rattle.x7_planner.specs.PartialStream.{joined_runs, IsRunOfRows, AreLongest, pairs_of}
 use Rattle.x7_planner.proofs.ContentLemmas.{same_words_true, same_words_own}
 use Rattle.x7_effects.proofs.Groups.{put_sections}
@@ -78,7 +78,7 @@ unfolding planned
 uncovered [] pairs far c n = refl
 uncovered (q ∷ rows) pairs far c n = planned_after q rows far (λ e. n (subst (λ (x : ℕ). Names x pairs) (sym e) c.0)) ∙ uncovered rows pairs far c.1 n
 
-pub same_map : (rows pairs : List PlanRow) → Agree rows pairs → Cover rows pairs → AreSame (planned pairs) (planned rows)
+pub same_map : (rows pairs : List PlanRow) → Agree rows pairs → Cover rows pairs → HaveSameFrames (planned pairs) (planned rows)
 same_map rows pairs a c far = elim (names_or_not far pairs) [
   | inl n ↦ named_same rows pairs far a n
   | inr n ↦ unnamed pairs far n ∙ sym (uncovered rows pairs far c n)
@@ -112,7 +112,7 @@ abbrev pub newest : List Section → List PlanRow
 newest [] = []
 newest (s ∷ sections) = newest sections ++ reverse (pairs_of s)
 
-put_all : (sections : List Section) (memory : FrameMap) → AreSame (put_sections memory sections) (put_over (newest sections) memory)
+put_all : (sections : List Section) (memory : FrameMap) → HaveSameFrames (put_sections memory sections) (put_over (newest sections) memory)
 unfolding planned
 put_all [] memory far = refl
 put_all (s ∷ sections) memory far =
@@ -143,7 +143,7 @@ cover_newest (q ∷ rows) sections c = (newest_names q.far sections c.0, cover_n
 
 -- sections whose pairs agree with rows and name each of them put just the rows
 pub sections_put : (rows : List PlanRow) (sections : List Section) (memory : FrameMap) → Agree rows (flat_map pairs_of sections) → Cover rows (flat_map pairs_of sections)
-    → AreSame (put_sections memory sections) (override memory (planned rows))
+    → HaveSameFrames (put_sections memory sections) (override memory (planned rows))
 sections_put rows sections memory a c far =
     put_all sections memory far
     ∙ override_same memory memory (planned (newest sections)) (planned rows) (λ x. refl) (same_map rows (newest sections) (newest_agrees rows sections a) (cover_newest rows sections c)) far
@@ -163,7 +163,7 @@ content_agrees rows (q ∷ qs) words a = by_test (bytes_eq q.words words) refl (
 
 groups_agree : (all qs : List PlanRow) → Agree all all → Agree all (flat_map pairs_of (groups_led all qs))
 groups_agree all [] a = tt
-groups_agree all (r ∷ qs) a = by_test (leads_group all r) (groups_agree all qs a)
+groups_agree all (r ∷ qs) a = by_test (is_first_of_group all r) (groups_agree all qs a)
   where
     by_test : (b : Bool) → Agree all (flat_map pairs_of (groups_led all qs)) → Agree all (flat_map pairs_of (if b then Copies r.words (planned_addresses (with_content r.words all)) ∷ groups_led all qs else groups_led all qs))
     by_test true ih = all_append (λ p. planned all p.far ≡ Some p.words) (Pairs r.words (with_content r.words all)) (flat_map pairs_of (groups_led all qs)) (content_agrees all all r.words a) ih
@@ -237,7 +237,7 @@ content_led words (r ∷ qs) h = by_test (bytes_eq r.words words) refl h (conten
     by_test false t h ih = let l : LeadsContent words qs = ih h in record { row = l.row; there = inr l.there; has = l.has; first = rw t l.first }
 
 -- the group that a row leads is there, and names what has its content
-group_names : (all qs : List PlanRow) (r : PlanRow) (far : ℕ) → IsIn r qs → leads_group all r ≡ true → Names far (Pairs r.words (with_content r.words all)) → Names far (flat_map pairs_of (groups_led all qs))
+group_names : (all qs : List PlanRow) (r : PlanRow) (far : ℕ) → IsIn r qs → is_first_of_group all r ≡ true → Names far (Pairs r.words (with_content r.words all)) → Names far (flat_map pairs_of (groups_led all qs))
 group_names all [] r far i t n = absurd i
 group_names all (q ∷ qs) r far i t n = by_place i (λ j. group_names all qs r far j t n)
   where
@@ -250,8 +250,8 @@ group_names all (q ∷ qs) r far i t n = by_place i (λ j. group_names all qs r 
     in_rest false m = m
 
     by_place : (q ≡ r) ⊎ IsIn r qs → (IsIn r qs → Names far (flat_map pairs_of (groups_led all qs))) → Names far (flat_map pairs_of (groups_led all (q ∷ qs)))
-    by_place (inl e) ih = here (leads_group all q) (ap (leads_group all) e ∙ t) (subst (λ (x : PlanRow). Names far (Pairs x.words (with_content x.words all))) (sym e) n)
-    by_place (inr j) ih = in_rest (leads_group all q) (ih j)
+    by_place (inl e) ih = here (is_first_of_group all q) (ap (is_first_of_group all) e ∙ t) (subst (λ (x : PlanRow). Names far (Pairs x.words (with_content x.words all))) (sym e) n)
+    by_place (inr j) ih = in_rest (is_first_of_group all q) (ih j)
 
 shared_long : (all : List PlanRow) (q : PlanRow) → is_shared all q ≡ true → 0 < length (with_content q.words all)
 shared_long all q t = grind (arith, nat_tests)
@@ -261,7 +261,7 @@ shared_named all q i t =
     let l : LeadsContent q.words all = content_led q.words all (shared_long all q t) in
     let shared : is_shared all l.row ≡ true = rw l.has t in
     let first : get_or (planned_addresses (with_content l.row.words all)) 0 0 ≡ l.row.far = rw l.has l.first in
-    let leads : leads_group all l.row ≡ true = rw (shared, eq-eqb (get_or (planned_addresses (with_content l.row.words all)) 0 0) l.row.far first) refl in
+    let leads : is_first_of_group all l.row ≡ true = rw (shared, eq-eqb (get_or (planned_addresses (with_content l.row.words all)) 0 0) l.row.far first) refl in
     let names : Names q.far (Pairs l.row.words (with_content l.row.words all)) = rw l.has (content_names q.words q all i refl) in
     group_names all all l.row q.far l.there leads names
 
@@ -287,7 +287,7 @@ pub sections_cover : (part : PartData) (rows : List PlanRow) → Cover rows (fla
 sections_cover part rows = rw (sections_pairs part rows) (all_rows_named rows rows (flat_map pairs_of (groups_led rows rows) ++ rows_not_shared rows rows) (λ q i. row_named rows q (is_shared rows q) refl i) (λ q i. i))
 
 -- the sections of a plan put just the plan
-pub plan_put : (part : PartData) (rows : List PlanRow) (memory : FrameMap) → AreInOrder rows → AreSame (put_sections memory (sections_of part rows)) (override memory (planned rows))
+pub plan_put : (part : PartData) (rows : List PlanRow) (memory : FrameMap) → AreInOrder rows → HaveSameFrames (put_sections memory (sections_of part rows)) (override memory (planned rows))
 plan_put part rows memory o = sections_put rows (sections_of part rows) memory (sections_agree part rows o) (sections_cover part rows)
 
 -- the runs are the longest

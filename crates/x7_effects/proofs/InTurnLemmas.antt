@@ -7,7 +7,7 @@ use Rattle.x7_words.proofs.ListLemmas.{all_append}
 use Rattle.x7_crc.specs.Checker.{check_of_bytes}
 use Rattle.x7_part.specs.Part.{PartData}
 use Rattle.x7_part.specs.Ranges.{IsPart}
-use Rattle.x7_memory.specs.FrameMap.{FrameMap, AreSame, override}
+use Rattle.x7_memory.specs.FrameMap.{FrameMap, HaveSameFrames, override}
 use Rattle.x7_memory.specs.Plan.{IsPlanFor, PlanData, PlanRow, planned, total}
 use Rattle.x7_planner.specs.FullStream.{full_pieces, full_stream}
 use Rattle.x7_planner.specs.PartialStream.{partial_ending, partial_opening, partial_stream, section_words, sections_of}
@@ -46,7 +46,7 @@ partial_fits part bytes rows f =
 
 -- a read stream after bytes that read nothing out and left this memory
 reads_back : (part : PartData) (kept : Kept) (bytes written : List ℕ) (m : FrameMap) (far n : ℕ) → AreBytes written → AtRest part kept written → IsPart part → CanRead part far n
-    → reads_of part kept written ≡ reads_of part kept bytes → AreSame (memory_in part kept written) m → ReadsBack (device_after part kept bytes) written m far n
+    → reads_of part kept written ≡ reads_of part kept bytes → HaveSameFrames (memory_in part kept written) m → ReadsBack (device_after part kept bytes) written m far n
 reads_back part kept bytes written m far n f r is can none same =
     let read : PlaysRead (device_after part kept written) (read_stream part far n) far n = read_law part kept written far n f r is can in
     record {

@@ -7,7 +7,7 @@ use Rattle.x7_words.specs.Word.{AreWords}
 use Rattle.x7_packets.specs.PacketWords.{no_op, type1_read_header, type1_write_header, type2_read_header, type2_write_header}
 use Rattle.x7_packets.specs.declared.header.Step.{Step}
 use Rattle.x7_packets.specs.declared.header.Step.TheVariants as step
-use Rattle.x7_packets.specs.Packet.{Packet, EachPacket, IsPacket, IsWhole, NoneEnds, OnlyLastEnds, latest_after, count_of, named_by, words, payload_steps, stepped, meaning, ended, last_ends}
+use Rattle.x7_packets.specs.Packet.{Packet, EachPacket, IsPacket, IsWhole, NoneEnds, OnlyLastMayEnd, latest_after, count_of, register_named_by, words, payload_steps, stepped, meaning, ended, last_ends}
 use Rattle.x7_packets.specs.Machine.{AllWhole}
 use Rattle.x7_packets.specs.History as access
 use Rattle.x7_packets.specs.History.{History, entry, entered, entered_all}
@@ -42,7 +42,7 @@ item_packets (ReadLong r n) = packet (type1_read_header r 0) (step.Read r 0) [] 
 abbrev pub items_packets : List Item → List Packet
 items_packets items = flat_map item_packets items
 
-only_of_none : (r : ℕ) (ws : List ℕ) → NoneEnds r ws → OnlyLastEnds r ws
+only_of_none : (r : ℕ) (ws : List ℕ) → NoneEnds r ws → OnlyLastMayEnd r ws
 only_of_none r [] n = tt
 only_of_none r (w ∷ []) n = tt
 only_of_none r (w ∷ x ∷ ws) n = (n.0, only_of_none r (x ∷ ws) n.1)
@@ -99,7 +99,7 @@ none_last r (w ∷ x ∷ ws) n = none_last r (x ∷ ws) n.1
 
 pub whole_goes_on : (l : Option ℕ) (ps : List Packet) → AllWhole l ps → ended ps ≡ false
 whole_goes_on l [] a = refl
-whole_goes_on l (p ∷ []) a = none_last (named_by p.step) p.payload a.1.none_ends
+whole_goes_on l (p ∷ []) a = none_last (register_named_by p.step) p.payload a.1.none_ends
 whole_goes_on l (p ∷ q ∷ ps) a = whole_goes_on (latest_after l p.step) (q ∷ ps) a.2
 
 -- the words of the packets are those of the items
@@ -135,7 +135,7 @@ item_enters place (ReadLong r n) h f = some_read (place + 4 + 4) r n h f.1 ∙ a
 
 pub length_stepped : (ps : List Packet) → length (flat_map stepped ps) ≡ length (flat_map words ps)
 length_stepped [] = refl
-length_stepped (p ∷ ps) = omega (arith, length_stepped ps, length-append (stepped p) (flat_map stepped ps), length-append (words p) (flat_map words ps), length_payload (named_by p.step) p.payload)
+length_stepped (p ∷ ps) = omega (arith, length_stepped ps, length-append (stepped p) (flat_map stepped ps), length-append (words p) (flat_map words ps), length_payload (register_named_by p.step) p.payload)
   where
     length_payload : (r : ℕ) (ws : List ℕ) → length (payload_steps r ws) ≡ length ws
     length_payload r [] = refl

@@ -7,7 +7,7 @@ use Rattle.x7_memory.proofs.PlanLemmas.{order_tail}
 use Rattle.x7_planner.proofs.RunLemmas.{all_rows}
 use Rattle.x7_part.specs.Part.{PartData}
 use Rattle.x7_memory.specs.Plan.{AreApart, AreInOrder, PlanRow, planned, planned_addresses}
-use Rattle.x7_planner.specs.PartialStream.{Copies, WritesOnce, groups_led, is_shared, leads_group, rows_not_shared, pairs_in, sections_of, with_content}
+use Rattle.x7_planner.specs.PartialStream.{Copies, WritesOnce, groups_led, is_shared, is_first_of_group, rows_not_shared, pairs_in, sections_of, with_content}
 use Rattle.x7_effects.proofs.GroupLemmas.{Agree, Names, Pairs, content_agrees, later, names_either, own, sections_agree, sections_cover, sections_pairs}
 
 -- no address comes twice
@@ -70,17 +70,17 @@ content_at rows (q ∷ qs) words far a (inr n) = content_at rows qs words far a.
 record LedBy (all qs : List PlanRow) (far : ℕ) : Type 0 where
   row : PlanRow
   there : Names row.far qs
-  leads : leads_group all row ≡ true
+  leads : is_first_of_group all row ≡ true
   named : Names far (Pairs row.words (with_content row.words all))
 
 led_by : (all qs : List PlanRow) (far : ℕ) → Names far (pairs_in (groups_led all qs)) → LedBy all qs far
 led_by all [] far n = absurd n
-led_by all (q ∷ qs) far n = by (leads_group all q) refl n (λ m. led_by all qs far m)
+led_by all (q ∷ qs) far n = by (is_first_of_group all q) refl n (λ m. led_by all qs far m)
   where
     in_rest : LedBy all qs far → LedBy all (q ∷ qs) far
     in_rest l = record { row = l.row; there = inr l.there; leads = l.leads; named = l.named }
 
-    by : (b : Bool) → leads_group all q ≡ b → Names far (pairs_in (if b then Copies q.words (planned_addresses (with_content q.words all)) ∷ groups_led all qs else groups_led all qs)) → (Names far (pairs_in (groups_led all qs)) → LedBy all qs far) → LedBy all (q ∷ qs) far
+    by : (b : Bool) → is_first_of_group all q ≡ b → Names far (pairs_in (if b then Copies q.words (planned_addresses (with_content q.words all)) ∷ groups_led all qs else groups_led all qs)) → (Names far (pairs_in (groups_led all qs)) → LedBy all qs far) → LedBy all (q ∷ qs) far
     by true e n ih = elim (names_either far (Pairs q.words (with_content q.words all)) (pairs_in (groups_led all qs)) n) [
       | inl m ↦ record { row = q; there = inl refl; leads = e; named = m }
       | inr m ↦ in_rest (ih m)
@@ -91,10 +91,10 @@ both_true : (a b : Bool) → (a && b) ≡ true → (a ≡ true) × (b ≡ true)
 both_true true b e = (refl, e)
 both_true false b e = absurd (cc)
 
-shared_of : (all : List PlanRow) (r : PlanRow) → leads_group all r ≡ true → is_shared all r ≡ true
+shared_of : (all : List PlanRow) (r : PlanRow) → is_first_of_group all r ≡ true → is_shared all r ≡ true
 shared_of all r e = (both_true (is_shared all r) (get_or (planned_addresses (with_content r.words all)) 0 0 == r.far) e).0
 
-first_of : (all : List PlanRow) (r : PlanRow) → leads_group all r ≡ true → get_or (planned_addresses (with_content r.words all)) 0 0 ≡ r.far
+first_of : (all : List PlanRow) (r : PlanRow) → is_first_of_group all r ≡ true → get_or (planned_addresses (with_content r.words all)) 0 0 ≡ r.far
 first_of all r e = eqb-true (get_or (planned_addresses (with_content r.words all)) 0 0) r.far (both_true (is_shared all r) (get_or (planned_addresses (with_content r.words all)) 0 0 == r.far) e).1
 
 same_some : (xs ys : List ℕ) (o : Option (List ℕ)) → o ≡ Some xs → o ≡ Some ys → xs ≡ ys
@@ -104,9 +104,9 @@ same_some xs ys o e f = let g : Some xs ≡ Some ys = sym e ∙ f in cc
 
 groups_apart : (all qs : List PlanRow) → Agree all all → Apart all → Apart qs → Apart (pairs_in (groups_led all qs))
 groups_apart all [] a o p = tt
-groups_apart all (q ∷ qs) a o p = by (leads_group all q) refl (groups_apart all qs a o p.1)
+groups_apart all (q ∷ qs) a o p = by (is_first_of_group all q) refl (groups_apart all qs a o p.1)
   where
-    none : leads_group all q ≡ true → (far : ℕ) → Names far (Pairs q.words (with_content q.words all)) → Names far (pairs_in (groups_led all qs)) → ⊥
+    none : is_first_of_group all q ≡ true → (far : ℕ) → Names far (Pairs q.words (with_content q.words all)) → Names far (pairs_in (groups_led all qs)) → ⊥
     none e far n m =
         let l : LedBy all qs far = led_by all qs far m in
         let here : planned all far ≡ Some q.words = content_at all (with_content q.words all) q.words far (content_agrees all all q.words a) n in
@@ -115,7 +115,7 @@ groups_apart all (q ∷ qs) a o p = by (leads_group all q) refl (groups_apart al
         let same : q.far ≡ l.row.far = sym (first_of all q e) ∙ ap (λ t. get_or (planned_addresses (with_content t all)) 0 0) words ∙ first_of all l.row l.leads in
         p.0 (subst (λ (x : ℕ). Names x qs) (sym same) l.there)
 
-    by : (b : Bool) → leads_group all q ≡ b → Apart (pairs_in (groups_led all qs)) → Apart (pairs_in (if b then Copies q.words (planned_addresses (with_content q.words all)) ∷ groups_led all qs else groups_led all qs))
+    by : (b : Bool) → is_first_of_group all q ≡ b → Apart (pairs_in (groups_led all qs)) → Apart (pairs_in (if b then Copies q.words (planned_addresses (with_content q.words all)) ∷ groups_led all qs else groups_led all qs))
     by true e ih = apart_append (Pairs q.words (with_content q.words all)) (pairs_in (groups_led all qs)) (content_apart q.words all o) ih (none e)
     by false e ih = ih
 

@@ -16,7 +16,7 @@ use Rattle.x7_part.specs.declared.slot.Slot.{Slot}
 use Rattle.x7_part.specs.declared.slot.Slot.TheVariants.{Frame, Pad, End}
 use Rattle.x7_part.proofs.RowLemmas.{part_rises}
 use Rattle.x7_memory.specs.Plan.{PlanRow, planned_addresses}
-use Rattle.x7_pipeline.specs.Runs.{frames_of, in_slots, written_frames, onto, but_newest}
+use Rattle.x7_pipeline.specs.Runs.{frames_of, in_slots, written_frames, onto, without_newest}
 use Rattle.x7_pipeline.specs.Copies.{newest_of}
 use Rattle.x7_pipeline.proofs.SlotLemmas.{addresses_among_slots, slot_among}
 use Rattle.x7_planner.proofs.FewLemmas.{rises_in, rises_rest, by_rows}
@@ -24,7 +24,7 @@ use Rattle.x7_effects.proofs.Frames.{joined, AreWide, row_frames}
 use Rattle.x7_planner.specs.FullStream.{zero_frame}
 use Rattle.x7_planner.specs.PartialStream.{Copies, Rows}
 use Rattle.x7_effects.proofs.Streams.{HaveWords, IsSection, AreSections}
-use Rattle.x7_planner.specs.PartialStream.{with_content, leads_group, groups_led, rows_not_shared, is_frame, follows, with_row, runs_of, sections_of}
+use Rattle.x7_planner.specs.PartialStream.{with_content, is_first_of_group, groups_led, rows_not_shared, is_frame, follows, with_row, runs_of, sections_of}
 use Rattle.x7_effects.proofs.Groups.{IsPlaced, LandsAs, plan_pieces}
 use Rattle.x7_flow.proofs.StreamLemmas.{whole_cut}
 use Rattle.x7_effects.proofs.FrameLemmas.{rows_land}
@@ -142,11 +142,11 @@ copies_land : (part : PartData) (words fars : List ℕ) → 0 < frame_words part
 unfolding written_frames in_slots
 copies_land part words fars some w =
     let one : frames_of (frame_words part) (onto words []) ≡ words ∷ [] = ap (λ t. frames_of (frame_words part) (onto t [])) (sym (append-nil words)) ∙ whole_cut part [] words some (w, tt) in
-    (ap (λ t. in_slots (slots_from part (get_or fars 0 0)) (but_newest t)) one, ap newest_of one)
+    (ap (λ t. in_slots (slots_from part (get_or fars 0 0)) (without_newest t)) one, ap newest_of one)
 
 groups_land : (part : PartData) (all qs : List PlanRow) → 0 < frame_words part → AllByRecursion (λ row. length row.words ≡ frame_words part) qs → AllByRecursion (LandsAs part) (groups_led all qs)
 groups_land part all [] some w = tt
-groups_land part all (r ∷ qs) some w = by_test (leads_group all r) (groups_land part all qs some w.1)
+groups_land part all (r ∷ qs) some w = by_test (is_first_of_group all r) (groups_land part all qs some w.1)
   where
     by_test : (b : Bool) → AllByRecursion (LandsAs part) (groups_led all qs) → AllByRecursion (LandsAs part) (if b then Copies r.words (planned_addresses (with_content r.words all)) ∷ groups_led all qs else groups_led all qs)
     by_test true ih = (copies_land part r.words (planned_addresses (with_content r.words all)) some w.0, ih)
@@ -178,7 +178,7 @@ addresses_words (r ∷ rows) a = (a.0, addresses_words rows a.1)
 
 groups_fit : (part : PartData) (all qs : List PlanRow) → frame_words part < 2 ^ 27 → AllByRecursion (λ row. row.far < 2 ^ 32) all → AllByRecursion (λ row. AreWords row.words) qs → AllByRecursion (λ row. length row.words ≡ frame_words part) qs → AreSections part (groups_led all qs)
 groups_fit part all [] n f a w = tt
-groups_fit part all (r ∷ qs) n f a w = by_test (leads_group all r) (groups_fit part all qs n f a.1 w.1)
+groups_fit part all (r ∷ qs) n f a w = by_test (is_first_of_group all r) (groups_fit part all qs n f a.1 w.1)
   where
     by_test : (b : Bool) → AreSections part (groups_led all qs) → AreSections part (if b then Copies r.words (planned_addresses (with_content r.words all)) ∷ groups_led all qs else groups_led all qs)
     by_test true ih = ((omega (arith, w.0), a.0, addresses_words (with_content r.words all) (of_content (λ row. row.far < 2 ^ 32) r.words all f)), ih)

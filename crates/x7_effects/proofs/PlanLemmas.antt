@@ -21,7 +21,7 @@ use Rattle.x7_effects.proofs.Frames.{joined, row_frames, row_slots}
 use Rattle.x7_planner.specs.FullStream.{zero_frame}
 use Rattle.x7_planner.specs.PartialStream.{Rows, Section}
 use Rattle.x7_planner.specs.PartialStream as section
-use Rattle.x7_planner.specs.PartialStream.{groups_led, is_shared, leads_group, rows_not_shared, runs_of, sections_of, with_content}
+use Rattle.x7_planner.specs.PartialStream.{groups_led, is_shared, is_first_of_group, rows_not_shared, runs_of, sections_of, with_content}
 use Rattle.x7_effects.proofs.Groups.{IsPlaced}
 use Rattle.x7_effects.proofs.FormLemmas.{joined_length}
 use Rattle.x7_effects.proofs.FrameLemmas.{EndsInPad, address_low, slots_end}
@@ -110,9 +110,9 @@ shared_some false b n e f = absurd (cc)
 
 groups_stand : (part : PartData) (all qs : List PlanRow) → IsPart part → AllByRecursion (λ row. Contains (addresses_in part) row.far) all → AllByRecursion (λ row. length row.words ≡ frame_words part) qs → AllByRecursion (Stands part) (groups_led all qs)
 groups_stand part all [] is h w = tt
-groups_stand part all (r ∷ qs) is h w = by (leads_group all r) refl (groups_stand part all qs is h w.1)
+groups_stand part all (r ∷ qs) is h w = by (is_first_of_group all r) refl (groups_stand part all qs is h w.1)
   where
-    by : (b : Bool) → leads_group all r ≡ b → AllByRecursion (Stands part) (groups_led all qs) → AllByRecursion (Stands part) (if b then section.Copies r.words (planned_addresses (with_content r.words all)) ∷ groups_led all qs else groups_led all qs)
+    by : (b : Bool) → is_first_of_group all r ≡ b → AllByRecursion (Stands part) (groups_led all qs) → AllByRecursion (Stands part) (if b then section.Copies r.words (planned_addresses (with_content r.words all)) ∷ groups_led all qs else groups_led all qs)
     by true e ih = (
       group_stands part r.words (with_content r.words all) is w.0 (shared_some (is_shared all r) (get_or (planned_addresses (with_content r.words all)) 0 0 == r.far) (length (with_content r.words all)) e refl)
           (of_content (λ row. Contains (addresses_in part) row.far) r.words all h),

@@ -29,7 +29,7 @@ use Rattle.x7_effects.proofs.Frames.{frame_of, frames_at, joined, row_frames}
 use Rattle.x7_planner.specs.FullStream.{zero_frame}
 use Rattle.x7_effects.proofs.Groups.{plan_pieces}
 use Rattle.x7_effects.proofs.Streams.{command, copy_pieces, full_pieces, full_stream, one, read_stream, stream_of, section_pieces, sections_pieces}
-use Rattle.x7_planner.specs.PartialStream.{Section, copy_words, frames_words, groups_led, leads_group, rows_not_shared, partial_stream, runs_of, section_words, sections_of, with_content}
+use Rattle.x7_planner.specs.PartialStream.{Section, copy_words, frames_words, groups_led, is_first_of_group, rows_not_shared, partial_stream, runs_of, section_words, sections_of, with_content}
 use Rattle.x7_planner.specs.PartialStream as section
 use Rattle.x7_effects.proofs.CheckingLemmas.{begins, checks_after, items_checked, pieces_fit}
 use Rattle.x7_effects.proofs.FormLemmas.{frames_long, full_fits, joined_length}
@@ -198,7 +198,7 @@ runs_width part (run ∷ runs) w = (w.0, runs_width part runs w.1)
 
 groups_width : (part : PartData) (all qs : List PlanRow) → AllByRecursion (λ row. length row.words ≡ frame_words part) qs → AllByRecursion (HasWidth part) (groups_led all qs)
 groups_width part all [] w = tt
-groups_width part all (r ∷ qs) w = by (leads_group all r) (groups_width part all qs w.1)
+groups_width part all (r ∷ qs) w = by (is_first_of_group all r) (groups_width part all qs w.1)
   where
     by : (b : Bool) → AllByRecursion (HasWidth part) (groups_led all qs) → AllByRecursion (HasWidth part) (if b then section.Copies r.words (planned_addresses (with_content r.words all)) ∷ groups_led all qs else groups_led all qs)
     by true ih = (w.0, ih)

@@ -15,7 +15,7 @@ use Rattle.x7_part.specs.Slot.{slots_in, slots_from, pads_after_row}
 use Rattle.x7_part.specs.declared.slot.Slot.{Slot}
 use Rattle.x7_part.specs.declared.slot.Slot.TheVariants.{Frame, Pad, End}
 use Rattle.x7_part.proofs.SlotLemmas.{slots_number, slots_split}
-use Rattle.x7_memory.specs.FrameMap.{AreSame, FrameMap}
+use Rattle.x7_memory.specs.FrameMap.{HaveSameFrames, FrameMap}
 use Rattle.x7_pipeline.specs.declared.fault.RunFault.{RunFault}
 use Rattle.x7_pipeline.specs.FarAsRead.{has_frame_at}
 use Rattle.x7_pipeline.specs.Fault.{address_fault}
@@ -52,16 +52,16 @@ use Rattle.x7_effects.proofs.WalkLemmas.{going_one, quiet_one}
 
 -- ---- the same words of the same memory
 
-slot_same : (part : PartData) (m k : FrameMap) (s : Slot) → AreSame m k → slot_words part m s ≡ slot_words part k s
+slot_same : (part : PartData) (m k : FrameMap) (s : Slot) → HaveSameFrames m k → slot_words part m s ≡ slot_words part k s
 slot_same part m k (Frame far) e = ap (λ o. unwrap_or o (replicate (frame_words part) 0)) (e far)
 slot_same part m k Pad e = refl
 slot_same part m k End e = refl
 
-slots_same : (part : PartData) (m k : FrameMap) (places : List Slot) → AreSame m k → flat_map (slot_words part m) places ≡ flat_map (slot_words part k) places
+slots_same : (part : PartData) (m k : FrameMap) (places : List Slot) → HaveSameFrames m k → flat_map (slot_words part m) places ≡ flat_map (slot_words part k) places
 slots_same part m k [] e = refl
 slots_same part m k (s ∷ places) e = ap (λ t. t ++ flat_map (slot_words part m) places) (slot_same part m k s e) ∙ ap (λ t. slot_words part k s ++ t) (slots_same part m k places e)
 
-pub along_same : (part : PartData) (m k : FrameMap) (far n : ℕ) → AreSame m k → words_along part m far n ≡ words_along part k far n
+pub along_same : (part : PartData) (m k : FrameMap) (far n : ℕ) → HaveSameFrames m k → words_along part m far n ≡ words_along part k far n
 along_same part m k far n e = ap (λ t. replicate (frame_words part) 0 ++ t) (slots_same part m k (take n (slots_from part far)) e)
 
 -- ---- a read that isn't refused
@@ -125,9 +125,9 @@ read_plays part kept bytes far n f r is has l =
     let none : why_at_access part kept c (access.Read 3 count) ≡ None = why_none part kept c (access.Read 3 count) refl (read_none part c count asks (ap (has_frame_at part) base ∙ t.1)) in
     let d : History = entry (access.Read 3 count) (at + 8) ∷ c in
     let read : IsGoing part kept startup d (at + 8) = going_access part kept startup c (access.Read 3 count) at (at + 8) (omega arith) loaded (record { start = refl; shutdown = refl; desync = refl }) none loaded.calm.off in
-    let same : AreSame (memory_of part c) (memory_of part h) =
+    let same : HaveSameFrames (memory_of part c) (memory_of part h) =
     quiet_one part b (access.Write 1 far) _ (memory_of part h) refl (quiet_one part a (access.Write 4 4) _ (memory_of part h) refl (quiet_one part h (access.Write 4 7) _ (memory_of part h) refl (λ x. refl))) in
-    let memory : AreSame (memory_of part d) (memory_of part h) = quiet_one part c (access.Read 3 count) (at + 8) (memory_of part h) refl same in
+    let memory : HaveSameFrames (memory_of part d) (memory_of part h) = quiet_one part c (access.Read 3 count) (at + 8) (memory_of part h) refl same in
     let pieces : List Piece = read_pieces part far n in
     let fits = read_fits part far n (omega (arith, is.words)) (address_small part far is has) room in
     let last : at + 8 ≡ place + 4 * pieces_length pieces = omega arith in

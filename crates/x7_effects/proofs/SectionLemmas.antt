@@ -9,7 +9,7 @@ use Rattle.x7_packets.specs.History.{History, command_held, entry}
 use Rattle.x7_startup.specs.Startup.{StartupProgress}
 use Rattle.x7_part.specs.Part.{PartData, frame_words}
 use Rattle.x7_part.specs.Slot.{slots_from}
-use Rattle.x7_memory.specs.FrameMap.{AreSame, FrameMap}
+use Rattle.x7_memory.specs.FrameMap.{HaveSameFrames, FrameMap}
 use Rattle.x7_memory.specs.Plan.{PlanRow, planned_addresses}
 use Rattle.x7_regs.specs.Command.{command_with}
 use Rattle.x7_regs.specs.declared.command.Command.{Command}
@@ -91,7 +91,7 @@ copy_one part kept startup far words h n m c t =
     ∙ copy_none part (flow_of part g).command (base_of part g) words (source_of part g) mfw source (ap (has_frame_at part) base ∙ t.1) in
     let second : IsGoing part kept startup (item_entered (n + 8) (Write 10 (0 ∷ [])) g) (n + 8 + 8) =
     going_one part kept startup g (n + 8) 10 0 (record { start = refl; shutdown = refl; desync = refl }) (copy_passes part kept g 0 c.ready.matched) fault first.calm.off first in
-    let puts : AreSame (memory_of part (item_entered (n + 8) (Write 10 (0 ∷ [])) g)) (put_over (record { far = loaded_base part far; words = words } ∷ []) (memory_of part h)) =
+    let puts : HaveSameFrames (memory_of part (item_entered (n + 8) (Write 10 (0 ∷ [])) g)) (put_over (record { far = loaded_base part far; words = words } ∷ []) (memory_of part h)) =
     copies_put part h far place (n + 8 + 4) 0 [] words allowed (ap (λ (k : ℕ). is_mfw (command_with k)) c.held_is ∙ mfw_with 2) c.source_is (ap (has_frame_at part) t.0 ∙ t.1) in
     let keeps = copies_keep part h far place (n + 8 + 4) (0 ∷ []) in
     record {

@@ -2,7 +2,7 @@
 use Rattle.std.proofs.Common.{◌≡◌, ◌/◌, ◌+◌, ◌-◌, ◌≤◌, ◌⊎◌, inl, inr, ℕ, Bool, true, false, Option, List, [], ◌∷◌, ◌++◌, refl, sym, ap, ap₂, subst, ◌∙◌, append-nil, arith}
 use Rattle.x7_packets.specs.History.{Access, History, entry}
 use Rattle.x7_part.specs.Part.{PartData}
-use Rattle.x7_startup.specs.Phases.{IsPhase, arrival, wait_of}
+use Rattle.x7_startup.specs.Phases.{IsPhase, first_tick_of, wait_of}
 use Rattle.x7_startup.specs.Startup.{Begun, Call, NotBegun, StartupProgress, cor0_of, is_armed, progress_of, since_shutdown}
 use Rattle.x7_startup.specs.Startup as call
 use Rattle.x7_startup.specs.Lines.{done_line, gts_line, gwe_line}
@@ -158,8 +158,8 @@ still_desynced part startup h access place cor0 e (inr s) =
 
 -- ---- the startup of a full stream: COR0 waits in no phase, so seven ticks end it
 
-no_waits : (lock matched : ℕ) → arrival (wait_of lock matched 0x02003FE5) 7 ≡ 7
-unfolding arrival
+no_waits : (lock matched : ℕ) → first_tick_of (wait_of lock matched 0x02003FE5) 7 ≡ 7
+unfolding first_tick_of
 no_waits lock matched = refl
 
 pub ends_in_seven : (part : PartData) (bytes : ℕ) → 28 ≤ bytes → phase_by part (Begun 0x02003FE5 bytes) ≡ 7

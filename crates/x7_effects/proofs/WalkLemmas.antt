@@ -9,7 +9,7 @@ use Rattle.x7_packets.specs.Packet.{payload_steps}
 use Rattle.x7_startup.specs.Startup.{StartupProgress}
 use Rattle.x7_part.specs.Part.{PartData, frame_words}
 use Rattle.x7_part.specs.Slot.{slots_from}
-use Rattle.x7_memory.specs.FrameMap.{AreSame, FrameMap}
+use Rattle.x7_memory.specs.FrameMap.{HaveSameFrames, FrameMap}
 use Rattle.x7_memory.specs.Plan.{PlanRow, planned}
 use Rattle.x7_memory.proofs.MapLemmas.{override_same}
 use Rattle.x7_pipeline.specs.FarAsRead.{has_frame_at, loaded_base}
@@ -43,10 +43,10 @@ going_one part kept startup h n r w q why fault off g =
     going_bytes part kept startup (entry (access.Write r w) (n + 4 + 4) ∷ h) (n + 4 + 4) (n + 8) (omega arith)
     (going_access part kept startup h (access.Write r w) n (n + 4 + 4) (omega arith) g q (why_none part kept h (access.Write r w) why fault) off)
 
-same_then : (l m n : FrameMap) → AreSame l m → AreSame m n → AreSame l n
+same_then : (l m n : FrameMap) → HaveSameFrames l m → HaveSameFrames m n → HaveSameFrames l n
 same_then l m n a b far = a far ∙ b far
 
-pub put_same : (xs ys : List PlanRow) (m n : FrameMap) → xs ≡ ys → AreSame m n → AreSame (put_over xs m) (put_over ys n)
+pub put_same : (xs ys : List PlanRow) (m n : FrameMap) → xs ≡ ys → HaveSameFrames m n → HaveSameFrames (put_over xs m) (put_over ys n)
 put_same xs ys m n e s = override_same m n (planned xs) (planned ys) s (λ far. ap (λ t. planned t far) e)
 
 -- ---- words of frame data
@@ -84,7 +84,7 @@ pub record IsReady (part : PartData) (kept : Kept) (startup : StartupProgress) (
   pub going : IsGoing part kept startup h n
   pub matched : has_idcode part.idcode h ≡ true
   pub allows : forbids_reading (ctl0_held h) ≡ false
-  pub memory : AreSame (memory_of part h) m
+  pub memory : HaveSameFrames (memory_of part h) m
 
 -- a device whose IDCODE was written and that may be written, after a command and a FAR load
 pub record IsLoaded (part : PartData) (kept : Kept) (startup : StartupProgress) (held far : ℕ) (h : History) (n : ℕ) (m : FrameMap) : Type 0 where
@@ -94,7 +94,7 @@ pub record IsLoaded (part : PartData) (kept : Kept) (startup : StartupProgress) 
   pub run_is : run_of part h ≡ []
 
 -- an access that writes neither FDRI nor MFWR
-pub quiet_one : (part : PartData) (h : History) (a : access.Access) (place : ℕ) (m : FrameMap) → (access.writes 2 a || access.writes 10 a) ≡ false → AreSame (memory_of part h) m → AreSame (memory_of part (entry a place ∷ h)) m
+pub quiet_one : (part : PartData) (h : History) (a : access.Access) (place : ℕ) (m : FrameMap) → (access.writes 2 a || access.writes 10 a) ≡ false → HaveSameFrames (memory_of part h) m → HaveSameFrames (memory_of part (entry a place ∷ h)) m
 quiet_one part h a place m q s = same_then (memory_of part (entry a place ∷ h)) (memory_of part h) m (quiet_memory part (entry a place ∷ []) h (q, tt)) s
 
 pub ready_load : (part : PartData) (kept : Kept) (startup : StartupProgress) (far : ℕ) (h : History) (n : ℕ) (m : FrameMap) → IsReady part kept startup h n m → loaded_base part far ≡ far
@@ -137,8 +137,8 @@ loaded_words part kept startup far h n m ws l a few =
     let going : IsGoing part kept startup g (n + 8 + 4 * length ws) = going_words part kept startup h (n + 8) ws l.ready.matched refused (going_bytes part kept startup h n (n + 8) (omega arith) l.ready.going) in
     let end : n + 8 + 4 * length ws ≡ n + 4 * piece_length (Put (WriteLong 2 ws)) = omega arith in
     let pairs : written_frames part (base_of part h) (onto ws []) ≡ written_frames part far (onto ws []) = ap (λ (x : ℕ). written_frames part x (onto ws [])) l.base_is in
-    let memory : AreSame (memory_of part g) (put_over (written_frames part (base_of part h) (onto ws [])) (memory_of part h)) =
-    subst (λ (x : History). AreSame (memory_of part x) (put_over (written_frames part (base_of part h) (onto ws [])) (memory_of part h))) same (words_memory part (n + 8) ws h t l.run_is) in
+    let memory : HaveSameFrames (memory_of part g) (put_over (written_frames part (base_of part h) (onto ws [])) (memory_of part h)) =
+    subst (λ (x : History). HaveSameFrames (memory_of part x) (put_over (written_frames part (base_of part h) (onto ws [])) (memory_of part h))) same (words_memory part (n + 8) ws h t l.run_is) in
     record {
       ready = record {
         going = subst (λ (k : ℕ). IsGoing part kept startup g k) end going;

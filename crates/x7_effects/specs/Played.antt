@@ -6,7 +6,7 @@ use Rattle.x7_part.specs.Part.{PartData}
 use Rattle.x7_part.specs.Ranges.{IsPart}
 use Rattle.x7_part.specs.declared.slot.Slot.{Slot}
 use Rattle.x7_part.specs.declared.slot.Slot.TheVariants.{Frame, Pad, End}
-use Rattle.x7_memory.specs.FrameMap.{AreSame, FrameMap, override}
+use Rattle.x7_memory.specs.FrameMap.{HaveSameFrames, FrameMap, override}
 use Rattle.x7_memory.specs.Plan.{IsPlanFor, PlanData, planned, total}
 use Rattle.x7_part.specs.Slot.{slots_from}
 use Rattle.x7_startup.specs.Phases.{last_phase}
@@ -101,7 +101,7 @@ pub record KeepsSettings (old new : Regs) : Type 0 where
 -- planned stream writes are as they were. The stream reads nothing out, there is no stop, and the device is at rest
 -- again.
 pub record PlaysFull (d : DeviceAfter) (stream : List ℕ) (plan : PlanData) : Type 0 where
-  pub memory : AreSame (memory_in d.part d.kept (d.bytes ++ stream)) (total d.part plan)
+  pub memory : HaveSameFrames (memory_in d.part d.kept (d.bytes ++ stream)) (total d.part plan)
   pub phase : (wrapped : Bool) → (state_of d.part d.kept wrapped (d.bytes ++ stream)).phase ≡ last_phase
   pub lines : (wrapped : Bool) → (state_of d.part d.kept wrapped (d.bytes ++ stream)).lines ≡ all_high
   pub registers : (wrapped : Bool) → KeepsUnwritten (state_of d.part d.kept wrapped d.bytes) (state_of d.part d.kept wrapped (d.bytes ++ stream))
@@ -111,7 +111,7 @@ pub record PlaysFull (d : DeviceAfter) (stream : List ℕ) (plan : PlanData) : T
 -- After a partial stream the memory is that before it, overridden by the plan, and phase, lines and settings stay. It
 -- reads nothing out, there is no stop, and the device is at rest again.
 pub record PlaysPartial (d : DeviceAfter) (stream : List ℕ) (plan : PlanData) : Type 0 where
-  pub memory : AreSame (memory_in d.part d.kept (d.bytes ++ stream)) (override (memory_in d.part d.kept d.bytes) (planned plan.rows))
+  pub memory : HaveSameFrames (memory_in d.part d.kept (d.bytes ++ stream)) (override (memory_in d.part d.kept d.bytes) (planned plan.rows))
   pub phase : (wrapped : Bool) → (state_of d.part d.kept wrapped (d.bytes ++ stream)).phase ≡ (state_of d.part d.kept wrapped d.bytes).phase
   pub lines : (wrapped : Bool) → (state_of d.part d.kept wrapped (d.bytes ++ stream)).lines ≡ (state_of d.part d.kept wrapped d.bytes).lines
   pub registers : (wrapped : Bool) → KeepsSettings (state_of d.part d.kept wrapped d.bytes) (state_of d.part d.kept wrapped (d.bytes ++ stream))
@@ -122,7 +122,7 @@ pub record PlaysPartial (d : DeviceAfter) (stream : List ℕ) (plan : PlanData) 
 -- stop, and the device is at rest again.
 pub record PlaysRead (d : DeviceAfter) (stream : List ℕ) (far n : ℕ) : Type 0 where
   pub reads : reads_of d.part d.kept (d.bytes ++ stream) ≡ reads_of d.part d.kept d.bytes ++ words_along d.part (memory_in d.part d.kept d.bytes) far n
-  pub memory : AreSame (memory_in d.part d.kept (d.bytes ++ stream)) (memory_in d.part d.kept d.bytes)
+  pub memory : HaveSameFrames (memory_in d.part d.kept (d.bytes ++ stream)) (memory_in d.part d.kept d.bytes)
   pub phase : (wrapped : Bool) → (state_of d.part d.kept wrapped (d.bytes ++ stream)).phase ≡ (state_of d.part d.kept wrapped d.bytes).phase
   pub lines : (wrapped : Bool) → (state_of d.part d.kept wrapped (d.bytes ++ stream)).lines ≡ (state_of d.part d.kept wrapped d.bytes).lines
   pub registers : (wrapped : Bool) → KeepsSettings (state_of d.part d.kept wrapped d.bytes) (state_of d.part d.kept wrapped (d.bytes ++ stream))
@@ -134,12 +134,12 @@ pub record PlaysRead (d : DeviceAfter) (stream : List ℕ) (far n : ℕ) : Type 
 -- stream of n slots from an address on reads that memory out, and leaves it.
 pub record ReadsBack (d : DeviceAfter) (written : List ℕ) (memory : FrameMap) (far n : ℕ) : Type 0 where
   pub reads : reads_of d.part d.kept (written ++ read_stream d.part far n) ≡ reads_of d.part d.kept d.bytes ++ words_along d.part memory far n
-  pub same : AreSame (memory_in d.part d.kept (written ++ read_stream d.part far n)) memory
+  pub same : HaveSameFrames (memory_in d.part d.kept (written ++ read_stream d.part far n)) memory
   pub phase : (wrapped : Bool) → (state_of d.part d.kept wrapped (written ++ read_stream d.part far n)).phase ≡ (state_of d.part d.kept wrapped written).phase
   pub rests : AtRest d.part d.kept (written ++ read_stream d.part far n)
 
 -- After the full stream of a plan and the partial stream of a later one the memory is the later plan over the earlier
 -- one over zeros, and startup has ended.
 pub record PlaysBoth (p : PlannedPlay) (later : PlanData) : Type 0 where
-  pub memory : AreSame (memory_in p.device.part p.device.kept (bytes_with_both p later)) (override (total p.device.part p.plan) (planned later.rows))
+  pub memory : HaveSameFrames (memory_in p.device.part p.device.kept (bytes_with_both p later)) (override (total p.device.part p.plan) (planned later.rows))
   pub phase : (wrapped : Bool) → (state_of p.device.part p.device.kept wrapped (bytes_with_both p later)).phase ≡ last_phase

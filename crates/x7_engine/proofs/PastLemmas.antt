@@ -4,7 +4,7 @@ use Rattle.x7_part.specs.Part.{PartData}
 use Rattle.x7_engine.specs.declared.kept.Kept.{Kept}
 use Rattle.x7_engine.specs.Past.{HasSomePast, Past, TakesJust, later}
 use Rattle.x7_engine.specs.Standing.{DeviceState, DeviceStandsFor, with_wrap}
-use Rattle.x7_engine.specs.Undo.{AreEqual}
+use Rattle.x7_engine.specs.Undo.{AreEqualButForFed}
 
 -- the past of a device, by the device's own part
 pub own_past : (d : DeviceState) (s : HasSomePast d) → DeviceStandsFor d.part s.past.kept s.past.wrapped d s.past.bytes
@@ -42,13 +42,13 @@ stands_wrapped part kept wrapped d bytes s = record {
   none_due_at_stop = s.none_due_at_stop;
 }
 
-pub past_equal : (d e : DeviceState) → AreEqual d e → HasSomePast e → HasSomePast d
+pub past_equal : (d e : DeviceState) → AreEqualButForFed d e → HasSomePast e → HasSomePast d
 past_equal d e same s =
     let p : Past = s.past in
     subst HasSomePast (sym same) (record { past = p; has = stands_fed p.part p.kept p.wrapped e p.bytes d.fed s.has })
 
 -- a device that has the stored values of an old one
-pub equal_back : (d e : DeviceState) → d.part ≡ e.part → d.cutter ≡ e.cutter → d.registers ≡ e.registers → d.wrapped ≡ e.wrapped → d.taken ≡ e.taken → AreEqual d e
+pub equal_back : (d e : DeviceState) → d.part ≡ e.part → d.cutter ≡ e.cutter → d.registers ≡ e.registers → d.wrapped ≡ e.wrapped → d.taken ≡ e.taken → AreEqualButForFed d e
 equal_back d e part cutter registers wrapped taken =
     ap (λ x. record d { part = x }) part
     ∙ ap (λ x. record d { part = e.part; cutter = x }) cutter

@@ -7,7 +7,7 @@ use Rattle.x7_packets.specs.History.{Entry, History, Placed, history_of, until}
 use Rattle.x7_packets.proofs.GrowthLemmas.{placed_of, placed_within, until_placed}
 use Rattle.x7_packets.proofs.OnceLemmas.{enter_once}
 use Rattle.x7_part.specs.Part.{PartData}
-use Rattle.x7_memory.specs.FrameMap.{AreSame}
+use Rattle.x7_memory.specs.FrameMap.{HaveSameFrames}
 use Rattle.x7_memory.specs.PartFrames.{frame_at}
 use Rattle.x7_flow.specs.FrameMemory.{memory_of}
 use Rattle.x7_flow.specs.Saved.{FramesBack, SavesFrames}
@@ -72,7 +72,7 @@ no_stop part kept bytes more (Some now) why f some e g = by why g
 
 -- ---- back
 
-memory_stands : (part : PartData) (kept : Kept) (wrapped : Bool) (d : DeviceState) (bytes : List ℕ) → DeviceStandsFor part kept wrapped d bytes → AreSame (frame_at part d.registers.frames.memory) (memory_in part kept bytes)
+memory_stands : (part : PartData) (kept : Kept) (wrapped : Bool) (d : DeviceState) (bytes : List ℕ) → DeviceStandsFor part kept wrapped d bytes → HaveSameFrames (frame_at part d.registers.frames.memory) (memory_in part kept bytes)
 memory_stands part kept wrapped d bytes s = λ far. s.registers_are.frames.stands.memory far ∙ s.registers_are.frames.memory_same far
 
 module _ (part : PartData) (kept : Kept) (wrapped : Bool) (u : UndoState) (old new : DeviceState) (bytes more : List ℕ) where
@@ -87,7 +87,7 @@ module _ (part : PartData) (kept : Kept) (wrapped : Bool) (u : UndoState) (old n
       subst (λ (k : ℕ). FramesStandFor part old.registers.frames h k) (none_frames old.registers.due none)
       (subst (λ (x : History). FramesStandFor part old.registers.frames x (frames_due old.registers.due)) taken
       (frames_of part old.registers.frames old.registers.stop (history_taken part kept bytes) (frames_due old.registers.due) (goes_on old.registers.stop going) s.registers_are.frames)) in
-      let memory : AreSame (frame_at part new.registers.frames.memory) (memory_in part kept (bytes ++ more)) = memory_stands part kept wrapped new (bytes ++ more) t in
+      let memory : HaveSameFrames (frame_at part new.registers.frames.memory) (memory_in part kept (bytes ++ more)) = memory_stands part kept wrapped new (bytes ++ more) t in
       elim (taken_one part kept bytes more new.registers.stop t.fits few some t.stop_is) [
         | inl same ↦
             back_same part u.frames old.registers.frames new.registers.frames k o n

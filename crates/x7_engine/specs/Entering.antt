@@ -15,8 +15,8 @@ use Rattle.x7_engine.specs.Standing.{EndsWords, IsNextAccess, RegistersStandFor,
 use Rattle.x7_engine.specs.Value.{words_read_by, read_out}
 
 -- `Fact` holds of all that the registers stand for: what the reset kept, the history, and the number of bytes taken
-abbrev pub OfHistory : PartData → RegistersState → (Kept → History → ℕ → Type 0) → Type 0
-OfHistory part d Fact = (kept : Kept) (h : History) (n : ℕ) → RegistersStandFor part kept d h n → Fact kept h n
+abbrev pub ForEachHistory : PartData → RegistersState → (Kept → History → ℕ → Type 0) → Type 0
+ForEachHistory part d Fact = (kept : Kept) (h : History) (n : ℕ) → RegistersStandFor part kept d h n → Fact kept h n
 
 -- the registers stand for a history
 pub record HaveHistory (part : PartData) (d : RegistersState) : Type 0 where
@@ -41,7 +41,7 @@ change_of part old new = record { part = part; old = registers_in old; new = reg
 
 -- `taken` bytes were taken, and the history that the registers stand for became the longer one
 abbrev pub EntersHistory : Change → Extension → ℕ → Type 0
-EntersHistory x longer taken = OfHistory x.part x.old (λ kept h n. RegistersStandFor x.part kept x.new (longer n h) (n + taken))
+EntersHistory x longer taken = ForEachHistory x.part x.old (λ kept h n. RegistersStandFor x.part kept x.new (longer n h) (n + taken))
 
 -- the longer history up to the stop, where one came
 abbrev pub up_to_stop : RegistersState → Extension → ℕ → Extension

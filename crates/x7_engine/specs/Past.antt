@@ -50,8 +50,8 @@ pub record HasSomePast (d : DeviceState) : Type 0 where
   pub has : HasPast d past
 
 -- `Fact` holds of each past that the device has
-abbrev pub OfPast : DeviceState → (Past → Type 0) → Type 0
-OfPast d Fact = (part : PartData) (kept : Kept) (wrapped : Bool) (bytes : List ℕ)
+abbrev pub ForEachPast : DeviceState → (Past → Type 0) → Type 0
+ForEachPast d Fact = (part : PartData) (kept : Kept) (wrapped : Bool) (bytes : List ℕ)
     → DeviceStandsFor part kept wrapped d bytes → Fact (record { part = part; kept = kept; wrapped = wrapped; bytes = bytes })
 
 -- the state that the bytes of a past leave
@@ -123,7 +123,7 @@ pub record BootGoesOn (p : Past) : Type 0 where
 
 -- a device takes just the bytes `more`
 abbrev pub TakesJust : DeviceState → DeviceState → List ℕ → Type 0
-TakesJust old new more = OfPast old (λ p. HasPast new (later p more))
+TakesJust old new more = ForEachPast old (λ p. HasPast new (later p more))
 
 -- no byte was taken of a piece, as their number `taken` says, and the device and the buffer are as they were
 abbrev pub TakesNothing : DeviceState → DeviceState → ReadBufState → ReadBufState → ℕ → Type 0
@@ -131,12 +131,12 @@ TakesNothing old new before after taken = (new ≡ old) × (after ≡ before) ×
 
 -- the bytes `more` give no word: the words given so far are those given before
 abbrev pub GivesNoWord : DeviceState → DeviceState → List ℕ → Type 0
-GivesNoWord old new more = OfPast old (λ p. reads_given_at new (later p more) ≡ reads_given_at old p)
+GivesNoWord old new more = ForEachPast old (λ p. reads_given_at new (later p more) ≡ reads_given_at old p)
 
 -- the bytes `more` give the buffer words: the words given so far are those given before, and then these
 abbrev pub GivesWordsNext : DeviceState → DeviceState → List ℕ → ReadBufState → ReadBufState → Type 0
 GivesWordsNext old new more before after =
-    OfPast old (λ p. (words : List ℕ) × (after ≡ with_words before words) × (reads_given_at new (later p more) ≡ reads_given_at old p ++ words))
+    ForEachPast old (λ p. (words : List ℕ) × (after ≡ with_words before words) × (reads_given_at new (later p more) ≡ reads_given_at old p ++ words))
 
 -- what a feed answers: that nothing stopped the device and no word is due, the stop at the last byte, with no word due
 -- either, or that nothing stopped it, a word is due and the buffer full
@@ -154,11 +154,11 @@ AnswersUntilAt p d read (until.Fed answer) = AnswersAt p d read answer
 
 -- the answer says what the old bytes and then `more` come to
 abbrev pub AnswersFor : DeviceState → DeviceState → List ℕ → ReadBufState → Fed → Type 0
-AnswersFor old new more read answer = OfPast old (λ p. AnswersAt (later p more) new read answer)
+AnswersFor old new more read answer = ForEachPast old (λ p. AnswersAt (later p more) new read answer)
 
 -- the answer of a feed up to the end of startup says what the old bytes and then `more` come to
 abbrev pub AnswersUntilFor : DeviceState → DeviceState → List ℕ → ReadBufState → UntilStarted → Type 0
-AnswersUntilFor old new more read answer = OfPast old (λ p. AnswersUntilAt (later p more) new read answer)
+AnswersUntilFor old new more read answer = ForEachPast old (λ p. AnswersUntilAt (later p more) new read answer)
 
 -- the bytes taken of a piece, by what is answered
 abbrev pub prefix_taken : List ℕ → Fed → List ℕ

@@ -4,7 +4,7 @@ use Rattle.x7_flow.specs.Standing.{FramesFit}
 use Rattle.x7_part.specs.Part.{PartData}
 use Rattle.x7_engine.specs.Course.{Course, course_at}
 use Rattle.x7_engine.specs.declared.registers.Registers.{Registers}
-use Rattle.x7_engine.specs.Entering.{Change, HaveHistory, OfHistory}
+use Rattle.x7_engine.specs.Entering.{Change, HaveHistory, ForEachHistory}
 use Rattle.x7_engine.specs.Past.{HasPast, Past, reads_given_at}
 use Rattle.x7_engine.specs.ReadBuffer.{IsFull, ReadBufState, with_words}
 use Rattle.x7_engine.specs.Standing.{DeviceState, RegistersStandFor, RegistersState, due_count, registers_in, words_still_due}
@@ -34,7 +34,7 @@ pub record GaveWordsDue (x : Change) (old new : ReadBufState) : Type 0 where
   pub full : 0 < due_count x.new.due → IsFull new
   pub going : x.new.stop ≡ None
   pub frames : FramesFit x.part x.new.frames
-  pub given : OfHistory x.part x.old (λ kept h n. RegistersGaveWords (course_at x.part kept h n) x.old x.new old new)
+  pub given : ForEachHistory x.part x.old (λ kept h n. RegistersGaveWords (course_at x.part kept h n) x.old x.new old new)
 
 -- of the words due the buffer got the first ones, and the device stands for the same bytes as before
 pub record DeviceGaveWords (p : Past) (d e : DeviceState) (old new : ReadBufState) : Type 0 where

@@ -57,12 +57,12 @@ clears_check h access = clears_check_by (executed_by (command_held h) access) (r
 abbrev pub is_pending_after : Option ℕ → Bool → Bool → Bool
 is_pending_after command cleared pending = if cleared then false else is_command (code_of Shutdown) command || pending
 
--- a shutdown is pending: SHUTDOWN was executed since the check was last cleared (this project's choice)
+-- a shutdown is pending: SHUTDOWN was executed since the check was last cleared (UG470, command register)
 abbrev pub is_pending : History → Bool
 is_pending [] = false
 is_pending (e ∷ h) = is_pending_after (executed_by (command_held h) e.access) (clears_check h e.access) (is_pending h)
 
--- the access takes a pending shutdown (this project's choice)
+-- the access takes a pending shutdown, which is then done at once (this project's choice)
 abbrev pub takes_shutdown : History → Access → Bool
 takes_shutdown h access = clears_check h access && is_pending h
 

@@ -10,8 +10,8 @@ use Rattle.x7_engine.specs.Since.{NoneSince, Since}
 abbrev pub Executes : ℕ → History → Access → Type 0
 Executes command h access = IsTrue (executes command h access)
 
--- a shutdown is pending: SHUTDOWN was executed since the check was last cleared,
--- or since the reset (this project's choice)
+-- a shutdown is pending: SHUTDOWN was executed since the check was last cleared, or since the reset; the guide has it
+-- wait for the next RCRC or right check (UG470, command register)
 abbrev pub IsPending : History → Type 0
 IsPending h = Since (Executes (code_of Shutdown)) clears_check h
 

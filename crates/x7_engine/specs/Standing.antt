@@ -19,7 +19,7 @@ use Rattle.x7_regs.specs.declared.register.Reg.TheVariants.{Ctl0, Ctl1}
 use Rattle.x7_regs.specs.Register.{number_of, reg_number_count}
 use Rattle.x7_startup.specs.Phases.{last_phase}
 use Rattle.x7_engine.specs.declared.controls.Controls.{Controls}
-use Rattle.x7_memory.specs.FrameMap.{AreSame}
+use Rattle.x7_memory.specs.FrameMap.{HaveSameFrames}
 use Rattle.x7_flow.specs.FrameMemory.{memory_of}
 use Rattle.x7_flow.specs.Standing.{FramesStandFor, FramesState, far_owing, words_due}
 use Rattle.x7_engine.specs.declared.due.Due.{Due}
@@ -114,7 +114,7 @@ frames_history why h = if is_refusal why then without_newest h else h
 -- frames stand for the history before it; memory and FAR are the same with and without it.
 pub record FramesAre (part : PartData) (f : FramesState) (why : Option StopCause) (h : History) (due : ℕ) : Type 0 where
   pub stands : FramesStandFor part f (frames_history why h) due
-  pub memory_same : AreSame (memory_of part (frames_history why h)) (memory_of part h)
+  pub memory_same : HaveSameFrames (memory_of part (frames_history why h)) (memory_of part h)
   pub far_same : far_owing part (frames_history why h) due ≡ far_owing part h due
 
 -- ---- registers

@@ -4,7 +4,7 @@ use Rattle.x7_packets.specs.History.{Access, History, command_held, executed_by,
 use Rattle.x7_part.specs.Part.{PartData}
 use Rattle.x7_regs.specs.declared.command.Command.TheVariants.{Desync, Start}
 use Rattle.x7_regs.specs.Command.{code_of}
-use Rattle.x7_startup.specs.Phases.{arrival, last_phase, tick_size, wait_of}
+use Rattle.x7_startup.specs.Phases.{first_tick_of, last_phase, tick_size, wait_of}
 use Rattle.x7_startup.specs.Startup.{Call, StartupProgress, NotBegun, Begun, progress_of}
 use Rattle.x7_startup.specs.Startup as call
 use Rattle.x7_engine.specs.Registers.{cor0_held, takes_shutdown}
@@ -32,7 +32,7 @@ startup_progress h n = progress_of (startup_calls h n)
 -- the greatest phase, up to the one given last, that has begun after `ticks` ticks
 abbrev pub greatest_begun : (ℕ → ℕ) → ℕ → ℕ → ℕ
 greatest_begun wait ticks zero = 0
-greatest_begun wait ticks (suc p) = if nat_le (arrival wait (suc p)) ticks then suc p else greatest_begun wait ticks p
+greatest_begun wait ticks (suc p) = if nat_le (first_tick_of wait (suc p)) ticks then suc p else greatest_begun wait ticks p
 
 -- the phase after `ticks` ticks
 unfoldable pub phase_at : (ℕ → ℕ) → ℕ → ℕ

@@ -2,7 +2,7 @@
 -- project's choice).
 use Rattle.std.specs.Prelude.{◌≡◌, ℕ, ◌+◌, ◌-◌, ◌<◌, ◌≤◌, Bool, false, IsTrue, List, length, None}
 use Rattle.x7_packets.specs.Cutter.{between, calls_left}
-use Rattle.x7_engine.specs.Past.{GivesNoWord, OfPast, TakesJust}
+use Rattle.x7_engine.specs.Past.{GivesNoWord, ForEachPast, TakesJust}
 use Rattle.x7_engine.specs.Standing.{CanBeGiven, DeviceState, NoWordDue, fed_more, fed_of}
 use Rattle.x7_engine.specs.UntilStarted.{CommandsLast}
 
@@ -20,7 +20,7 @@ pub record TurnTakes (old new : DeviceState) (more : List ℕ) : Type 0 where
   pub part : new.part ≡ old.part
   pub takes : TakesJust old new more
   pub silent : GivesNoWord old new more
-  pub commands : OfPast old (λ p. CommandsLast p.bytes more)
+  pub commands : ForEachPast old (λ p. CommandsLast p.bytes more)
 
 -- a device took a turn over the bytes of a piece between two places, and counted them
 pub record TurnMoves (old new : DeviceState) (piece : List ℕ) (from to : ℕ) : Type 0 where

@@ -125,5 +125,5 @@ pub record TookFewSince (u : UndoState) (d : DeviceState) : Type 0 where
   pub has : HasPast d (later past more)
 
 -- two devices are equal but for the count of all bytes that they were fed
-abbrev pub AreEqual : DeviceState → DeviceState → Type 0
-AreEqual d e = d ≡ record e { fed = d.fed }
+abbrev pub AreEqualButForFed : DeviceState → DeviceState → Type 0
+AreEqualButForFed d e = d ≡ record e { fed = d.fed }

@@ -2,7 +2,7 @@
 ghost use Rattle.std.specs.Prelude.{◌≡◌, ◌≤◌, ◌<◌, ◌+◌, ◌-◌, ◌++◌, [], false, true, length, IfOk, IsSome, IsTrue, ◌↔◌, ◌==◌, Option, None, Some};
 ghost use Rattle.x7_packets.specs.Cutter.{between, IsNeed};
 ghost use Rattle.x7_packets.specs.History.{history_of};
-ghost use Rattle.x7_memory.specs.FrameMap.{AreSame};
+ghost use Rattle.x7_memory.specs.FrameMap.{HaveSameFrames};
 ghost use Rattle.x7_memory.specs.PartFrames.{AreFramesOf, frame_at};
 ghost use Rattle.x7_startup.specs.Phases.{last_phase};
 ghost use Rattle.x7_engine.specs.UntilRead.{RoomBefore};
@@ -15,7 +15,7 @@ ghost use Rattle.x7_engine.specs.Stop.{fault_of_stop};
 ghost use Rattle.x7_engine.specs.Turns.{MayTakePiece, TurnAnswers, TurnMoves};
 ghost use Rattle.x7_engine.specs.Value.{failure_of};
 ghost use Rattle.x7_engine.specs.declared.fault.Fault.{Fault as FaultData};
-ghost use Rattle.x7_engine.specs.Past.{AnswersFor, HasSomePast, OfPast, TakesJust, TakesNothing, GivesWordsNext, prefix_taken, state_at, stop_at, reads_given_at};
+ghost use Rattle.x7_engine.specs.Past.{AnswersFor, HasSomePast, ForEachPast, TakesJust, TakesNothing, GivesWordsNext, prefix_taken, state_at, stop_at, reads_given_at};
 
 mod boot;
 mod started;
@@ -158,7 +158,7 @@ impl Device {
 
     /// The present boot attempt.
     fn attempt(&self) -> Attempt
-        ensures { OfPast self.now (λ p. result ≡ attempt_in p.part p.kept p.wrapped p.bytes) }
+        ensures { ForEachPast self.now (λ p. result ≡ attempt_in p.part p.kept p.wrapped p.bytes) }
     {
         let attempt = self.registers.attempt();
         Attempt {
@@ -170,14 +170,14 @@ impl Device {
 
     /// The word of BOOTSTS.
     fn boot_status(&self) -> u32
-        ensures { OfPast self.now (λ p. result ≡ (state_at p).bootsts) }
+        ensures { ForEachPast self.now (λ p. result ≡ (state_at p).bootsts) }
     {
         boot_word(self.attempt(), self.registers.before)
     }
 
     /// What a next attempt of this kind keeps: WBSTAR, TIMER and BSPI, and this attempt as the one before.
     pub fn kept(&self, kind: Kind) -> Kept
-        ensures { OfPast self.now (λ p. result ≡ kept_after p.part p.kept p.wrapped p.bytes kind) }
+        ensures { ForEachPast self.now (λ p. result ≡ kept_after p.part p.kept p.wrapped p.bytes kind) }
     {
         Kept {
             wbstar: self.registers.value(&self.part, Reg::Wbstar),
@@ -192,7 +192,7 @@ impl Device {
     pub fn wrap(&mut self)
         requires { MayWrap self.old }
         ensures wrapped { self.new ≡ with_wrap self.old }
-        ensures stands { OfPast self.old (λ p. DeviceStandsFor p.part p.kept true self.new p.bytes) }
+        ensures stands { ForEachPast self.old (λ p. DeviceStandsFor p.part p.kept true self.new p.bytes) }
     {
         self.wrapped = true;
     }
@@ -215,7 +215,7 @@ impl Device {
         ensures part { self.new.part ≡ self.old.part }
         ensures fed { self.new.fed ≡ self.old.fed }
         ensures cutter { self.new.cutter ≡ self.old.cutter }
-        ensures given { OfPast self.old (λ p. DeviceGaveWords p self.old self.new read.old read.new) }
+        ensures given { ForEachPast self.old (λ p. DeviceGaveWords p self.old self.new read.old read.new) }
     {
         self.registers.give(&self.part, read)
     }
@@ -227,7 +227,7 @@ impl Device {
         ensures turned { TurnMoves self.old self.new piece.now at.old at.new }
         ensures no_word_due { NoWordDue self.new }
         ensures cutter { self.new.cutter ≡ self.old.cutter }
-        ensures same_history { OfPast self.old (λ p. history_of (p.bytes ++ between piece.now at.old at.new) ≡ history_of p.bytes) }
+        ensures same_history { ForEachPast self.old (λ p. history_of (p.bytes ++ between piece.now at.old at.new) ≡ history_of p.bytes) }
     {
         let count = WORD_BYTES * self.cutter.nop_count(&piece[*at..]);
         let left = self.registers.take_bytes(&self.part, count);
@@ -317,8 +317,8 @@ impl Device {
         ensures answer { AnswersFor self.old self.new (prefix_taken piece.now result) read.new result }
         ensures reads { GivesWordsNext self.old self.new (prefix_taken piece.now result) read.old read.new }
         ensures within_most { HoldsWithinMost read.new.most read.new.words }
-        ensures room { OfPast self.old (λ p. RoomBefore p piece.now (taken_in (length piece.now) result) (reads_given_at self.old p) read.old) }
-        ensures stopped { OfPast self.old (λ p. IsSome (stop_at p) → TakesNothing self.old self.new read.old read.new (taken_in (length piece.now) result)) }
+        ensures room { ForEachPast self.old (λ p. RoomBefore p piece.now (taken_in (length piece.now) result) (reads_given_at self.old p) read.old) }
+        ensures stopped { ForEachPast self.old (λ p. IsSome (stop_at p) → TakesNothing self.old self.new read.old read.new (taken_in (length piece.now) result)) }
         ensures answers_stop { (why : StopCause) → self.old.registers.stop ≡ Some why → result ≡ answer_at_stop why 0 }
     {
         read.holds_within_most();
@@ -340,7 +340,7 @@ impl Device {
     pub fn memory(&self) -> &Memory
         ensures stored { result.now ≡ self.now.registers.frames.memory }
         ensures frames { AreFramesOf self.now.part result.now }
-        ensures shows { OfPast self.now (λ p. AreSame (frame_at p.part result.now) (memory_in p.part p.kept p.bytes)) }
+        ensures shows { ForEachPast self.now (λ p. HaveSameFrames (frame_at p.part result.now) (memory_in p.part p.kept p.bytes)) }
     {
         self.registers.frames.memory()
     }
@@ -348,8 +348,8 @@ impl Device {
     /// What a report shows beside the part's name, the words read out and the frames: the registers, where the bytes
     /// end, and startup. While words of frame data are still due, FAR is that of the words given so far.
     pub fn state(&self) -> Regs
-        ensures owing { OfPast self.now (λ p. result ≡ state_owing p.part p.kept p.wrapped p.bytes (frames_due self.now.registers.due)) }
-        ensures value { OfPast self.now (λ p. NoWordDue self.now → result ≡ state_at p) }
+        ensures owing { ForEachPast self.now (λ p. result ≡ state_owing p.part p.kept p.wrapped p.bytes (frames_due self.now.registers.due)) }
+        ensures value { ForEachPast self.now (λ p. NoWordDue self.now → result ≡ state_at p) }
     {
         Regs {
             taken: self.taken,
@@ -376,7 +376,7 @@ impl Device {
 
     /// Where the bytes taken end: in a gap, in a session, or at the fault or the IPROG that stopped the device.
     pub fn end(&self) -> End
-        ensures { OfPast self.now (λ p. result ≡ (state_at p).end) }
+        ensures { ForEachPast self.now (λ p. result ≡ (state_at p).end) }
     {
         end_by(
             self.registers.stop,
@@ -388,14 +388,14 @@ impl Device {
     /// The part.
     pub fn part(&self) -> &Part
         ensures stored { result.now ≡ self.now.part }
-        ensures value { OfPast self.now (λ p. result.now ≡ p.part) }
+        ensures value { ForEachPast self.now (λ p. result.now ≡ p.part) }
     {
         &self.part
     }
 
     /// The fault that stopped the device.
     pub fn fault(&self) -> Option<Fault>
-        ensures { OfPast self.now (λ p. result ≡ fault_of_stop (why_stopped (stop_at p))) }
+        ensures { ForEachPast self.now (λ p. result ≡ fault_of_stop (why_stopped (stop_at p))) }
     {
         match self.registers.stop {
             Some(StopCause::Fault(fault)) => Some(fault),
@@ -405,7 +405,7 @@ impl Device {
 
     /// Whether startup has ended.
     pub fn started(&self) -> bool
-        ensures { OfPast self.now (λ p. result ≡ ((state_at p).phase == last_phase)) }
+        ensures { ForEachPast self.now (λ p. result ≡ ((state_at p).phase == last_phase)) }
     {
         self.registers.clock.has_ended()
     }
@@ -421,7 +421,7 @@ impl Device {
     /// How many bytes were taken since the reset.
     pub fn taken(&self) -> u64
         ensures stored { result ≡ self.now.taken }
-        ensures value { OfPast self.now (λ p. result ≡ length p.bytes) }
+        ensures value { ForEachPast self.now (λ p. result ≡ length p.bytes) }
     {
         self.taken
     }

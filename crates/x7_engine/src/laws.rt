@@ -16,7 +16,7 @@ ghost use Rattle.x7_engine.specs.FirstStop.{IsFirstStop, why_at_byte};
 ghost use Rattle.x7_flow.specs.Controls.{masked_register, same_idcode};
 ghost use Rattle.x7_flow.specs.Standing.{word_to};
 ghost use Rattle.x7_engine.specs.Registers.{HasMaskedBits, cor0_held, has_ghigh, clears_check, is_pending, takes_shutdown};
-ghost use Rattle.x7_engine.specs.Past.{HasStoppedBefore, IsBootAttempt, OfPast, Past, StandsBefore, cause_in, due_at, history_at, later, memory_at, reads_at, state_at, stop_at, taken_at, reads_given_at};
+ghost use Rattle.x7_engine.specs.Past.{HasStoppedBefore, IsBootAttempt, ForEachPast, Past, StandsBefore, cause_in, due_at, history_at, later, memory_at, reads_at, state_at, stop_at, taken_at, reads_given_at};
 ghost use Rattle.x7_engine.specs.Rest.{AtRest, LastGapGoesOn};
 ghost use Rattle.x7_engine.specs.Sequence.{StartupBegins, HasGhigh, IsPending};
 ghost use Rattle.x7_engine.specs.Standing.{DeviceState, NoWordDue};
@@ -101,7 +101,7 @@ pub fn rest_lasts()
 
 /// The words read out are those given, and then those that are still due: none, where no word is due.
 pub fn reads_are_given_or_due()
-    ensures all { (d : DeviceState) → OfPast d (λ p. reads_given_at d p ++ due_at d p ≡ reads_at p) }
+    ensures all { (d : DeviceState) → ForEachPast d (λ p. reads_given_at d p ++ due_at d p ≡ reads_at p) }
     ensures none_due { (d : DeviceState) (p : Past) → NoWordDue d → due_at d p ≡ [] }
 {}
 

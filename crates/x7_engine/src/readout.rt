@@ -6,7 +6,7 @@ ghost use Rattle.x7_engine.specs.Readout.{GaveWordsDue, GotAllBut, MayGiveWords}
 ghost use Rattle.x7_engine.specs.ReadBuffer.{HoldsWithinMost, IsFull};
 ghost use Rattle.x7_engine.specs.WordCalls.{MayTakeWords, HasNoneDueAtStop};
 ghost use Rattle.x7_engine.specs.Standing.{due_count};
-ghost use Rattle.x7_engine.specs.Entering.{AreReadBy, EntersHistoryAt, OfHistory, change_of, read_entered};
+ghost use Rattle.x7_engine.specs.Entering.{AreReadBy, EntersHistoryAt, ForEachHistory, change_of, read_entered};
 
 use crate::due::Due;
 use crate::read_buffer::ReadBuf;
@@ -58,7 +58,7 @@ impl Registers {
         ensures none_due_at_stop { HasNoneDueAtStop part.now self.new }
         ensures counts { (n : ℕ) → counted_in self.new.stop n ≡ n }
         ensures enters { EntersHistoryAt (change_of part.now self.old self.new) (read_entered register count) }
-        ensures reads { OfHistory part.now (registers_in self.old) (λ kept h place. AreReadBy part.now kept h (read_entry register count place) self.new.due) }
+        ensures reads { ForEachHistory part.now (registers_in self.old) (λ kept h place. AreReadBy part.now kept h (read_entry register count place) self.new.due) }
     {
         if !reads_frames(self.settings(), register, count) {
             self.due = Due::Same {

@@ -16,7 +16,7 @@ ghost use Rattle.x7_engine.specs.State.{last_counted};
 ghost use Rattle.x7_engine.specs.Stop.{why_besides_frames, why_by_frames, stop_of_refused};
 ghost use Rattle.x7_engine.specs.Taken.{TookFirstWords, TookWords, TookWrite};
 ghost use Rattle.x7_engine.specs.Targets.{target_number};
-ghost use Rattle.x7_engine.specs.Entering.{AreRead, change_of, EntersHistory, EntersHistoryAt, EntersHistoryIf, OfHistory, ReadsIf, RunEnters, RunReads, step_entered, up_to_stop, word_entered};
+ghost use Rattle.x7_engine.specs.Entering.{AreRead, change_of, EntersHistory, EntersHistoryAt, EntersHistoryIf, ForEachHistory, ReadsIf, RunEnters, RunReads, step_entered, up_to_stop, word_entered};
 
 use crate::clock::Clock;
 use crate::controls::{Controls, masked_word};
@@ -143,15 +143,15 @@ impl Registers {
 
     /// The command that CMD holds, five bits.
     pub(crate) fn command(&self) -> u8
-        ensures { (part : PartData) → OfHistory part (registers_in self.now) (λ kept h n. result ≡ command_held h) }
+        ensures { (part : PartData) → ForEachHistory part (registers_in self.now) (λ kept h n. result ≡ command_held h) }
     {
         command_code_of(self.words.held(Reg::Cmd)) as u8
     }
 
     /// What decides whether an access concerns frames.
     pub(crate) fn settings(&self) -> FrameSettings
-        ensures after { (part : PartData) → OfHistory part (registers_in self.now) (λ kept h n. AreSettingsAfter part.idcode result h) }
-        ensures held { (part : PartData) → OfHistory part (registers_in self.now) (λ kept h n. result.command_code ≡ command_held h) }
+        ensures after { (part : PartData) → ForEachHistory part (registers_in self.now) (λ kept h n. AreSettingsAfter part.idcode result h) }
+        ensures held { (part : PartData) → ForEachHistory part (registers_in self.now) (λ kept h n. result.command_code ≡ command_held h) }
     {
         FrameSettings {
             has_idcode: self.progress.has_idcode,
@@ -168,7 +168,7 @@ impl Registers {
         word: u32,
         executed: Option<u8>,
     ) -> Option<StopCause>
-        ensures value { OfHistory part.now (registers_in self.now) (λ kept h n. executed ≡ executed_after h reg word
+        ensures value { ForEachHistory part.now (registers_in self.now) (λ kept h n. executed ≡ executed_after h reg word
             → result ≡ why_besides_frames part.now kept h (word_to reg word)) }
         ensures counts { (n : ℕ) → counted_in result n ≡ n }
     {
@@ -370,7 +370,7 @@ impl Registers {
         ensures none_due_at_stop { HasNoneDueAtStop part.now self.new }
         ensures counts { (n : ℕ) → counted_in self.new.stop n ≡ n }
         ensures enters { EntersHistoryAt (change_of part.now self.old self.new) (λ place h. entered place step h) }
-        ensures reads { OfHistory part.now (registers_in self.old) (λ kept h place. AreRead part.now kept h (entered place step h) self.new.due) }
+        ensures reads { ForEachHistory part.now (registers_in self.old) (λ kept h place. AreRead part.now kept h (entered place step h) self.new.due) }
     {
         match step {
             Step::Read(register, count) if count > 0 => self.read(part, register, count),

@@ -63,11 +63,11 @@ fn ignores_iprog(kind: Kind, wrote_iprog: bool) -> bool
 
 impl Registers {
     ghost use Rattle.x7_engine.specs.Standing.{registers_in};
-    ghost use Rattle.x7_engine.specs.Entering.{OfHistory};
+    ghost use Rattle.x7_engine.specs.Entering.{ForEachHistory};
 
     /// The running check; at a fault `Crc` the one that was wanted.
     fn check_shown(&self) -> u32
-        ensures { (part : PartData) → OfHistory part (registers_in self.now) (λ kept h n. result ≡ check_shown (fault_of_stop self.now.stop) h) }
+        ensures { (part : PartData) → ForEachHistory part (registers_in self.now) (λ kept h n. result ≡ check_shown (fault_of_stop self.now.stop) h) }
     {
         match self.stop {
             Some(StopCause::Fault(Fault::Crc { want, .. })) => want,
@@ -77,7 +77,7 @@ impl Registers {
 
     /// The word of STAT.
     fn stat(&self, part: &Part) -> u32
-        ensures { OfHistory part.now (registers_in self.now)
+        ensures { ForEachHistory part.now (registers_in self.now)
             (λ kept h n. result ≡ status_of (stat_parts part.now (fault_of_stop self.now.stop) (startup_progress h n) (has_ghigh h))) }
     {
         let crc_error = is_crc_fault(self.stop);
@@ -101,7 +101,7 @@ impl Registers {
 
     /// The present boot attempt, as long as the flash goes on.
     pub(crate) fn attempt(&self) -> Attempt
-        ensures { (part : PartData) → OfHistory part (registers_in self.now) (λ kept h n. result ≡ attempt_of kept false (fault_of_stop self.now.stop) h) }
+        ensures { (part : PartData) → ForEachHistory part (registers_in self.now) (λ kept h n. result ≡ attempt_of kept false (fault_of_stop self.now.stop) h) }
     {
         Attempt {
             kind: self.kind,
@@ -112,7 +112,7 @@ impl Registers {
 
     /// FAR as it is read.
     fn far(&self, part: &Part) -> u32
-        ensures { OfHistory part.now (registers_in self.now) (λ kept h n. result ≡ far_owing part.now h (frames_due self.now.due)) }
+        ensures { ForEachHistory part.now (registers_in self.now) (λ kept h n. result ≡ far_owing part.now h (frames_due self.now.due)) }
     {
         self.frames.far(part)
     }
@@ -120,7 +120,7 @@ impl Registers {
     /// The value of a register as it is read, and 0 for one that is only written and for frame data.
     #[rattlefmt::skip]
     pub(crate) fn value(&self, part: &Part, reg: Reg) -> u32
-        ensures { OfHistory part.now (registers_in self.now)
+        ensures { ForEachHistory part.now (registers_in self.now)
             (λ kept h n. result ≡ value_owing (course_at part.now kept h n) (fault_of_stop self.now.stop) (frames_due self.now.due) reg) }
     {
         match reg {
@@ -149,7 +149,7 @@ impl Registers {
 
     /// What a read of a register number gives: its value, and 0 for a number without a register.
     pub(crate) fn read_value(&self, part: &Part, register: u8) -> u32
-        ensures { self.now.stop ≡ None → due_count self.now.due ≡ 0 → OfHistory part.now (registers_in self.now)
+        ensures { self.now.stop ≡ None → due_count self.now.due ≡ 0 → ForEachHistory part.now (registers_in self.now)
             (λ kept h n. result ≡ read_value (course_at part.now kept h n) register) }
     {
         match reg_of(register) {

@@ -4,7 +4,7 @@ use Rattle.std.proofs.lemmas.List.{append-nil, length-append}
 use Rattle.std.proofs.lemmas.List.Folds.{concat-append}
 use Rattle.std.specs.List.{concat}
 use Rattle.x7_words.specs.Count.{HasRisen, raised}
-use Rattle.x7_words.specs.Flash.{TimeElapses, OnlyReads, OnlyWrites, FlashRefuses, Unwritten}
+use Rattle.x7_words.specs.Flash.{TimeElapses, OnlyReads, OnlyWrites, FlashRefuses, WritesNothing}
 use Rattle.x7_words.proofs.CountLemmas.{raised_risen}
 use Rattle.x7_files.specs.Files.{ClearsBits, ClearsAt, ClearsPieces, IsExtent, RealFlash, KnowsOfFile, after_attach, known_flash}
 use Rattle.x7_words.specs.declared.input.Failed.{Failed as FailedCall}
@@ -57,7 +57,7 @@ unknown_read_at (Ok _) = tt
 unknown_read_at (Err _) = tt
 
 -- a call that writes nothing leaves all that may be found
-pub unknown_unwritten : {F : Type 0} → (old new : RealFlash F) → new.write_faults ≡ old.write_faults → Unwritten (known_flash old) (known_flash new) (λ moment found. Unit {0}) (λ moment found. Unit {0})
+pub unknown_unwritten : {F : Type 0} → (old new : RealFlash F) → new.write_faults ≡ old.write_faults → WritesNothing (known_flash old) (known_flash new) (λ moment found. Unit {0}) (λ moment found. Unit {0})
 unknown_unwritten old new e = record { write_faults = e; moments = refl; nothing_else = λ moment found since. tt; keeps = λ moment found since. tt }
 
 -- a read leaves all but the file and the count of faults

@@ -5,7 +5,7 @@ use Rattle.std.proofs.lemmas.List.{append_cancel_right}
 use Rattle.x7_packets.specs.History.{Access, Entry, History}
 use Rattle.x7_part.specs.Part.{PartData, frame_words}
 use Rattle.x7_part.specs.Slot.{slots_from}
-use Rattle.x7_memory.specs.FrameMap.{AreSame}
+use Rattle.x7_memory.specs.FrameMap.{HaveSameFrames}
 use Rattle.x7_pipeline.specs.declared.fault.RunFault.{RunFault}
 use Rattle.x7_pipeline.specs.declared.fault.RunFault.TheVariants.{Address, Overrun, Multi}
 use Rattle.x7_pipeline.specs.Runs.{frames_of, written_frames, rest_of}
@@ -15,7 +15,7 @@ use Rattle.x7_pipeline.specs.Fault.{address_fault, completes, copy_fault, has_fi
 use Rattle.x7_pipeline.proofs.LawLemmas.{copy_no_overrun, overrun_is, refused_far, refused_landed, write_no_multi}
 use Rattle.std.proofs.lemmas.Bool.{ltb-true}
 use Rattle.x7_flow.specs.Asking.{Asked, LoadsFar, Commands, AddsWord, CopiesSource, Reads, NothingAsked}
-use Rattle.x7_flow.specs.HistoryFlow.{Flow, asked_after, base_of, far_in, far_read, fault_by, flow_by, flow_of, frame_fault, is_copy, is_word, run_of}
+use Rattle.x7_flow.specs.HistoryFlow.{Flow, asked_after, base_of, far_in, far_read, fault_by, flow_by, flow_of, frame_fault, asks_copy, adds_frame_word, run_of}
 use Rattle.x7_flow.specs.FrameMemory.{copy_pairs, written_frames_more, memory_of, pairs_put}
 use Rattle.x7_flow.specs.NeedsAddress.{needs_address}
 use Rattle.x7_flow.proofs.FlowLemmas.{flow_more, landed_grows, memory_more, put_none}
@@ -53,7 +53,7 @@ refused_by part CopiesSource f fault e = (no_copy part f fault e, refl)
 refused_by part (Reads count) f fault e = (refl, ap (far_in part) (no_read part f count fault e))
 refused_by part NothingAsked f fault e = absurd (none-some fault e)
 
-pub refused_memory : (part : PartData) (e : Entry) (h : History) (fault : RunFault) → frame_fault part h e.access ≡ Some fault → AreSame (memory_of part (e ∷ h)) (memory_of part h)
+pub refused_memory : (part : PartData) (e : Entry) (h : History) (fault : RunFault) → frame_fault part h e.access ≡ Some fault → HaveSameFrames (memory_of part (e ∷ h)) (memory_of part h)
 refused_memory part e h fault r far =
     memory_more part e h far ∙ put_none (pairs_put part (asked_after part.idcode h e.access) (flow_of part h)) (memory_of part h) (refused_by part (asked_after part.idcode h e.access) (flow_of part h) fault r).0 far
 
@@ -99,7 +99,7 @@ pub address_line : (part : PartData) (h : History) (access : Access) (far : ℕ)
     (frame_fault part h access ≡ Some (Address far)) ↔ ((needs_address (asked_after part.idcode h access) (flow_of part h) ≡ true) × (has_frame_at part (base_of part h) ≡ false) × (far ≡ base_of part h))
 address_line part h access far = address_by part (asked_after part.idcode h access) (flow_of part h) far
 
-multi_by : (part : PartData) (a : Asked) (f : Flow) → (fault_by part a f ≡ Some Multi) ↔ ((is_copy a ≡ true) × ((is_mfw f.command && is_some f.source) ≡ false))
+multi_by : (part : PartData) (a : Asked) (f : Flow) → (fault_by part a f ≡ Some Multi) ↔ ((asks_copy a ≡ true) × ((is_mfw f.command && is_some f.source) ≡ false))
 unfolding copy_fault address_fault
 multi_by part (LoadsFar w) f = (λ e. absurd (none-some _ e), λ p. absurd (cc (p.0)))
 multi_by part (Commands c) f = (λ e. absurd (none-some _ e), λ p. absurd (cc (p.0)))
@@ -119,13 +119,13 @@ multi_by part (Reads count) f = by (count == 0) (has_frame_at part f.base)
 multi_by part NothingAsked f = (λ e. absurd (none-some _ e), λ p. absurd (cc (p.0)))
 
 pub multi_line : (part : PartData) (h : History) (access : Access) →
-    (frame_fault part h access ≡ Some Multi) ↔ ((is_copy (asked_after part.idcode h access) ≡ true) × ((is_mfw (flow_of part h).command && is_some (flow_of part h).source) ≡ false))
+    (frame_fault part h access ≡ Some Multi) ↔ ((asks_copy (asked_after part.idcode h access) ≡ true) × ((is_mfw (flow_of part h).command && is_some (flow_of part h).source) ≡ false))
 multi_line part h access = multi_by part (asked_after part.idcode h access) (flow_of part h)
 
 -- ---- Overrun
 
 -- only a word of frame data overruns
-overrun_by : (part : PartData) (a : Asked) (f : Flow) → fault_by part a f ≡ Some Overrun → is_word a ≡ true
+overrun_by : (part : PartData) (a : Asked) (f : Flow) → fault_by part a f ≡ Some Overrun → adds_frame_word a ≡ true
 unfolding copy_fault address_fault
 overrun_by part (LoadsFar w) f e = absurd (none-some _ e)
 overrun_by part (Commands c) f e = absurd (none-some _ e)
@@ -139,7 +139,7 @@ overrun_by part (Reads count) f e = absurd (by (count == 0) (has_frame_at part f
     by false false e = let s = same_Some _ _ e in cc
 overrun_by part NothingAsked f e = absurd (none-some _ e)
 
-pub overrun_word : (part : PartData) (h : History) (access : Access) → frame_fault part h access ≡ Some Overrun → is_word (asked_after part.idcode h access) ≡ true
+pub overrun_word : (part : PartData) (h : History) (access : Access) → frame_fault part h access ≡ Some Overrun → adds_frame_word (asked_after part.idcode h access) ≡ true
 overrun_word part h access e = overrun_by part (asked_after part.idcode h access) (flow_of part h) e
 
 no_first_overrun : (part : PartData) (base : ℕ) (b : Bool) → has_frame_at part base ≡ b → b ≡ true → write_fault part base [] ≡ Some Overrun → ⊥

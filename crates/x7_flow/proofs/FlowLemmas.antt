@@ -5,11 +5,11 @@ use Rattle.x7_packets.specs.History.{Access, Write, Entry, History, entry}
 use Rattle.x7_part.specs.Part.{PartData, frame_words}
 use Rattle.x7_part.specs.Slot.{slots_from}
 use Rattle.x7_part.specs.declared.slot.Slot.TheVariants.{End}
-use Rattle.x7_memory.specs.FrameMap.{FrameMap, AreSame}
+use Rattle.x7_memory.specs.FrameMap.{FrameMap, HaveSameFrames}
 use Rattle.x7_memory.specs.Plan.{PlanRow, planned}
 use Rattle.x7_regs.specs.Command.{command_with}
 use Rattle.x7_regs.specs.declared.command.Command.{Command}
-use Rattle.x7_pipeline.specs.Runs.{rest_of, frames_of, in_slots, but_newest, written_frames, put_over}
+use Rattle.x7_pipeline.specs.Runs.{rest_of, frames_of, in_slots, without_newest, written_frames, put_over}
 use Rattle.x7_pipeline.specs.FarAsRead.{has_frame_at}
 use Rattle.x7_pipeline.specs.Copies.{is_wcfg}
 use Rattle.x7_pipeline.proofs.LawLemmas.{put_twice, no_source}
@@ -25,7 +25,7 @@ use Rattle.x7_pipeline.proofs.StateLemmas.{at_slot_more}
 
 -- ---- written frames and one word more
 
-landed_step : (part : PartData) (base : ℕ) (frames : List (List ℕ)) → in_slots (slots_from part base) frames ≡ newest_put part base frames ++ in_slots (slots_from part base) (but_newest frames)
+landed_step : (part : PartData) (base : ℕ) (frames : List (List ℕ)) → in_slots (slots_from part base) frames ≡ newest_put part base frames ++ in_slots (slots_from part base) (without_newest frames)
 unfolding in_slots
 landed_step part base [] = refl
 landed_step part base (frame ∷ older) = at_slot_more (get_or (slots_from part base) (length older) End) frame (in_slots (slots_from part base) older)
@@ -38,7 +38,7 @@ landed_grows part base w run =
       | inr n ↦ rw (frames_goes_on (frame_words part) w run n, ne_eqb (length (rest_of (frame_words part) run) + 1) (frame_words part) n) refl
     ]
 
-pub put_none : (pairs : List PlanRow) (m : FrameMap) → pairs ≡ [] → AreSame (put_over pairs m) m
+pub put_none : (pairs : List PlanRow) (m : FrameMap) → pairs ≡ [] → HaveSameFrames (put_over pairs m) m
 unfolding planned
 put_none pairs m e far = ap (λ (ps : List PlanRow). put_over ps m far) e
 
@@ -74,7 +74,7 @@ pub flow_more : (part : PartData) (e : Entry) (h : History) → flow_of part (e 
 unfolding flow_of
 flow_more part e h = refl
 
-pub memory_more : (part : PartData) (e : Entry) (h : History) → AreSame (memory_of part (e ∷ h)) (put_over (pairs_put part (asked_after part.idcode h e.access) (flow_of part h)) (memory_of part h))
+pub memory_more : (part : PartData) (e : Entry) (h : History) → HaveSameFrames (memory_of part (e ∷ h)) (put_over (pairs_put part (asked_after part.idcode h e.access) (flow_of part h)) (memory_of part h))
 unfolding memory_of
 memory_more part e h far = refl
 
@@ -92,7 +92,7 @@ pairs_same : (part : PartData) (access : Access) (s t : Settings) (f g : Flow) �
 pairs_same part access s t f g e d = ap (λ (x : Settings). pairs_put part (asked_under x access) f) e ∙ ap (pairs_put part (asked_under t access)) d
 
 pub memory_joined : (part : PartData) (later earlier : History) →
-    AreSame (memory_of part (later ++ earlier)) (put_over (pairs_from part (settings_of part.idcode earlier) (flow_of part earlier) later) (memory_of part earlier))
+    HaveSameFrames (memory_of part (later ++ earlier)) (put_over (pairs_from part (settings_of part.idcode earlier) (flow_of part earlier) later) (memory_of part earlier))
 unfolding memory_of pairs_from planned
 memory_joined part [] earlier = λ far. refl
 memory_joined part (e ∷ later) earlier =
@@ -112,7 +112,7 @@ load_flow part w place earlier =
     ap (λ (c : Command). record (flow_loaded part (settings_of part.idcode earlier) (source_of part earlier) w) { command = c }) i.command_is
 
 pub memory_after_load : (part : PartData) (later earlier : History) (w place : ℕ) →
-    AreSame (memory_of part (later ++ entry (Write 1 w) place ∷ earlier)) (put_over (pairs_loaded part (settings_of part.idcode earlier) (source_of part earlier) w later) (memory_of part earlier))
+    HaveSameFrames (memory_of part (later ++ entry (Write 1 w) place ∷ earlier)) (put_over (pairs_loaded part (settings_of part.idcode earlier) (source_of part earlier) w later) (memory_of part earlier))
 unfolding memory_of planned
 memory_after_load part later earlier w place far =
     memory_joined part later (entry (Write 1 w) place ∷ earlier) far

@@ -3,7 +3,7 @@ use Rattle.std.proofs.Common.{◌≡◌, ℕ, ◌+◌, Bool, true, false, if◌t
 use Rattle.x7_packets.specs.History.{Access, Write, History, command_held, entered_all, entry}
 use Rattle.x7_packets.specs.Packet.{payload_steps}
 use Rattle.x7_part.specs.Part.{PartData}
-use Rattle.x7_memory.specs.FrameMap.{FrameMap, AreSame}
+use Rattle.x7_memory.specs.FrameMap.{FrameMap, HaveSameFrames}
 use Rattle.x7_memory.specs.Plan.{PlanRow}
 use Rattle.x7_pipeline.specs.Runs.{written_frames, onto, put_over, Lands}
 use Rattle.x7_pipeline.specs.Copies.{is_mfw}
@@ -138,7 +138,7 @@ words_pairs part s f n ws later t none =
 -- ---- after a load under another command than MFW no frame is older
 
 pub memory_after_load_alone : (part : PartData) (later earlier : History) (w place : ℕ) → is_mfw (command_with (command_held earlier)) ≡ false →
-    AreSame (memory_of part (later ++ entry (Write 1 w) place ∷ earlier)) (put_over (pairs_loaded part (settings_of part.idcode earlier) None w later) (memory_of part earlier))
+    HaveSameFrames (memory_of part (later ++ entry (Write 1 w) place ∷ earlier)) (put_over (pairs_loaded part (settings_of part.idcode earlier) None w later) (memory_of part earlier))
 memory_after_load_alone part later earlier w place other far =
     let i = flow_sound part earlier in
     memory_after_load part later earlier w place far

@@ -12,7 +12,7 @@ use Rattle.x7_part.specs.Part.{PartData, frame_words}
 use Rattle.x7_part.specs.Slot.{addresses_among, from_address, slots_in, slots_from}
 use Rattle.x7_part.specs.declared.slot.Slot.{Slot}
 use Rattle.x7_part.specs.declared.slot.Slot.TheVariants.{Frame, Pad, End}
-use Rattle.x7_memory.specs.FrameMap.{AreSame, override}
+use Rattle.x7_memory.specs.FrameMap.{HaveSameFrames, override}
 use Rattle.x7_memory.specs.Plan.{PlanRow, planned, planned_addresses}
 use Rattle.x7_memory.proofs.MapLemmas.{override_same, planned_joined}
 use Rattle.x7_memory.proofs.PlanLemmas.{planned_after, planned_here}
@@ -70,7 +70,7 @@ or_else_none : (a : Option (List ℕ)) → option_or a None ≡ a
 or_else_none None = refl
 or_else_none (Some words) = refl
 
-pub planned_reversed : (least : ℕ) (rows : List PlanRow) → Rises least (planned_addresses rows) → AreSame (planned (reverse rows)) (planned rows)
+pub planned_reversed : (least : ℕ) (rows : List PlanRow) → Rises least (planned_addresses rows) → HaveSameFrames (planned (reverse rows)) (planned rows)
 unfolding planned
 planned_reversed least [] r far = refl
 planned_reversed least (row ∷ rows) r far =
@@ -90,7 +90,7 @@ planned_reversed least (row ∷ rows) r far =
 -- whole frames and one more leave the memory overridden by the frames at the slots in order
 pub write_plans : (part : PartData) (earlier : History) (w place n : ℕ) (frames : List (List ℕ)) (last : List ℕ) → 0 < frame_words part → Rises 0 (addresses_in part) → takes_frames (settings_of part.idcode earlier) ≡ true →
     AllByRecursion (λ frame. length frame ≡ frame_words part) (frames ++ last ∷ []) →
-    AreSame (memory_of part (entered_all n (payload_steps 2 (flat_map (λ frame. frame) (frames ++ last ∷ []))) (entry (Write 1 w) place ∷ earlier)))
+    HaveSameFrames (memory_of part (entered_all n (payload_steps 2 (flat_map (λ frame. frame) (frames ++ last ∷ []))) (entry (Write 1 w) place ∷ earlier)))
     (override (memory_of part earlier) (planned (filter_map pair_of (zip (slots_from part (loaded_base part w)) frames))))
 write_plans part earlier w place n frames last some rises t all far =
     let rows : List PlanRow = filter_map pair_of (zip (slots_from part (loaded_base part w)) frames) in

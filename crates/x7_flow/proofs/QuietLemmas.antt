@@ -2,7 +2,7 @@
 use Rattle.std.proofs.Common.{◌≡◌, ℕ, ◌-◌, ◌<◌, ◌==◌, ◌&&◌, ◌||◌, not, Bool, true, false, if◌then◌else◌, List, [], ◌∷◌, ◌++◌, refl, sym, ap, ◌∙◌, arith, ne_eqb}
 use Rattle.x7_packets.specs.History.{Access, Write, Read, Bad, History, entry, writes}
 use Rattle.x7_part.specs.Part.{PartData}
-use Rattle.x7_memory.specs.FrameMap.{AreSame}
+use Rattle.x7_memory.specs.FrameMap.{HaveSameFrames}
 use Rattle.x7_memory.specs.Plan.{PlanRow}
 use Rattle.x7_regs.specs.Command.{command_by}
 use Rattle.x7_pipeline.specs.FarAsRead.{has_frame_at}
@@ -37,7 +37,7 @@ quiet_pairs part s f [] q = refl
 quiet_pairs part s f (e ∷ later) q =
     ap (λ (ps : List PlanRow). ps ++ pairs_from part s f later) (quiet_puts part (settings_from part.idcode s later) e.access (flow_from part s f later) q.0) ∙ quiet_pairs part s f later q.1
 
-pub quiet_memory : (part : PartData) (later earlier : History) → AreQuiet later → AreSame (memory_of part (later ++ earlier)) (memory_of part earlier)
+pub quiet_memory : (part : PartData) (later earlier : History) → AreQuiet later → HaveSameFrames (memory_of part (later ++ earlier)) (memory_of part earlier)
 quiet_memory part later earlier q far =
     memory_joined part later earlier far
     ∙ put_none (pairs_from part (settings_of part.idcode earlier) (flow_of part earlier) later) (memory_of part earlier) (quiet_pairs part (settings_of part.idcode earlier) (flow_of part earlier) later q) far

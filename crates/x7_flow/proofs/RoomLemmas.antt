@@ -6,7 +6,7 @@ use Rattle.x7_packets.specs.History.{History, Write, entered_all, entry}
 use Rattle.x7_packets.specs.Packet.{payload_steps}
 use Rattle.x7_part.specs.Part.{PartData, frame_words}
 use Rattle.x7_part.specs.Slot.{slots_from}
-use Rattle.x7_memory.specs.FrameMap.{AreSame}
+use Rattle.x7_memory.specs.FrameMap.{HaveSameFrames}
 use Rattle.x7_pipeline.specs.declared.fault.RunFault.TheVariants.{Overrun}
 use Rattle.x7_pipeline.specs.FarAsRead.{has_frame_at}
 use Rattle.x7_pipeline.specs.Fault.{address_fault, completes, has_filled, write_fault}
@@ -51,11 +51,11 @@ words_none part n (w ∷ ws) h t a l =
 
 -- the memory that words leave which begin a run
 pub words_memory : (part : PartData) (n : ℕ) (ws : List ℕ) (h : History) → takes_frames (settings_of part.idcode h) ≡ true → run_of part h ≡ []
-    → AreSame (memory_of part (entered_all n (payload_steps 2 ws) h)) (put_over (written_frames part (base_of part h) (onto ws [])) (memory_of part h))
+    → HaveSameFrames (memory_of part (entered_all n (payload_steps 2 ws) h)) (put_over (written_frames part (base_of part h) (onto ws [])) (memory_of part h))
 words_memory part n ws h t e =
     let base : ℕ = base_of part h in
-    let first : AreSame (memory_of part h) (put_over (written_frames part base (run_of part h)) (memory_of part h)) = λ far. sym (put_none (written_frames part base (run_of part h)) (memory_of part h) (ap (written_frames part base) e ∙ landed_empty part base) far) in
-    let all : AreSame (memory_of part (entered_all n (payload_steps 2 ws) h)) (put_over (written_frames part base (onto ws (run_of part h))) (memory_of part h)) =
+    let first : HaveSameFrames (memory_of part h) (put_over (written_frames part base (run_of part h)) (memory_of part h)) = λ far. sym (put_none (written_frames part base (run_of part h)) (memory_of part h) (ap (written_frames part base) e ∙ landed_empty part base) far) in
+    let all : HaveSameFrames (memory_of part (entered_all n (payload_steps 2 ws) h)) (put_over (written_frames part base (onto ws (run_of part h))) (memory_of part h)) =
     lands_over part base (run_of part h) (onto ws (run_of part h)) (memory_of part h) (memory_of part h) (memory_of part (entered_all n (payload_steps 2 ws) h)) (words_land part n ws h t) first in
     λ far. all far ∙ ap (λ t. put_over (written_frames part base (onto ws t)) (memory_of part h) far) e
 

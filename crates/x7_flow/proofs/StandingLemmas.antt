@@ -7,7 +7,7 @@ use Rattle.x7_packets.specs.History.{Access, Read, Entry, History, entry}
 use Rattle.x7_part.specs.Part.{PartData, frame_words}
 use Rattle.x7_part.specs.declared.slot.Slot.{Slot}
 use Rattle.x7_part.specs.declared.slot.Slot.TheVariants.{Frame, Pad, End}
-use Rattle.x7_memory.specs.FrameMap.{FrameMap, AreSame}
+use Rattle.x7_memory.specs.FrameMap.{FrameMap, HaveSameFrames}
 use Rattle.x7_memory.specs.PartFrames.{frame_at, zero_frames}
 use Rattle.x7_memory.specs.Plan.{PlanRow, planned}
 use Rattle.x7_memory.proofs.MapLemmas.{override_same, same_memory}
@@ -22,7 +22,7 @@ use Rattle.x7_pipeline.specs.Runs.{written_frames, put_over, Lands}
 use Rattle.x7_pipeline.specs.FarAsRead.{has_frame_at, loaded_base}
 use Rattle.x7_pipeline.specs.Copies.{copied_pairs, is_mfw}
 use Rattle.x7_pipeline.specs.Fault.{address_fault, copy_fault, drop_fault, readback_fault}
-use Rattle.x7_pipeline.specs.Flow.{FlowGoesOn, HoldsFlow, LandsAt, OfFlow, after_reads, after_words, begun_at, begun_by, pairs_copied_by, fault_of_copy}
+use Rattle.x7_pipeline.specs.Flow.{FlowGoesOn, HoldsFlow, LandsAt, ForEachFlow, after_reads, after_words, begun_at, begun_by, pairs_copied_by, fault_of_copy}
 use Rattle.x7_pipeline.specs.Pipeline.{AreOfPart, PipelineData}
 use Rattle.x7_pipeline.specs.Readback.{readback_at, read_slot, word_at, word_in_frame}
 use Rattle.x7_flow.specs.Asking.{Asked, LoadsFar, Commands, AddsWord, CopiesSource, Reads, NothingAsked}
@@ -53,14 +53,14 @@ did_order part p q frames c stands = record {
   memory = λ f h far. sym (put_none [] (frame_at part frames) refl far);
 }
 
-word_memory : (part : PartData) (base w : ℕ) (run : List ℕ) (old new : FrameMap) → Lands part base run (w ∷ run) old new → AreSame new (put_over (written_frames_more part base run) old)
+word_memory : (part : PartData) (base w : ℕ) (run : List ℕ) (old new : FrameMap) → Lands part base run (w ∷ run) old new → HaveSameFrames new (put_over (written_frames_more part base run) old)
 word_memory part base w run old new l =
     let same : l.added ≡ written_frames_more part base run = append_cancel_right l.added (written_frames_more part base run) (written_frames part base run) (sym l.grows ∙ landed_grows part base w run) in
     rw (← same) l.memory
 
 pub did_word : (part : PartData) (p q : PipelineData) (old new : List (List ℕ)) (w : ℕ) →
     FlowGoesOn part p q (after_words (w ∷ [])) →
-    OfFlow part p (λ f. LandsAt part f (w ∷ []) (frame_at part old) (frame_at part new)) →
+    ForEachFlow part p (λ f. LandsAt part f (w ∷ []) (frame_at part old) (frame_at part new)) →
     HaveDone part (AddsWord w) (frames_state p old) (frames_state q new)
 did_word part p q old new w stands lands = record {
   flow = λ f h. record { stands = stands f h.stands; nowhere = h.nowhere };
@@ -78,8 +78,8 @@ copy_allowed part f e = by (is_mfw f.command) (is_some f.source) (has_frame_at p
     by false s b e = absurd (none-some _ e)
 
 pub did_copy : (part : PartData) (p q : PipelineData) (old new : List (List ℕ)) → q ≡ p →
-    OfFlow part p (λ f. AreSame (frame_at part new) (put_over (pairs_copied_by f) (frame_at part old))) →
-    OfFlow part p (λ f. None ≡ fault_of_copy part f) →
+    ForEachFlow part p (λ f. HaveSameFrames (frame_at part new) (put_over (pairs_copied_by f) (frame_at part old))) →
+    ForEachFlow part p (λ f. None ≡ fault_of_copy part f) →
     HaveDone part CopiesSource (frames_state p old) (frames_state q new)
 did_copy part p q old new same put allowed = record {
   flow = λ f h. rw same h;
@@ -120,16 +120,16 @@ one_more part old new e h did are =
 
 -- ---- words of frame data that are due
 
-no_word : (part : PartData) (memory other : FrameMap) → AreSame memory other → (slot : Slot) (i : ℕ) → word_at slot memory i ≡ word_at slot other i
+no_word : (part : PartData) (memory other : FrameMap) → HaveSameFrames memory other → (slot : Slot) (i : ℕ) → word_at slot memory i ≡ word_at slot other i
 no_word part memory other same (Frame far) i = ap (λ (o : Option (List ℕ)). word_in_frame o i) (same far)
 no_word part memory other same Pad i = refl
 no_word part memory other same End i = refl
 
-read_same : (part : PartData) (base place : ℕ) (memory other : FrameMap) → AreSame memory other → readback_at part base memory place ≡ readback_at part base other place
+read_same : (part : PartData) (base place : ℕ) (memory other : FrameMap) → HaveSameFrames memory other → readback_at part base memory place ≡ readback_at part base other place
 unfolding readback_at
 read_same part base place memory other same = no_word part memory other same (read_slot part base place) (place % frame_words part)
 
-words_same : (part : PartData) (base place count : ℕ) (memory other : FrameMap) → AreSame memory other → readback_words part base memory place count ≡ readback_words part base other place count
+words_same : (part : PartData) (base place count : ℕ) (memory other : FrameMap) → HaveSameFrames memory other → readback_words part base memory place count ≡ readback_words part base other place count
 words_same part base place zero memory other same = refl
 words_same part base place (suc count) memory other same =
     ap (λ (w : ℕ). w ∷ readback_words part base memory (place + 1) count) (read_same part base place memory other same)
@@ -147,7 +147,7 @@ read_begins part p frames e h count a t are =
     let now : flow_of part (e ∷ h) ≡ record f { given = f.given + count } = flow_more part e h ∙ ap (λ (x : Asked). flow_by part x f) a ∙ read_flow part f count t in
     let back : without_due 0 f ≡ without_due count (flow_of part (e ∷ h)) =
     ap (λ (n : ℕ). record f { given = n }) (omega arith) ∙ ap (without_due count) (sym now) in
-    let same : AreSame (memory_of part (e ∷ h)) (memory_of part h) = λ far.
+    let same : HaveSameFrames (memory_of part (e ∷ h)) (memory_of part h) = λ far.
     memory_more part e h far ∙ ap (λ (x : Asked). put_over (pairs_put part x f) (memory_of part h) far) a ∙ put_none [] (memory_of part h) refl far in
     let sum : count_given part (e ∷ h) ≡ f.given + count = ap (λ (g : Flow). g.given) now in
     let place : count_given part (e ∷ h) - count ≡ f.given = omega arith in (
@@ -163,7 +163,7 @@ read_begins part p frames e h count a t are =
 
 -- the next of the words due
 pub read_next : (part : PartData) (p q : PipelineData) (frames : List (List ℕ)) (h : History) (due word : ℕ) → AreFramesAfter part p frames h (due + 1) →
-    OfFlow part p (λ f. word ≡ readback_at part f.base (frame_at part frames) f.given) →
+    ForEachFlow part p (λ f. word ≡ readback_at part f.base (frame_at part frames) f.given) →
     FlowGoesOn part p q (after_reads 1) →
     AreFramesAfter part q frames h due × (words_due part h (suc due) ≡ word ∷ words_due part h due)
 read_next part p q frames h due word are is stands =

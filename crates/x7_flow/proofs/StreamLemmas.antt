@@ -7,12 +7,12 @@ use Rattle.x7_packets.specs.Packet.{payload_steps}
 use Rattle.x7_packets.proofs.HistoryLemmas.{kept_all}
 use Rattle.x7_part.specs.Part.{PartData, frame_words}
 use Rattle.x7_part.specs.Slot.{slots_from}
-use Rattle.x7_memory.specs.FrameMap.{FrameMap, AreSame}
+use Rattle.x7_memory.specs.FrameMap.{FrameMap, HaveSameFrames}
 use Rattle.x7_memory.specs.Plan.{PlanRow, planned}
 use Rattle.x7_memory.proofs.MapLemmas.{override_again, override_same}
 use Rattle.x7_regs.specs.Command.{command_with}
 use Rattle.x7_pipeline.specs.RunsInWords.{pair_of}
-use Rattle.x7_pipeline.specs.Runs.{but_newest, frames_of, written_frames, onto, put_over, rest_of, Lands}
+use Rattle.x7_pipeline.specs.Runs.{without_newest, frames_of, written_frames, onto, put_over, rest_of, Lands}
 use Rattle.x7_pipeline.specs.FarAsRead.{has_frame_at, loaded_base}
 use Rattle.x7_pipeline.specs.Copies.{copied_pairs, is_mfw}
 use Rattle.x7_pipeline.proofs.LawLemmas.{landed_empty, landed_in_order, reverse_cons}
@@ -87,7 +87,7 @@ frames_land part base frames last some all =
     whole_frames (frame_words part) (frames ++ last ∷ []) [] some all (nothing_yet (frame_words part)).0
     ∙ ap (λ (fs : List (List ℕ)). reverse (frames ++ last ∷ []) ++ fs) (nothing_yet (frame_words part)).1
     ∙ append-nil (reverse (frames ++ last ∷ [])) ∙ reverse-append frames (last ∷ []) in
-    let back : reverse (but_newest (frames_of (frame_words part) run)) ≡ frames = ap (λ (fs : List (List ℕ)). reverse (but_newest fs)) cut ∙ reverse-reverse frames in
+    let back : reverse (without_newest (frames_of (frame_words part) run)) ≡ frames = ap (λ (fs : List (List ℕ)). reverse (without_newest fs)) cut ∙ reverse-reverse frames in
     sym (reverse-reverse (written_frames part base run))
     ∙ ap reverse (landed_in_order part base run ∙ ap (λ (fs : List (List ℕ)). filter_map pair_of (zip (slots_from part base) fs)) back)
 
@@ -97,12 +97,12 @@ loaded_here : (part : PartData) (w place : ℕ) (h : History) → (run_of part (
 unfolding flow_of
 loaded_here part w place h = (refl, refl)
 
-load_memory : (part : PartData) (w place : ℕ) (h : History) → AreSame (memory_of part (entry (Write 1 w) place ∷ h)) (memory_of part h)
+load_memory : (part : PartData) (w place : ℕ) (h : History) → HaveSameFrames (memory_of part (entry (Write 1 w) place ∷ h)) (memory_of part h)
 load_memory part w place h far = memory_more part (entry (Write 1 w) place) h far ∙ put_none [] (memory_of part h) refl far
 
 pub write_puts : (part : PartData) (earlier : History) (w place n : ℕ) (frames : List (List ℕ)) (last : List ℕ) → 0 < frame_words part → takes_frames (settings_of part.idcode earlier) ≡ true →
     AllByRecursion (λ frame. length frame ≡ frame_words part) (frames ++ last ∷ []) →
-    AreSame (memory_of part (entered_all n (payload_steps 2 (flat_map (λ frame. frame) (frames ++ last ∷ []))) (entry (Write 1 w) place ∷ earlier)))
+    HaveSameFrames (memory_of part (entered_all n (payload_steps 2 (flat_map (λ frame. frame) (frames ++ last ∷ []))) (entry (Write 1 w) place ∷ earlier)))
     (put_over (reverse (filter_map pair_of (zip (slots_from part (loaded_base part w)) frames))) (memory_of part earlier))
 write_puts part earlier w place n frames last some t all far =
     let words : List ℕ = flat_map (λ frame. frame) (frames ++ last ∷ []) in
@@ -126,12 +126,12 @@ write_puts part earlier w place n frames last some t all far =
 pub record IsCopied (part : PartData) (f : Flow) (s : Settings) (memory : FrameMap) (pairs : List PlanRow) (h : History) : Type 0 where
   pub flow_is : flow_of part h ≡ f
   pub settings_are : settings_of part.idcode h ≡ s
-  pub memory_is : AreSame (memory_of part h) (put_over pairs memory)
+  pub memory_is : HaveSameFrames (memory_of part h) (put_over pairs memory)
 
 pub copy_asked : (s : Settings) (w : ℕ) → takes_copies s ≡ true → asked_under s (Write 10 w) ≡ CopiesSource
 copy_asked s w t = ap (λ (b : Bool). if b then CopiesSource else NothingAsked) t
 
-copy_memory : (part : PartData) (h : History) (w place : ℕ) → takes_copies (settings_of part.idcode h) ≡ true → AreSame (memory_of part (entry (Write 10 w) place ∷ h)) (put_over (copy_pairs part (flow_of part h)) (memory_of part h))
+copy_memory : (part : PartData) (h : History) (w place : ℕ) → takes_copies (settings_of part.idcode h) ≡ true → HaveSameFrames (memory_of part (entry (Write 10 w) place ∷ h)) (put_over (copy_pairs part (flow_of part h)) (memory_of part h))
 copy_memory part h w place t far = memory_more part (entry (Write 10 w) place) h far ∙ ap (λ (a : Asked). put_over (pairs_put part a (flow_of part h)) (memory_of part h) far) (copy_asked (settings_of part.idcode h) w t)
 
 pub copy_flow : (part : PartData) (h : History) (w place : ℕ) → takes_copies (settings_of part.idcode h) ≡ true → flow_of part (entry (Write 10 w) place ∷ h) ≡ flow_of part h
@@ -175,7 +175,7 @@ copies_here part w place earlier frame m s a =
 -- words of MFWR, one at least, put the source at the base
 pub copies_put : (part : PartData) (earlier : History) (w place n word : ℕ) (ws frame : List ℕ) → takes_copies (settings_of part.idcode earlier) ≡ true →
     is_mfw (command_with (command_held earlier)) ≡ true → source_of part earlier ≡ Some frame → has_frame_at part (loaded_base part w) ≡ true →
-    AreSame (memory_of part (entered_all n (payload_steps 10 (word ∷ ws)) (entry (Write 1 w) place ∷ earlier)))
+    HaveSameFrames (memory_of part (entered_all n (payload_steps 10 (word ∷ ws)) (entry (Write 1 w) place ∷ earlier)))
     (put_over (record { far = loaded_base part w; words = frame } ∷ []) (memory_of part earlier))
 copies_put part earlier w place n word ws frame t m s a far =
     let h : History = entry (Write 1 w) place ∷ earlier in

@@ -3,7 +3,7 @@ use Rattle.std.proofs.Common.{◌≡◌, ℕ, ◌==◌, ◌&&◌, ◌||◌, not,
 use Rattle.std.proofs.lemmas.Bool.Decides.{nat_tests}
 use Rattle.x7_packets.specs.History.{Access, Write, Read, Bad, Entry, History}
 use Rattle.x7_part.specs.Part.{PartData}
-use Rattle.x7_memory.specs.FrameMap.{FrameMap, AreSame}
+use Rattle.x7_memory.specs.FrameMap.{FrameMap, HaveSameFrames}
 use Rattle.x7_memory.specs.Plan.{PlanRow, planned}
 use Rattle.x7_memory.proofs.MapLemmas.{override_same}
 use Rattle.x7_regs.specs.Command.{command_by}
@@ -16,7 +16,7 @@ use Rattle.x7_regs.specs.declared.command.Command.{Command}
 use Rattle.x7_regs.specs.declared.command.Command.TheVariants as command
 use Rattle.x7_flow.specs.Asking.{Asked, LoadsFar, Commands, AddsWord, CopiesSource, Reads, NothingAsked}
 use Rattle.x7_flow.specs.Settings.{Settings, settings_of, takes_frames, takes_copies, gives_frames}
-use Rattle.x7_flow.specs.HistoryFlow.{Flow, asked_under, asked_after, begins_stretch, is_copy, flow_by, flow_of}
+use Rattle.x7_flow.specs.HistoryFlow.{Flow, asked_under, asked_after, begins_stretch, asks_copy, flow_by, flow_of}
 use Rattle.x7_flow.specs.FrameMemory.{copy_pairs, written_frames_more, memory_of, pairs_put}
 use Rattle.x7_flow.specs.Stretches.{access_begins_stretch, copies_of, ends_of, memory_by_stretches, stretch_pairs}
 use Rattle.x7_flow.proofs.FlowLemmas.{flow_sound, landed_grows, put_none}
@@ -43,11 +43,11 @@ asked_begins_stretch s (Bad w) = refl
 copy_alone : (r : ℕ) (b c : Bool) → (r == 10 && b) ≡ true → ((r == 1) ≡ false) × ((r == 4) ≡ false) × ((r == 2 && c) ≡ false)
 copy_alone r b c t = (grind (arith, nat_tests), grind (arith, nat_tests), grind (arith, nat_tests))
 
-pub asked_copy : (idcode : ℕ) (h : History) (access : Access) → copies_frame idcode h access ≡ is_copy (asked_after idcode h access)
+pub asked_copy : (idcode : ℕ) (h : History) (access : Access) → copies_frame idcode h access ≡ asks_copy (asked_after idcode h access)
 asked_copy idcode h (Write r w) = by (r == 1) (r == 4) (r == 2 && takes_frames (settings_of idcode h)) (r == 10 && takes_copies (settings_of idcode h)) (copy_alone r (takes_copies (settings_of idcode h)) (takes_frames (settings_of idcode h)))
   where
     by : (far cmd fdri mfwr : Bool) → (mfwr ≡ true → (far ≡ false) × (cmd ≡ false) × (fdri ≡ false)) →
-        mfwr ≡ is_copy (if far then LoadsFar w else if cmd then Commands (command_by w) else if fdri then AddsWord w else if mfwr then CopiesSource else NothingAsked)
+        mfwr ≡ asks_copy (if far then LoadsFar w else if cmd then Commands (command_by w) else if fdri then AddsWord w else if mfwr then CopiesSource else NothingAsked)
     by true cmd fdri true p = let e = p refl in absurd (cc e.0)
     by true cmd fdri false p = refl
     by false true fdri true p = let e = p refl in absurd (cc e.1)
@@ -58,7 +58,7 @@ asked_copy idcode h (Write r w) = by (r == 1) (r == 4) (r == 2 && takes_frames (
     by false false false false p = refl
 asked_copy idcode h (Read r count) = by (r == 3 && (not (count == 0) && gives_frames (settings_of idcode h)))
   where
-    by : (b : Bool) → false ≡ is_copy (if b then Reads count else NothingAsked)
+    by : (b : Bool) → false ≡ asks_copy (if b then Reads count else NothingAsked)
     by true = refl
     by false = refl
 asked_copy idcode h (Bad w) = refl
@@ -66,7 +66,7 @@ asked_copy idcode h (Bad w) = refl
 -- ---- the pairs of a stretch and one access more
 
 copies_by : PartData → Asked → Flow → List PlanRow → List PlanRow
-copies_by part a f old = if begins_stretch a then [] else if is_copy a then copy_pairs part f ++ old else old
+copies_by part a f old = if begins_stretch a then [] else if asks_copy a then copy_pairs part f ++ old else old
 
 copies_more : (part : PartData) (e : Entry) (h : History) → copies_of part (e ∷ h) ≡ copies_by part (asked_after part.idcode h e.access) (flow_of part h) (copies_of part h)
 unfolding copies_of copies_by
@@ -110,10 +110,10 @@ begin_step part NothingAsked f old e = absurd cc
 
 -- ---- all stretches
 
-put_joined : (second first : List PlanRow) (m : FrameMap) → AreSame (put_over (second ++ first) m) (put_over second (put_over first m))
+put_joined : (second first : List PlanRow) (m : FrameMap) → HaveSameFrames (put_over (second ++ first) m) (put_over second (put_over first m))
 put_joined second first m far = sym (put_twice first second m (put_over first m) (put_over second (put_over first m)) (λ a. refl) (λ a. refl) far)
 
-put_same : (pairs : List PlanRow) (m n : FrameMap) → AreSame m n → AreSame (put_over pairs m) (put_over pairs n)
+put_same : (pairs : List PlanRow) (m n : FrameMap) → HaveSameFrames m n → HaveSameFrames (put_over pairs m) (put_over pairs n)
 put_same pairs m n e = override_same m n (planned pairs) (planned pairs) e (λ a. refl)
 
 true_or_false : (b : Bool) → (b ≡ true) ⊎ (b ≡ false)
@@ -128,14 +128,14 @@ ends_stay : (e : Entry) (h : History) → access_begins_stretch e.access ≡ fal
 unfolding ends_of
 ends_stay e h b = rw b refl
 
-pub by_stretches : (part : PartData) (h : History) → AreSame (memory_of part h) (memory_by_stretches part (h ∷ ends_of h))
+pub by_stretches : (part : PartData) (h : History) → HaveSameFrames (memory_of part h) (memory_by_stretches part (h ∷ ends_of h))
 unfolding memory_of flow_of memory_by_stretches copies_of ends_of
 by_stretches part [] far = sym (put_none (written_frames part 0 [] ++ []) (memory_by_stretches part []) (ap (λ ps. ps ++ []) (landed_empty part 0)) far)
 by_stretches part (e ∷ h) far =
     let a : Asked = asked_after part.idcode h e.access in
     let f : Flow = flow_of part h in
     let old : List PlanRow = copies_of part h in
-    let ih : AreSame (memory_of part h) (memory_by_stretches part (h ∷ ends_of h)) = by_stretches part h in
+    let ih : HaveSameFrames (memory_of part h) (memory_by_stretches part (h ∷ ends_of h)) = by_stretches part h in
     let pairs : stretch_pairs part (e ∷ h) ≡ written_frames part (flow_by part a f).base (flow_by part a f).run ++ copies_by part a f old =
     ap (λ ps. written_frames part (flow_by part a f).base (flow_by part a f).run ++ ps) (copies_more part e h) in
     elim (true_or_false (begins_stretch a)) [

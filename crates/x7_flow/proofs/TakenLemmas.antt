@@ -6,14 +6,14 @@ use Rattle.x7_part.specs.Part.{PartData}
 use Rattle.x7_regs.specs.declared.register.Reg.{Reg}
 use Rattle.x7_regs.specs.declared.register.Reg.TheVariants as reg
 use Rattle.x7_regs.specs.Register.{number_of}
-use Rattle.x7_memory.specs.FrameMap.{FrameMap, AreSame}
+use Rattle.x7_memory.specs.FrameMap.{FrameMap, HaveSameFrames}
 use Rattle.x7_memory.specs.PartFrames.{frame_at}
 use Rattle.x7_memory.specs.Plan.{PlanRow, planned}
 use Rattle.x7_memory.proofs.MapLemmas.{override_same}
 use Rattle.x7_pipeline.specs.declared.fault.RunFault.{RunFault}
 use Rattle.x7_pipeline.specs.Runs.{written_frames, onto, put_over, Lands}
 use Rattle.x7_pipeline.specs.Fault.{write_fault}
-use Rattle.x7_pipeline.specs.Flow.{HoldsFlow, OfFlow, after_words, with_run, flow_written}
+use Rattle.x7_pipeline.specs.Flow.{HoldsFlow, ForEachFlow, after_words, with_run, flow_written}
 use Rattle.x7_pipeline.specs.Pipeline.{PipelineData}
 use Rattle.x7_pipeline.specs.RunWritten.{RunWritten, with_later_words, run_written}
 use Rattle.x7_flow.specs.Asking.{Asked, CopiesSource, NothingAsked, AddsWord}
@@ -81,17 +81,17 @@ parted part n (w ∷ words) h t =
 
 -- ---- the pipeline and the memory
 
-lands_alike : (part : PartData) (base : ℕ) (run longer : List ℕ) (old new under over : FrameMap) → Lands part base run longer old new → Lands part base run longer under over → AreSame old under → AreSame new over
+lands_alike : (part : PartData) (base : ℕ) (run longer : List ℕ) (old new under over : FrameMap) → Lands part base run longer old new → Lands part base run longer under over → HaveSameFrames old under → HaveSameFrames new over
 lands_alike part base run longer old new under over first second same far =
     let added : first.added ≡ second.added = append_cancel_right first.added second.added (written_frames part base run) (sym first.grows ∙ second.grows) in
     first.memory far ∙ ap (λ (ps : List PlanRow). put_over ps old far) added
     ∙ override_same old under (planned second.added) (planned second.added) same (λ a. refl) far ∙ sym (second.memory far)
 
 pub words_taken : (part : PartData) (p q : PipelineData) (old new : List (List ℕ)) (bytes : List ℕ) (n : ℕ) (seen : ℕ × Option RunFault) (h : History) →
-    OfFlow part p (λ f. HoldsFlow part q (with_run (flow_written part f (words_of_bytes bytes)).run f)) →
-    OfFlow part p (λ f. Lands part f.base f.run (flow_written part f (words_of_bytes bytes)).run (frame_at part old) (frame_at part new)) →
-    OfFlow part p (λ f. seen.0 ≡ (flow_written part f (words_of_bytes bytes)).count) →
-    OfFlow part p (λ f. seen.1 ≡ (flow_written part f (words_of_bytes bytes)).fault) →
+    ForEachFlow part p (λ f. HoldsFlow part q (with_run (flow_written part f (words_of_bytes bytes)).run f)) →
+    ForEachFlow part p (λ f. Lands part f.base f.run (flow_written part f (words_of_bytes bytes)).run (frame_at part old) (frame_at part new)) →
+    ForEachFlow part p (λ f. seen.0 ≡ (flow_written part f (words_of_bytes bytes)).count) →
+    ForEachFlow part p (λ f. seen.1 ≡ (flow_written part f (words_of_bytes bytes)).fault) →
     takes_frames (settings_of part.idcode h) ≡ true → AreFramesAfter part p old h 0 → WordsTaken part (frames_state q new) h (words_to reg.Fdri n bytes) seen
 words_taken part p q old new bytes n seen h stands lands counted faulty t are =
     let words : List ℕ = words_of_bytes bytes in

@@ -12,7 +12,7 @@ use Rattle.x7_pipeline.specs.Copies.{is_mfw, is_wcfg, newest_of, source_after}
 use Rattle.x7_flow.specs.FrameAccess.{reads_frame_data, writes_frame_data}
 use Rattle.x7_flow.specs.Asking.{LoadsFar, Commands, AddsWord, CopiesSource, Reads, NothingAsked}
 use Rattle.x7_flow.specs.Settings.{Settings, command_code_after, settings_of, takes_frames, takes_copies, gives_frames}
-use Rattle.x7_flow.specs.HistoryFlow.{Flow, asked_under, asked_after, is_read, is_word, far_in, far_read, flow_by, flow_of, base_of, run_of, source_of, count_given}
+use Rattle.x7_flow.specs.HistoryFlow.{Flow, asked_under, asked_after, asks_frame_read, adds_frame_word, far_in, far_read, flow_by, flow_of, base_of, run_of, source_of, count_given}
 use Rattle.x7_flow.specs.Stretches.{access_begins_stretch}
 use Rattle.x7_flow.specs.FlowInWords.{base_after, count_asked, frame_taken, run_with_word, sum_of_reads, words_written}
 use Rattle.x7_flow.proofs.SettingsLemmas.{settings_more}
@@ -23,11 +23,11 @@ use Rattle.x7_flow.proofs.FlowLemmas.{flow_sound}
 fdri_alone : (r : ℕ) (b : Bool) → (r == 2 && b) ≡ true → ((r == 1) ≡ false) × ((r == 4) ≡ false)
 fdri_alone r b t = (grind (arith, nat_tests), grind (arith, nat_tests))
 
-pub asked_word : (idcode : ℕ) (h : History) (access : Access) → writes_frame_data idcode h access ≡ is_word (asked_after idcode h access)
+pub asked_word : (idcode : ℕ) (h : History) (access : Access) → writes_frame_data idcode h access ≡ adds_frame_word (asked_after idcode h access)
 asked_word idcode h (Write r w) = by (r == 1) (r == 4) (r == 2 && takes_frames (settings_of idcode h)) (r == 10 && takes_copies (settings_of idcode h)) (fdri_alone r (takes_frames (settings_of idcode h)))
   where
     by : (far cmd fdri mfwr : Bool) → (fdri ≡ true → (far ≡ false) × (cmd ≡ false)) →
-        fdri ≡ is_word (if far then LoadsFar w else if cmd then Commands (command_by w) else if fdri then AddsWord w else if mfwr then CopiesSource else NothingAsked)
+        fdri ≡ adds_frame_word (if far then LoadsFar w else if cmd then Commands (command_by w) else if fdri then AddsWord w else if mfwr then CopiesSource else NothingAsked)
     by true cmd true mfwr p = let e = p refl in absurd (cc e.0)
     by true cmd false mfwr p = refl
     by false true true mfwr p = let e = p refl in absurd (cc e.1)
@@ -37,15 +37,15 @@ asked_word idcode h (Write r w) = by (r == 1) (r == 4) (r == 2 && takes_frames (
     by false false false false p = refl
 asked_word idcode h (Read r count) = by (r == 3 && (not (count == 0) && gives_frames (settings_of idcode h)))
   where
-    by : (b : Bool) → false ≡ is_word (if b then Reads count else NothingAsked)
+    by : (b : Bool) → false ≡ adds_frame_word (if b then Reads count else NothingAsked)
     by true = refl
     by false = refl
 asked_word idcode h (Bad w) = refl
 
-pub asked_read : (idcode : ℕ) (h : History) (access : Access) → reads_frame_data h access ≡ is_read (asked_after idcode h access)
+pub asked_read : (idcode : ℕ) (h : History) (access : Access) → reads_frame_data h access ≡ asks_frame_read (asked_after idcode h access)
 asked_read idcode h (Write r w) = by (r == 1) (r == 4) (r == 2 && takes_frames (settings_of idcode h)) (r == 10 && takes_copies (settings_of idcode h))
   where
-    by : (far cmd fdri mfwr : Bool) → false ≡ is_read (if far then LoadsFar w else if cmd then Commands (command_by w) else if fdri then AddsWord w else if mfwr then CopiesSource else NothingAsked)
+    by : (far cmd fdri mfwr : Bool) → false ≡ asks_frame_read (if far then LoadsFar w else if cmd then Commands (command_by w) else if fdri then AddsWord w else if mfwr then CopiesSource else NothingAsked)
     by true cmd fdri mfwr = refl
     by false true fdri mfwr = refl
     by false false true mfwr = refl
@@ -53,19 +53,19 @@ asked_read idcode h (Write r w) = by (r == 1) (r == 4) (r == 2 && takes_frames (
     by false false false false = refl
 asked_read idcode h (Read r count) = by (r == 3 && (not (count == 0) && gives_frames (settings_of idcode h)))
   where
-    by : (b : Bool) → b ≡ is_read (if b then Reads count else NothingAsked)
+    by : (b : Bool) → b ≡ asks_frame_read (if b then Reads count else NothingAsked)
     by true = refl
     by false = refl
 asked_read idcode h (Bad w) = refl
 
 -- ---- the run
 
-run_step : (part : PartData) (s : Settings) (access : Access) (f : Flow) (fdri : Bool) → fdri ≡ is_word (asked_under s access) →
+run_step : (part : PartData) (s : Settings) (access : Access) (f : Flow) (fdri : Bool) → fdri ≡ adds_frame_word (asked_under s access) →
     (flow_by part (asked_under s access) f).run ≡ (if access_begins_stretch access then [] else if fdri then run_with_word access f.run else f.run)
 run_step part s (Write r w) f fdri e = rw e (by (r == 1) (r == 4) (r == 2 && takes_frames s) (r == 10 && takes_copies s))
   where
     by : (far cmd word mfwr : Bool) → (flow_by part (if far then LoadsFar w else if cmd then Commands (command_by w) else if word then AddsWord w else if mfwr then CopiesSource else NothingAsked) f).run
-        ≡ (if cmd || far then [] else if is_word (if far then LoadsFar w else if cmd then Commands (command_by w) else if word then AddsWord w else if mfwr then CopiesSource else NothingAsked) then w ∷ f.run else f.run)
+        ≡ (if cmd || far then [] else if adds_frame_word (if far then LoadsFar w else if cmd then Commands (command_by w) else if word then AddsWord w else if mfwr then CopiesSource else NothingAsked) then w ∷ f.run else f.run)
     by true true word mfwr = refl
     by true false word mfwr = refl
     by false true word mfwr = refl
@@ -74,7 +74,7 @@ run_step part s (Write r w) f fdri e = rw e (by (r == 1) (r == 4) (r == 2 && tak
     by false false false false = refl
 run_step part s (Read r count) f fdri e = rw e (by (r == 3 && (not (count == 0) && gives_frames s)))
   where
-    by : (b : Bool) → (flow_by part (if b then Reads count else NothingAsked) f).run ≡ (if is_word (if b then Reads count else NothingAsked) then f.run else f.run)
+    by : (b : Bool) → (flow_by part (if b then Reads count else NothingAsked) f).run ≡ (if adds_frame_word (if b then Reads count else NothingAsked) then f.run else f.run)
     by true = refl
     by false = refl
 run_step part s (Bad w) f fdri e = rw e refl

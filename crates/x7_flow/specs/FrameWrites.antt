@@ -33,8 +33,8 @@ abbrev pub words_of_frames : List (List ℕ) → List ℕ
 words_of_frames frames = flat_map (λ frame. frame) frames
 
 -- each frame has the part's width
-abbrev pub AreWhole : PartData → List (List ℕ) → Type 0
-AreWhole part frames = AllByRecursion (λ frame. length frame ≡ frame_words part) frames
+abbrev pub HaveFrameWidth : PartData → List (List ℕ) → Type 0
+HaveFrameWidth part frames = AllByRecursion (λ frame. length frame ≡ frame_words part) frames
 
 -- a history with the write after it
 abbrev pub with_frames : FrameWrite → History → History
@@ -48,13 +48,13 @@ pairs_placed part x = placed_from part (loaded_base part x.far) x.frames
 pub record TakesWrite (part : PartData) (h : History) (x : FrameWrite) : Type 0 where
   pub some : 0 < frame_words part
   pub takes : takes_frames (settings_of part.idcode h) ≡ true
-  pub whole : AreWhole part (all_frames x)
+  pub whole : HaveFrameWidth part (all_frames x)
 
 -- the run of a history is of these whole frames
 pub record RunHolds (part : PartData) (h : History) (frames : List (List ℕ)) : Type 0 where
   pub some : 0 < frame_words part
   pub run : run_of part h ≡ onto (words_of_frames frames) []
-  pub whole : AreWhole part frames
+  pub whole : HaveFrameWidth part frames
 
 -- MFW is written right after a run under WCFG, whose last frame is `last`
 pub record MfwAfter (part : PartData) (h : History) (word : ℕ) (frames : List (List ℕ)) (last : List ℕ) : Type 0 where

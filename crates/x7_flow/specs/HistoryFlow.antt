@@ -41,19 +41,19 @@ begins_stretch (Commands c) = true
 begins_stretch _ = false
 
 -- a word of frame data is written
-abbrev pub is_word : Asked → Bool
-is_word (AddsWord w) = true
-is_word _ = false
+abbrev pub adds_frame_word : Asked → Bool
+adds_frame_word (AddsWord w) = true
+adds_frame_word _ = false
 
 -- a copy is asked
-abbrev pub is_copy : Asked → Bool
-is_copy CopiesSource = true
-is_copy _ = false
+abbrev pub asks_copy : Asked → Bool
+asks_copy CopiesSource = true
+asks_copy _ = false
 
 -- frame data is read
-abbrev pub is_read : Asked → Bool
-is_read (Reads count) = true
-is_read _ = false
+abbrev pub asks_frame_read : Asked → Bool
+asks_frame_read (Reads count) = true
+asks_frame_read _ = false
 
 -- ---- the flow
 

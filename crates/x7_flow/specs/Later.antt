@@ -3,7 +3,7 @@
 use Rattle.std.specs.Prelude.{◌≡◌, ℕ, Bool, true, List, [], ◌∷◌, ◌++◌, Option, None}
 use Rattle.x7_packets.specs.History.{History, Write, command_held, entry}
 use Rattle.x7_part.specs.Part.{PartData}
-use Rattle.x7_memory.specs.FrameMap.{AreSame}
+use Rattle.x7_memory.specs.FrameMap.{HaveSameFrames}
 use Rattle.x7_memory.specs.Plan.{PlanRow}
 use Rattle.x7_regs.specs.declared.register.Reg.TheVariants as reg
 use Rattle.x7_regs.specs.Register.{number_of}
@@ -79,4 +79,4 @@ pub record BeginsRun (x : Start) (later : History) : Type 0 where
 
 -- a history's memory is that of another with these pairs put over it
 abbrev pub MemoryGets : PartData → History → History → List PlanRow → Type 0
-MemoryGets part h earlier pairs = AreSame (memory_of part h) (put_over pairs (memory_of part earlier))
+MemoryGets part h earlier pairs = HaveSameFrames (memory_of part h) (put_over pairs (memory_of part earlier))

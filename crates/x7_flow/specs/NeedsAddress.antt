@@ -6,7 +6,7 @@ use Rattle.x7_pipeline.specs.Copies.{is_mfw}
 use Rattle.x7_pipeline.specs.FarAsRead.{has_frame_at}
 use Rattle.x7_pipeline.specs.RunsInWords.{Overruns}
 use Rattle.x7_flow.specs.Asking.{Asked, AddsWord, CopiesSource, Reads}
-use Rattle.x7_flow.specs.HistoryFlow.{Flow, asked_after, base_of, flow_of, is_copy, run_of}
+use Rattle.x7_flow.specs.HistoryFlow.{Flow, asked_after, base_of, flow_of, asks_copy, run_of}
 
 -- a run has no word
 abbrev pub is_empty : List ℕ → Bool
@@ -28,7 +28,7 @@ LacksAddress part h access far =
 -- an access after a history is a copy, and there is no frame to copy: the command isn't MFW, or MFW took none
 abbrev pub LacksSource : PartData → History → Access → Type 0
 LacksSource part h access =
-    (is_copy (asked_after part.idcode h access) ≡ true) × ((is_mfw (flow_of part h).command && is_some (flow_of part h).source) ≡ false)
+    (asks_copy (asked_after part.idcode h access) ≡ true) × ((is_mfw (flow_of part h).command && is_some (flow_of part h).source) ≡ false)
 
 -- an access after a history writes this word of frame data, and the base is an address
 pub record WritesWord (part : PartData) (h : History) (access : Access) (w : ℕ) : Type 0 where

@@ -2,7 +2,7 @@
 use Rattle.std.specs.Prelude.{◌≡◌, ◌∷◌}
 use Rattle.x7_packets.specs.History.{Entry, History}
 use Rattle.x7_part.specs.Part.{PartData}
-use Rattle.x7_memory.specs.FrameMap.{AreSame}
+use Rattle.x7_memory.specs.FrameMap.{HaveSameFrames}
 use Rattle.x7_memory.specs.PartFrames.{AreFramesOf, frame_at}
 use Rattle.x7_pipeline.specs.Runs.{put_over}
 use Rattle.x7_pipeline.specs.Saved.{SavedState, next_put, pair_at}
@@ -23,10 +23,10 @@ pub record FramesAreSaved (part : PartData) (s : SavedState) (old new : FramesSt
 -- the old frames stand for a history, and the new memory is that of the history with one access more
 pub record HaveOneAccessMore (part : PartData) (old new : FramesState) (h : History) (e : Entry) : Type 0 where
   pub stands : FramesStandFor part old h 0
-  pub memory : AreSame (frames_map part new) (memory_of part (e ∷ h))
+  pub memory : HaveSameFrames (frames_map part new) (memory_of part (e ∷ h))
 
 -- the saved pipeline is that of the old frames, and the new memory with the saved pair is the old one
 pub record FramesBack (part : PartData) (s : SavedState) (new old : FramesState) : Type 0 where
   pub pipeline : s.pipeline ≡ old.pipeline
-  pub memory : AreSame (put_over s.pair (frame_at part new.memory)) (frame_at part old.memory)
+  pub memory : HaveSameFrames (put_over s.pair (frame_at part new.memory)) (frame_at part old.memory)
   pub frames_fit : AreFramesOf part old.memory

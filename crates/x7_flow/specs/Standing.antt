@@ -6,7 +6,7 @@ use Rattle.x7_regs.specs.declared.register.Reg.{Reg}
 use Rattle.x7_regs.specs.Register.{number_of}
 use Rattle.x7_pipeline.specs.declared.fault.RunFault.{RunFault}
 use Rattle.x7_part.specs.Part.{PartData}
-use Rattle.x7_memory.specs.FrameMap.{FrameMap, AreSame}
+use Rattle.x7_memory.specs.FrameMap.{FrameMap, HaveSameFrames}
 use Rattle.x7_memory.specs.PartFrames.{frame_at}
 use Rattle.x7_pipeline.specs.FarAsRead.{has_frame_at}
 use Rattle.x7_pipeline.specs.Flow.{HoldsFlow}
@@ -38,7 +38,7 @@ far_owing part h due = far_in part (without_due due (flow_of part h))
 -- history's
 pub record AreFramesAfter (part : PartData) (p : PipelineData) (frames : List (List ℕ)) (h : History) (due : ℕ) : Type 0 where
   pub flow : HasFlow part p (without_due due (flow_of part h))
-  pub memory : AreSame (frame_at part frames) (memory_of part h)
+  pub memory : HaveSameFrames (frame_at part frames) (memory_of part h)
   pub due_given : due ≤ count_given part h
 
 -- a pipeline, and the frames of a memory in number order of their addresses
@@ -53,7 +53,7 @@ frames_state pipeline memory = record { pipeline = pipeline; memory = memory }
 -- frames, old before and new after they did what an access asks
 pub record HaveDone (part : PartData) (a : Asked) (old new : FramesState) : Type 0 where
   pub flow : (f : Flow) → HasFlow part old.pipeline f → HasFlow part new.pipeline (flow_by part a f)
-  pub memory : (f : Flow) → HasFlow part old.pipeline f → AreSame (frame_at part new.memory) (put_over (pairs_put part a f) (frame_at part old.memory))
+  pub memory : (f : Flow) → HasFlow part old.pipeline f → HaveSameFrames (frame_at part new.memory) (put_over (pairs_put part a f) (frame_at part old.memory))
 
 -- `count` words of a readback from a place on
 abbrev pub readback_words : PartData → ℕ → FrameMap → ℕ → ℕ → List ℕ
@@ -92,8 +92,8 @@ abbrev pub frames_map : PartData → FramesState → FrameMap
 frames_map part f = frame_at part f.memory
 
 -- a fact holds of each history that the frames stand for with no word due, and that leaves these settings
-abbrev pub OfFrames : PartData → FrameSettings → FramesState → (History → Type 0) → Type 0
-OfFrames part settings f Fact = (h : History) → AreSettingsAfter part.idcode settings h → FramesStandFor part f h 0 → Fact h
+abbrev pub ForEachFrames : PartData → FrameSettings → FramesState → (History → Type 0) → Type 0
+ForEachFrames part settings f Fact = (h : History) → AreSettingsAfter part.idcode settings h → FramesStandFor part f h 0 → Fact h
 
 -- frames before and after they did what an access after a history asks
 abbrev pub FramesHaveDone : PartData → FramesState → FramesState → History → Entry → Type 0

@@ -1,6 +1,6 @@
 //! Laws of the frames of a history. The functions do nothing: their contracts are the laws.
 ghost use Rattle.std.specs.Prelude.{◌≡◌, ◌↔◌, ◌∷◌, ◌++◌, [], ℕ, List, None, Option, Some, reverse, ◌<◌, ◌-◌, true, false};
-ghost use Rattle.x7_memory.specs.FrameMap.{AreSame};
+ghost use Rattle.x7_memory.specs.FrameMap.{HaveSameFrames};
 ghost use Rattle.x7_part.specs.AddressOrder.{Rises, addresses_in};
 ghost use Rattle.x7_part.specs.Part.{PartData, frame_words};
 ghost use Rattle.x7_packets.specs.History.{Access, Entry, History};
@@ -11,7 +11,7 @@ ghost use Rattle.x7_pipeline.specs.Runs.{written_frames, onto};
 ghost use Rattle.x7_pipeline.specs.Saved.{SavedState};
 ghost use Rattle.x7_pipeline.specs.declared.fault.RunFault.{RunFault};
 ghost use Rattle.x7_flow.specs.Alike.{AreSameButForMask, WritesMaskBeforeCtl0};
-ghost use Rattle.x7_flow.specs.HistoryFlow.{Flow, HasAddress, asked_after, base_of, begins_stretch, far_read, flow_of, frame_fault, count_given, is_copy, is_read, is_word, run_of, source_of};
+ghost use Rattle.x7_flow.specs.HistoryFlow.{Flow, HasAddress, asked_after, base_of, begins_stretch, far_read, flow_of, frame_fault, count_given, asks_copy, asks_frame_read, adds_frame_word, run_of, source_of};
 ghost use Rattle.x7_flow.specs.FrameAccess.{copies_frame, reads_frame_data, writes_frame_data};
 ghost use Rattle.x7_flow.specs.FrameMemory.{written_frames_more, memory_of};
 ghost use Rattle.x7_flow.specs.FrameWrites.{FrameCopies, FrameWrite, MfwAfter, TakesCopies, TakesWrite, pair_copied, pairs_placed, with_frame_copies, with_frames};
@@ -48,15 +48,15 @@ pub fn later_histories_override()
 
 /// The memory is the zero map overridden, stretch by stretch in order, by the stretch's written frames and its copies.
 pub fn stretches_override_in_order()
-    ensures memory { (part : PartData) (h : History) → AreSame (memory_of part h) (memory_by_stretches part (h ∷ ends_of h)) }
+    ensures memory { (part : PartData) (h : History) → HaveSameFrames (memory_of part h) (memory_by_stretches part (h ∷ ends_of h)) }
 {}
 
 /// What an access asks is what it does: frame data written, a copy, frame data read.
 pub fn accesses_do_what_they_ask()
     ensures begins { (idcode : ℕ) (h : History) (access : Access) → access_begins_stretch access ≡ begins_stretch (asked_after idcode h access) }
-    ensures word { (idcode : ℕ) (h : History) (access : Access) → writes_frame_data idcode h access ≡ is_word (asked_after idcode h access) }
-    ensures copy { (idcode : ℕ) (h : History) (access : Access) → copies_frame idcode h access ≡ is_copy (asked_after idcode h access) }
-    ensures read { (idcode : ℕ) (h : History) (access : Access) → reads_frame_data h access ≡ is_read (asked_after idcode h access) }
+    ensures word { (idcode : ℕ) (h : History) (access : Access) → writes_frame_data idcode h access ≡ adds_frame_word (asked_after idcode h access) }
+    ensures copy { (idcode : ℕ) (h : History) (access : Access) → copies_frame idcode h access ≡ asks_copy (asked_after idcode h access) }
+    ensures read { (idcode : ℕ) (h : History) (access : Access) → reads_frame_data h access ≡ asks_frame_read (asked_after idcode h access) }
 {}
 
 /// The base, the run, the count given and the source of a history, each by a recursion of its own.
@@ -89,10 +89,10 @@ pub fn refusals_have_causes()
     ensures no_slot { (part : PartData) (h : History) (access : Access) (w : ℕ) → WritesWord part h access w →
         (frame_fault part h access ≡ Some RunFault.Overrun) ↔ LacksSlot part h w }
     ensures only_words_overrun { (part : PartData) (h : History) (access : Access) → frame_fault part h access ≡ Some RunFault.Overrun →
-        is_word (asked_after part.idcode h access) ≡ true }
+        adds_frame_word (asked_after part.idcode h access) ≡ true }
     ensures runs_at_address { (part : PartData) (e : Entry) (h : History) → RunsAtAddress part h → frame_fault part h e.access ≡ None → RunsAtAddress part (e ∷ h) }
     ensures memory { (part : PartData) (e : Entry) (h : History) (fault : RunFault) → frame_fault part h e.access ≡ Some fault →
-        AreSame (memory_of part (e ∷ h)) (memory_of part h) }
+        HaveSameFrames (memory_of part (e ∷ h)) (memory_of part h) }
     ensures far { (part : PartData) (e : Entry) (h : History) (fault : RunFault) → frame_fault part h e.access ≡ Some fault →
         far_read part (e ∷ h) ≡ far_read part h }
 {}
@@ -138,7 +138,7 @@ pub fn written_frames_land_in_order()
 /// flow is that of a read of the others; where all are, it is the flow before the read.
 pub fn quiet_accesses_move_no_frame()
     ensures pairs { (part : PartData) (s : Settings) (f : Flow) (later : History) → AreQuiet later → pairs_from part s f later ≡ [] }
-    ensures memory { (part : PartData) (later earlier : History) → AreQuiet later → AreSame (memory_of part (later ++ earlier)) (memory_of part earlier) }
+    ensures memory { (part : PartData) (later earlier : History) → AreQuiet later → HaveSameFrames (memory_of part (later ++ earlier)) (memory_of part earlier) }
     ensures some_due { (part : PartData) (h : History) (register count due n : ℕ) → ReadsMoreThanDue h register count due →
         without_due due (flow_read part h register count n) ≡ flow_read part h register (count - due) n }
     ensures all_due { (part : PartData) (h : History) (register count n : ℕ) → ReadsData h register count → without_due count (flow_read part h register count n) ≡ flow_of part h }
@@ -176,7 +176,7 @@ pub fn words_have_room()
 /// Saved frames lead back from frames of the same memory, and, where no word is due, over one access more.
 pub fn saved_frames_lead_back()
     ensures unchanged { (part : PartData) (s : SavedState) (old new : FramesState) → FramesAreSaved part s old new →
-        AreSame (frames_map part new) (frames_map part old) → FramesBack part s new old }
+        HaveSameFrames (frames_map part new) (frames_map part old) → FramesBack part s new old }
     ensures one_more { (part : PartData) (s : SavedState) (old new : FramesState) (h : History) (e : Entry) → FramesAreSaved part s old new →
         HaveOneAccessMore part old new h e → FramesBack part s new old }
 {}

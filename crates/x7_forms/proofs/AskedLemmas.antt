@@ -7,11 +7,11 @@ use Rattle.x7_forms.specs.Event.{Event, bad_input, bad_part, missing, reading_fa
 use Rattle.x7_forms.specs.Known.{Absent, Broken, Found, Held, Mishap, StreamRead, and_so, bytes_found, data_in, input_found, stream_known, taken_whole, with_inputs, if_within}
 use Rattle.x7_forms.specs.Step.{IsCaused, IsNoPart, IsUnplayed, IsUnread}
 use Rattle.x7_forms.specs.ReadingStops.{IsAbout, Limited, StopsAmong, limited, limited_together, size_in, size_of}
-use Rattle.x7_forms.specs.Turn.{GivesFew, ReadsBytes, IsLastAsked, UnreadBeginning, Unopened}
+use Rattle.x7_forms.specs.Turn.{GivesWithinLimit, ReadsBytes, IsLastAsked, UnreadBeginning, Unopened}
 use Rattle.x7_forms.proofs.ReadLemmas.{IsAt, asked_on, left_at}
 
 -- a turn after what was read
-pub gives_on : (old mid new : InputsState) (taken : List ℕ) (limit left : ℕ) → ReadsBytes old taken mid → length taken + left ≡ limit → mid.ends ≤ old.ends → GivesFew mid left new → GivesFew old limit new
+pub gives_on : (old mid new : InputsState) (taken : List ℕ) (limit left : ℕ) → ReadsBytes old taken mid → length taken + left ≡ limit → mid.ends ≤ old.ends → GivesWithinLimit mid left new → GivesWithinLimit old limit new
 gives_on old mid new taken limit left r n e g = record { asked = g.asked ∙ r.asked; selects = g.selects ∙ r.takes.selects; ends = omega (arith, e, g.ends); given = omega (arith, n, r.takes.given, g.given) }
 
 -- an input of which nothing was read
@@ -19,23 +19,23 @@ pub last_asked_opened : (name : List ℕ) (limit : ℕ) (now : InputsState) → 
 last_asked_opened name limit now a = record { asked = a.asked; given = omega (arith, a.given) }
 
 -- an input that was read
-pub last_asked_read : (name : List ℕ) (limit : ℕ) (opened now : InputsState) → AsksForName name opened → GivesFew opened limit now → IsLastAsked name limit now
+pub last_asked_read : (name : List ℕ) (limit : ℕ) (opened now : InputsState) → AsksForName name opened → GivesWithinLimit opened limit now → IsLastAsked name limit now
 last_asked_read name limit opened now a g = record { asked = asked_on name opened now a g.asked; given = omega (arith, a.given, g.given) }
 
 -- a turn after what was read of it
-pub last_asked_turn : (name taken : List ℕ) (limit left : ℕ) (mid new : InputsState) → IsAt name taken mid → length taken + left ≡ limit → GivesFew mid left new → IsLastAsked name limit new
+pub last_asked_turn : (name taken : List ℕ) (limit left : ℕ) (mid new : InputsState) → IsAt name taken mid → length taken + left ≡ limit → GivesWithinLimit mid left new → IsLastAsked name limit new
 last_asked_turn name taken limit left mid new a n g = record { asked = subst (λ k. IfSome k (λ kept. kept ≡ name)) (sym g.asked) a.asked; given = omega (arith, n, a.given, g.given) }
 
 -- a first turn and what was read after it
-pub last_asked_rest : (name taken : List ℕ) (limit left : ℕ) (opened mid new : InputsState) → AsksForName name opened → ReadsBytes opened taken mid → length taken + left ≡ limit → GivesFew mid left new → IsLastAsked name limit new
+pub last_asked_rest : (name taken : List ℕ) (limit left : ℕ) (opened mid new : InputsState) → AsksForName name opened → ReadsBytes opened taken mid → length taken + left ≡ limit → GivesWithinLimit mid left new → IsLastAsked name limit new
 last_asked_rest name taken limit left opened mid new a r n g = record { asked = asked_on name opened new a (g.asked ∙ r.asked); given = omega (arith, n, a.given, r.takes.given, g.given) }
 
 -- an input that was asked for once, and its end read once at most
-pub few_read : (old opened new : InputsState) (limit : ℕ) → AsksOnce old opened → GivesFew opened limit new → AsksAtMost old 1 new
+pub few_read : (old opened new : InputsState) (limit : ℕ) → AsksOnce old opened → GivesWithinLimit opened limit new → AsksAtMost old 1 new
 few_read old opened new limit o g = record { selects = omega (arith, o.selects, g.selects); ends = omega (arith, o.ends, g.ends) }
 
 -- one of which a first turn was read, and what is after it where that was not the last
-pub few_after : (last : Bool) (old opened mid new : InputsState) (limit left : ℕ) → AsksOnce old opened → GivesFew opened limit mid → (last ≡ false → mid.ends ≤ opened.ends) → GivesFew mid left new → (last ≡ true → new.ends ≤ mid.ends) → AsksAtMost old 1 new
+pub few_after : (last : Bool) (old opened mid new : InputsState) (limit left : ℕ) → AsksOnce old opened → GivesWithinLimit opened limit mid → (last ≡ false → mid.ends ≤ opened.ends) → GivesWithinLimit mid left new → (last ≡ true → new.ends ≤ mid.ends) → AsksAtMost old 1 new
 few_after true old opened mid new limit left o f go g none = record { selects = omega (arith, o.selects, f.selects, g.selects); ends = omega (arith, o.ends, f.ends, none refl) }
 few_after false old opened mid new limit left o f go g none = record { selects = omega (arith, o.selects, f.selects, g.selects); ends = omega (arith, o.ends, go refl, g.ends) }
 

@@ -41,7 +41,7 @@ pub record ReadsBytes (old : InputsState) (bytes : List ℕ) (new : InputsState)
 
 -- No input was asked for since, and of the selected one at most `left` bytes and one more
 -- were given, and its end read once at most.
-pub record GivesFew (old : InputsState) (left : ℕ) (new : InputsState) : Type 0 where
+pub record GivesWithinLimit (old : InputsState) (left : ℕ) (new : InputsState) : Type 0 where
   pub asked : new.asked ≡ old.asked
   pub selects : new.selects ≡ old.selects
   pub ends : new.ends ≤ old.ends + 1

@@ -4,7 +4,7 @@ ghost use Rattle.x7_header.specs.Header.{fixed_size};
 ghost use Rattle.x7_words.specs.Input.{InputsStay};
 ghost use Rattle.x7_forms.specs.Event.{bad_input, event_of, no_memory};
 ghost use Rattle.x7_forms.specs.Known.{stream_limit};
-ghost use Rattle.x7_forms.specs.Turn.{DataBeginAt, GivesFew, HeaderGoesOn, IsBeginning, IsRefused, ReadsBeginning, RefusedAt, UnreadBeginning, beginning_data, longest_beginning};
+ghost use Rattle.x7_forms.specs.Turn.{DataBeginAt, GivesWithinLimit, HeaderGoesOn, IsBeginning, IsRefused, ReadsBeginning, RefusedAt, UnreadBeginning, beginning_data, longest_beginning};
 ghost use Rattle.x7_forms.specs.declared.bad_input.InputFault.TheVariants as input;
 
 use crate::read::{STREAM_LIMIT, TURN_SIZE, next_turn, refused_at};
@@ -82,7 +82,7 @@ pub fn read_beginning<'w, I: Inputs>(
     ensures selected { OnOk result ((I.state inputs.new).selected ≡ true) }
     ensures begins { IfOk result (λ first. ReadsBeginning (beginning_data first) (I.state inputs.old) (I.state inputs.new)) }
     ensures refused { IfErr result (λ r. UnreadBeginning (I.state inputs.old) stream.now (I.state inputs.new) (event_of r)) }
-    ensures gives_few { GivesFew (I.state inputs.old) stream_limit (I.state inputs.new) }
+    ensures gives_few { GivesWithinLimit (I.state inputs.old) stream_limit (I.state inputs.new) }
     ensures short { (I.state inputs.new).given ≤ (I.state inputs.old).given + longest_beginning }
     ensures inputs { InputsStay (I.state inputs.old) (I.state inputs.new) }
 {

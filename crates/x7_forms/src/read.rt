@@ -3,7 +3,7 @@ ghost use Rattle.std.specs.Prelude.{◌≡◌, ◌+◌, ◌-◌, ◌<◌, ◌≤
 ghost use Rattle.x7_words.specs.Input.{AsksForName, AsksAtMost, AsksOnce, AtEnd, OpensInput, InputsStay, TakesInput};
 ghost use Rattle.x7_forms.specs.Event.{bad_input, event_of, no_memory, reading_failed, too_large};
 ghost use Rattle.x7_forms.specs.Known.{data_in};
-ghost use Rattle.x7_forms.specs.Turn.{AppendsRest, BreaksWithin, GivesFew, ReadsRest, IsLastAsked, Unopened, UnreadTurn, UnreadRest};
+ghost use Rattle.x7_forms.specs.Turn.{AppendsRest, BreaksWithin, GivesWithinLimit, ReadsRest, IsLastAsked, Unopened, UnreadTurn, UnreadRest};
 ghost use Rattle.x7_forms.specs.Step.{IsUnread, ReadsWhole, result_by};
 ghost use Rattle.x7_forms.specs.declared.bad_input.InputFault.TheVariants as input;
 
@@ -120,7 +120,7 @@ pub fn next_turn<'w, I: Inputs>(
     ensures refused { IfErr result (λ r. UnreadTurn (I.state inputs.old) name.now (I.state inputs.new) left (event_of r)) }
     ensures fails_early { IfErr result (λ r. event_of r ≡ reading_failed name.now → (I.state inputs.new).given < (I.state inputs.old).given + length buffer.old) }
     ensures over { IfErr result (λ r. event_of r ≡ too_large name.now → left < length buffer.old) }
-    ensures gives_few { GivesFew (I.state inputs.old) left (I.state inputs.new) }
+    ensures gives_few { GivesWithinLimit (I.state inputs.old) left (I.state inputs.new) }
     ensures gives_a_turn { (I.state inputs.new).given ≤ (I.state inputs.old).given + length buffer.old }
     ensures inputs { InputsStay (I.state inputs.old) (I.state inputs.new) }
 {
@@ -149,7 +149,7 @@ fn read_rest<'w, I: Inputs>(
     requires selected { (I.state inputs.old).selected ≡ true }
     ensures read { OnOk result (AppendsRest (I.state inputs.old) (I.state inputs.new) limit onto.old.items onto.new.items) }
     ensures refused { IfErr result (λ r. (event_of r ≡ no_memory) ⊎ UnreadRest (I.state inputs.old) name.now (I.state inputs.new) limit (event_of r)) }
-    ensures gives_few { GivesFew (I.state inputs.old) limit (I.state inputs.new) }
+    ensures gives_few { GivesWithinLimit (I.state inputs.old) limit (I.state inputs.new) }
     ensures inputs { InputsStay (I.state inputs.old) (I.state inputs.new) }
 {
     let mut piece = [0u8; TURN_SIZE];
@@ -199,7 +199,7 @@ pub fn skip_rest<'w, I: Inputs>(
     ensures read { OnOk result ((more : List ℕ) × (length more ≤ limit) × ReadsRest (I.state inputs.old) (I.state inputs.new) more) }
     ensures refused { IfErr result (λ r. UnreadRest (I.state inputs.old) name.now (I.state inputs.new) limit (event_of r)) }
     ensures length { length buffer.new ≡ length buffer.old }
-    ensures gives_few { GivesFew (I.state inputs.old) limit (I.state inputs.new) }
+    ensures gives_few { GivesWithinLimit (I.state inputs.old) limit (I.state inputs.new) }
     ensures no_end_read { last ≡ true → (I.state inputs.new).ends ≤ (I.state inputs.old).ends }
     ensures inputs { InputsStay (I.state inputs.old) (I.state inputs.new) }
 {

@@ -33,5 +33,5 @@ abbrev pub ComeTo : PartData → Result PlanData FramesFault → List (List ℕ)
 ComeTo part r lines = (text : List ℕ) → split text ≡ lines → IsPlanOf part text r
 
 -- a text of these lines has this fault; of want of memory nothing is said here
-abbrev pub AreRefused : PartData → FramesFault → List (List ℕ) → Type 0
-AreRefused part f lines = (f ≡ fault.NoMemory) ⊎ ComeTo part (Err f) lines
+abbrev pub HasFramesFault : PartData → FramesFault → List (List ℕ) → Type 0
+HasFramesFault part f lines = (f ≡ fault.NoMemory) ⊎ ComeTo part (Err f) lines

@@ -2,7 +2,7 @@
 ghost use Rattle.std.specs.Prelude.{◌≡◌, ◌⊎◌, ℕ, List, [], Ok, IfErr, IfOk, OnOk, IsPermutation};
 ghost use Rattle.x7_part.specs.Part.{frame_words};
 ghost use Rattle.x7_memory.specs.Plan.{IsPlan};
-ghost use Rattle.x7_frames.specs.FrameLines.{StayGoodWith, AreRefused, ComeTo, HasRows, RowsRead};
+ghost use Rattle.x7_frames.specs.FrameLines.{StayGoodWith, HasFramesFault, ComeTo, HasRows, RowsRead};
 ghost use Rattle.x7_frames.specs.LineTaken.{IsFaultAt, IsGoodLine, TakesLine};
 ghost use Rattle.x7_frames.specs.declared.fault.FramesFault.{FramesFault};
 
@@ -72,7 +72,7 @@ impl<'p> TakesLines for FrameLines<'p> {
 
     ghost took = { λ first. HasRows first.part };
 
-    ghost fails = { λ first. AreRefused first.part };
+    ghost fails = { λ first. HasFramesFault first.part };
 
     ghost gives = { λ first plan. ComeTo first.part (Ok plan) };
 
@@ -81,7 +81,7 @@ impl<'p> TakesLines for FrameLines<'p> {
     ghost wants = { λ first. StayGoodWith first.part };
 
     fn no_memory() -> FramesFault
-        ensures { (first : RowsRead) (lines : List (List ℕ)) → AreRefused first.part result lines }
+        ensures { (first : RowsRead) (lines : List (List ℕ)) → HasFramesFault first.part result lines }
     {
         FramesFault::NoMemory
     }

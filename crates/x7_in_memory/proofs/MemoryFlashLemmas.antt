@@ -5,7 +5,7 @@ use Rattle.std.proofs.lemmas.Bool.Decides.{nat_tests}
 use Rattle.std.specs.Cmp.Lexicographic.{bytes_decides}
 use Rattle.std.specs.Str.{bytes_eq}
 use Rattle.x7_words.specs.Count.{HasRisen}
-use Rattle.x7_words.specs.Flash.{replaced, FlashIsAskedFor, IsTorn, TimeElapses, FlashStays, OnlyReads, SeesBytes, Unwritten}
+use Rattle.x7_words.specs.Flash.{replaced, FlashIsAskedFor, IsTorn, TimeElapses, KeepsBytes, OnlyReads, SeesBytes, WritesNothing}
 use Rattle.x7_in_memory.specs.Memory.{FlashInMemory, PastWrite, WriteRecord, left_by, write_refused, next_tear, latest_tear, flash_write_fails, known_flash, names_asked, seen_in, after_memory_attach, after_read_at, flash_fails, begun, after_refusal, after_tear, after_begun_write, after_flash_write, recorded, has_room}
 use Rattle.x7_in_memory.specs.FoundSince.{FoundSince}
 use Rattle.x7_words.proofs.CountLemmas.{raised_risen}
@@ -182,7 +182,7 @@ module _ (old new : FlashInMemory) (place : ℕ) (target : List ℕ) (within : p
 
 -- what was found before is found after a call that writes nothing
 unwritten_by : (old new : FlashInMemory) → new.writes ≡ old.writes → new.bytes ≡ old.bytes → new.write_faults ≡ old.write_faults
-    → Unwritten (known_flash old) (known_flash new) (FoundSince old.writes.past old.bytes) (FoundSince new.writes.past new.bytes)
+    → WritesNothing (known_flash old) (known_flash new) (FoundSince old.writes.past old.bytes) (FoundSince new.writes.past new.bytes)
 unwritten_by old new w b f = record {
   write_faults = f;
   moments = ap (λ (r : WriteRecord). length r.past) w;
@@ -210,7 +210,7 @@ attach_asks old new name e = subst (λ (n : FlashInMemory). FlashIsAskedFor (kno
 })
 
 pub attach_stays : (old new : FlashInMemory) (name : List ℕ) → new ≡ after_memory_attach old name → old.read_faults ≤ new.read_faults → old.absences ≤ new.absences
-    → FlashStays (known_flash old) (known_flash new) (FoundSince old.writes.past old.bytes) (FoundSince new.writes.past new.bytes)
+    → KeepsBytes (known_flash old) (known_flash new) (FoundSince old.writes.past old.bytes) (FoundSince new.writes.past new.bytes)
 attach_stays old new name e faults absences = record {
   bytes = ap (λ f. Some f.bytes) e;
   faults = faults;

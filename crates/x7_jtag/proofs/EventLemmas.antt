@@ -9,7 +9,7 @@ use Rattle.x7_jtag.specs.declared.state.State.{State}
 use Rattle.x7_jtag.specs.declared.state.State.TheVariants as state
 use Rattle.x7_jtag.specs.Events.{data_events, events_in, events_of, idle_events, update_events}
 use Rattle.x7_jtag.specs.Instruction.{instruction_of}
-use Rattle.x7_jtag.specs.Port.{Port, acted, captured, clocked, data_shifted, idled, new_port, port_after, queue_at_update, words_read_out, with_bit}
+use Rattle.x7_jtag.specs.Port.{Port, after_action, after_capture, after_clock, data_shifted, after_idle, new_port, port_after, queue_at_update, words_read_out, with_bit}
 use Rattle.x7_jtag.specs.Queue.{QueueEvent, Byte, Queue, by_event, offered, queue_after}
 use Rattle.x7_jtag.specs.State.{PortClock}
 
@@ -17,7 +17,7 @@ eighth : (reads : List ℕ → List ℕ) (q : Queue) (x : ℕ) (b : Bool) → (i
 eighth reads q x true = refl
 eighth reads q x false = refl
 
-idled_events : (part : PartData) (i : Instruction) (p : Port) → (idled part i p).queue ≡ fold (by_event (words_read_out part)) p.queue (idle_events i p)
+idled_events : (part : PartData) (i : Instruction) (p : Port) → (after_idle part i p).queue ≡ fold (by_event (words_read_out part)) p.queue (idle_events i p)
 idled_events part instruction.Jstart p = eighth (words_read_out part) p.queue 255 (p.count == 7)
 idled_events part instruction.CfgOut p = refl
 idled_events part instruction.CfgIn p = refl
@@ -27,7 +27,7 @@ idled_events part instruction.Jprogram p = refl
 idled_events part instruction.Jshutdown p = refl
 idled_events part instruction.Bypass p = refl
 
-captured_events : (part : PartData) (i : Instruction) (p : Port) → (captured part i p).queue ≡ p.queue
+captured_events : (part : PartData) (i : Instruction) (p : Port) → (after_capture part i p).queue ≡ p.queue
 captured_events part instruction.Jstart p = refl
 captured_events part instruction.CfgOut p = refl
 captured_events part instruction.CfgIn p = refl
@@ -57,7 +57,7 @@ programmed_events reads instruction.Idcode q = refl
 programmed_events reads instruction.Jshutdown q = refl
 programmed_events reads instruction.Bypass q = refl
 
-acted_events : (part : PartData) (s : State) (p : Port) (tdi : Bool) → (acted part s p tdi).queue ≡ fold (by_event (words_read_out part)) p.queue (events_in s p tdi)
+acted_events : (part : PartData) (s : State) (p : Port) (tdi : Bool) → (after_action part s p tdi).queue ≡ fold (by_event (words_read_out part)) p.queue (events_in s p tdi)
 acted_events part state.TestLogicReset p tdi = refl
 acted_events part state.RunTestIdle p tdi = idled_events part p.instruction p
 acted_events part state.SelectDr p tdi = refl
@@ -75,11 +75,11 @@ acted_events part state.PauseIr p tdi = refl
 acted_events part state.Exit2Ir p tdi = refl
 acted_events part state.UpdateIr p tdi = programmed_events (words_read_out part) (instruction_of p.register) p.queue
 
-events_from : (part : PartData) (p : Port) (cs : List PortClock) → (fold (clocked part) p cs).queue ≡ fold (by_event (words_read_out part)) p.queue (events_of part p cs)
+events_from : (part : PartData) (p : Port) (cs : List PortClock) → (fold (after_clock part) p cs).queue ≡ fold (by_event (words_read_out part)) p.queue (events_of part p cs)
 events_from part p [] = refl
 events_from part p (c ∷ cs) =
-    let rest : List QueueEvent = events_of part (clocked part p c) cs in
-    events_from part (clocked part p c) cs
+    let rest : List QueueEvent = events_of part (after_clock part p c) cs in
+    events_from part (after_clock part p c) cs
     ∙ ap (λ (q : Queue). fold (by_event (words_read_out part)) q rest) (acted_events part p.state p c.tdi)
     ∙ sym (fold-append (by_event (words_read_out part)) p.queue (events_in p.state p c.tdi) rest)
 

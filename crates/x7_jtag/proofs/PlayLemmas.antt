@@ -16,8 +16,8 @@ use Rattle.x7_svf.specs.declared.statement.Statement.{Statement}
 use Rattle.x7_svf.specs.declared.statement.Statement.TheVariants as statement
 use Rattle.x7_jtag.specs.Clocks.{clock, clocks, clocks_of, from_exit, from_reset, inner_clocks, shift_clocks, to_shift}
 use Rattle.x7_svf.specs.Bits.{bytes_bits}
-use Rattle.x7_jtag.specs.Play.{MayClock, after_clocks, bit_at, difference, difference_from, differs_at, first_by, first_from, first_found, differs_from_wanted, least, tdo_at, walk_clocks}
-use Rattle.x7_jtag.specs.Port.{Port, clocked, new_port, port_after, tdo_of}
+use Rattle.x7_jtag.specs.Play.{MayClock, after_clocks, scan_bit, difference, difference_from, differs_at, first_by, first_from, first_found, differs_from_wanted, least, tdo_at, walk_clocks}
+use Rattle.x7_jtag.specs.Port.{Port, after_clock, new_port, port_after, tdo_of}
 use Rattle.x7_jtag.specs.State.{PortClock, moved_by, state_after, test_logic_reset}
 use Rattle.x7_jtag.specs.Tap.{CanAllBeOffered, CanBeOffered, TapStandsFor, TapState}
 use Rattle.x7_jtag.proofs.ShiftLemmas.{inner_append}
@@ -38,7 +38,7 @@ pub stands_at : (part : PartData) (t : TapState) (d : DeviceState) (cs ds : List
 stands_at part t d cs ds e s = subst (TapStandsFor part t d) e s
 
 pub after : (part : PartData) (cs ds : List PortClock) → port_after part (cs ++ ds) ≡ after_clocks part (port_after part cs) ds
-after part cs ds = fold-append (clocked part) new_port cs ds
+after part cs ds = fold-append (after_clock part) new_port cs ds
 
 -- ---- a walk
 
@@ -104,7 +104,7 @@ shift_length [] = refl
 shift_length (b ∷ []) = refl
 shift_length (b ∷ c ∷ cs) = ap suc (shift_length (c ∷ cs))
 
-shift_at : (bs : List Bool) (i : ℕ) (tms : Bool) → i < length bs → tms ≡ (i == length bs - 1) → take i (shift_clocks bs) ++ clock tms (bit_at bs i) ∷ [] ≡ take (suc i) (shift_clocks bs)
+shift_at : (bs : List Bool) (i : ℕ) (tms : Bool) → i < length bs → tms ≡ (i == length bs - 1) → take i (shift_clocks bs) ++ clock tms (scan_bit bs i) ∷ [] ≡ take (suc i) (shift_clocks bs)
 shift_at [] i tms l e = absurd (omega (arith, l))
 shift_at (b ∷ []) zero tms l e = let t : tms ≡ true = grind (arith, e) in ap (λ (x : Bool). clock x b ∷ []) t
 shift_at (b ∷ []) (suc i) tms l e = absurd (omega (arith, l))
@@ -113,7 +113,7 @@ shift_at (b ∷ c ∷ cs) (suc i) tms l e =
     let t : tms ≡ (i == length (c ∷ cs) - 1) = grind (arith, e) in
     ap (λ r. clock false b ∷ r) (shift_at (c ∷ cs) i tms (omega (arith, l)) t)
 
-pub shift_on : (part : PartData) (u v : TapState) (e f : DeviceState) (cs : List PortClock) (bs : List Bool) (i m : ℕ) (tms bit : Bool) → TapStandsFor part u e (cs ++ take i (shift_clocks bs)) → i < length bs → m ≡ suc i → tms ≡ (i == length bs - 1) → bit ≡ bit_at bs i
+pub shift_on : (part : PartData) (u v : TapState) (e f : DeviceState) (cs : List PortClock) (bs : List Bool) (i m : ℕ) (tms bit : Bool) → TapStandsFor part u e (cs ++ take i (shift_clocks bs)) → i < length bs → m ≡ suc i → tms ≡ (i == length bs - 1) → bit ≡ scan_bit bs i
     → TapStandsFor part v f ((cs ++ take i (shift_clocks bs)) ++ clock tms bit ∷ []) → TapStandsFor part v f (cs ++ take m (shift_clocks bs))
 shift_on part u v e f cs bs i m tms bit s l is t b step =
     stands_at part v f ((cs ++ take i (shift_clocks bs)) ++ clock tms bit ∷ []) (cs ++ take m (shift_clocks bs))
@@ -310,9 +310,9 @@ clocks_more s (y ∷ ss) x =
     ∙ sym (append_assoc first (clocks t ss) (clocks_of (state_after t (clocks t ss)) x))
     ∙ ap (λ (u : State). (first ++ clocks t ss) ++ clocks_of u x) (sym (fold-append moved_by s first (clocks t ss)))
 
-state_by : (part : PartData) (p : Port) (cs : List PortClock) → (fold (clocked part) p cs).state ≡ state_after p.state cs
+state_by : (part : PartData) (p : Port) (cs : List PortClock) → (fold (after_clock part) p cs).state ≡ state_after p.state cs
 state_by part p [] = refl
-state_by part p (c ∷ cs) = state_by part (clocked part p c) cs
+state_by part p (c ∷ cs) = state_by part (after_clock part p c) cs
 
 pub state_is : (part : PartData) (cs : List PortClock) → (port_after part cs).state ≡ state_after test_logic_reset cs
 state_is part cs = state_by part new_port cs

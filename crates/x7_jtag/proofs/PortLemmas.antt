@@ -11,7 +11,7 @@ use Rattle.x7_jtag.specs.declared.instruction.Instruction.TheVariants as instruc
 use Rattle.x7_jtag.specs.declared.state.State.{State}
 use Rattle.x7_jtag.specs.declared.state.State.TheVariants as state
 use Rattle.x7_jtag.specs.Instruction.{instruction_of}
-use Rattle.x7_jtag.specs.Port.{Port, acted, captured, clocked, data_shifted, idled, new_port, port_after, queue_at_update, words_read_out, ir_status_with, ir_status, data_shown, register_shifted, shown_in, tdo_of, updated, with_bit}
+use Rattle.x7_jtag.specs.Port.{Port, after_action, after_capture, after_clock, data_shifted, after_idle, new_port, port_after, queue_at_update, words_read_out, ir_status_with, ir_status, data_shown, register_shifted, shown_in, tdo_of, updated, with_bit}
 use Rattle.x7_jtag.specs.Queue.{Queue, empty_queue, offered, shifted_out}
 use Rattle.x7_jtag.specs.State.{PortClock, next_of}
 use Rattle.x7_jtag.specs.Tap.{QueueStandsFor, QueueState, StandsForPort, TapState, TapStandsFor, TookOfGiven}
@@ -39,9 +39,9 @@ eighth : (part : PartData) (n : QueueState) (e : DeviceState) (p : Port) (q : Qu
 eighth part n e p q count is seven s = subst (λ (b : Bool). QueueStandsFor part n e (if b then q else p.queue)) (seven ∙ ap (λ (c : ℕ). c == 7) is) s
 
 pub idles : (part : PartData) (k n : TapState) (d e : DeviceState) (p : Port) → StandsForPort part k d p → k.instruction ≡ instruction.Jstart → true ≡ (k.count == 7) → n ≡ record k { count = (k.count + 1) % 8; queue = n.queue }
-    → QueueStandsFor part n.queue e (offered (words_read_out part) p.queue 255) → StandsForPort part n e (idled part p.instruction p)
+    → QueueStandsFor part n.queue e (offered (words_read_out part) p.queue 255) → StandsForPort part n e (after_idle part p.instruction p)
 idles part k n d e p s is seven with q =
-    let P : Instruction → Type 0 = λ i. StandsForPort part n e (idled part i p) in
+    let P : Instruction → Type 0 = λ i. StandsForPort part n e (after_idle part i p) in
     subst P (sym is ∙ s.instruction_is) (record {
       state_is = ap (λ (x : TapState). x.state) with ∙ s.state_is;
       instruction_is = ap (λ (x : TapState). x.instruction) with ∙ s.instruction_is;
@@ -76,8 +76,8 @@ programs part k n d e p i s is named with q =
     }
 
 -- the action of the state that the tap is in
-pub acts : (part : PartData) (k n : TapState) (d e : DeviceState) (p : Port) (tdi : Bool) (s : State) → StandsForPort part k d p → k.state ≡ s → StandsForPort part n e (acted part s p tdi) → StandsForPort part n e (acted part p.state p tdi)
-acts part k n d e p tdi s t is a = subst (λ (x : State). StandsForPort part n e (acted part x p tdi)) (sym is ∙ t.state_is) a
+pub acts : (part : PartData) (k n : TapState) (d e : DeviceState) (p : Port) (tdi : Bool) (s : State) → StandsForPort part k d p → k.state ≡ s → StandsForPort part n e (after_action part s p tdi) → StandsForPort part n e (after_action part p.state p tdi)
+acts part k n d e p tdi s t is a = subst (λ (x : State). StandsForPort part n e (after_action part x p tdi)) (sym is ∙ t.state_is) a
 
 pub shows : (part : PartData) (k : TapState) (d : DeviceState) (p : Port) (s : State) (b : Bool) → StandsForPort part k d p → k.state ≡ s → b ≡ shown_in part s p → b ≡ tdo_of part p
 shows part k d p s b t is e = e ∙ ap (λ (x : State). shown_in part x p) (sym is ∙ t.state_is)
@@ -119,7 +119,7 @@ captures part k n d p r s is with = record {
 }
 
 -- no action changes the state: that is the clock's
-idled_state : (part : PartData) (i : Instruction) (p : Port) → (idled part i p).state ≡ p.state
+idled_state : (part : PartData) (i : Instruction) (p : Port) → (after_idle part i p).state ≡ p.state
 idled_state part instruction.Jstart p = refl
 idled_state part instruction.CfgOut p = refl
 idled_state part instruction.CfgIn p = refl
@@ -129,7 +129,7 @@ idled_state part instruction.Jprogram p = refl
 idled_state part instruction.Jshutdown p = refl
 idled_state part instruction.Bypass p = refl
 
-captured_state : (part : PartData) (i : Instruction) (p : Port) → (captured part i p).state ≡ p.state
+captured_state : (part : PartData) (i : Instruction) (p : Port) → (after_capture part i p).state ≡ p.state
 captured_state part instruction.Jstart p = refl
 captured_state part instruction.CfgOut p = refl
 captured_state part instruction.CfgIn p = refl
@@ -149,7 +149,7 @@ shifted_state part instruction.Jprogram p tdi = refl
 shifted_state part instruction.Jshutdown p tdi = refl
 shifted_state part instruction.Bypass p tdi = refl
 
-acted_state : (part : PartData) (s : State) (p : Port) (tdi : Bool) → (acted part s p tdi).state ≡ p.state
+acted_state : (part : PartData) (s : State) (p : Port) (tdi : Bool) → (after_action part s p tdi).state ≡ p.state
 acted_state part state.TestLogicReset p tdi = refl
 acted_state part state.RunTestIdle p tdi = idled_state part p.instruction p
 acted_state part state.SelectDr p tdi = refl
@@ -168,17 +168,17 @@ acted_state part state.Exit2Ir p tdi = refl
 acted_state part state.UpdateIr p tdi = refl
 
 -- a clock
-moves : (part : PartData) (m n : TapState) (e : DeviceState) (p : Port) (tms tdi : Bool) → StandsForPort part m e (acted part p.state p tdi) → n ≡ record m { state = next_of m.state tms } → StandsForPort part n e (clocked part p (record { tms = tms; tdi = tdi }))
+moves : (part : PartData) (m n : TapState) (e : DeviceState) (p : Port) (tms tdi : Bool) → StandsForPort part m e (after_action part p.state p tdi) → n ≡ record m { state = next_of m.state tms } → StandsForPort part n e (after_clock part p (record { tms = tms; tdi = tdi }))
 moves part m n e p tms tdi s with = record {
   state_is = ap (λ (x : TapState). x.state) with ∙ ap (λ (x : State). next_of x tms) (s.state_is ∙ acted_state part p.state p tdi);
   instruction_is = ap (λ (x : TapState). x.instruction) with ∙ s.instruction_is;
   register_is = ap (λ (x : TapState). x.register) with ∙ s.register_is;
   count_is = ap (λ (x : TapState). x.count) with ∙ s.count_is;
-  queue_is = subst (λ (q : QueueState). QueueStandsFor part q e (acted part p.state p tdi).queue) (sym (ap (λ (x : TapState). x.queue) with)) s.queue_is;
+  queue_is = subst (λ (q : QueueState). QueueStandsFor part q e (after_action part p.state p tdi).queue) (sym (ap (λ (x : TapState). x.queue) with)) s.queue_is;
 }
 
-pub clocks_on : (part : PartData) (k m n : TapState) (d e : DeviceState) (cs : List PortClock) (tms tdi : Bool) → TapStandsFor part k d cs → (StandsForPort part k d (port_after part cs) → StandsForPort part m e (acted part (port_after part cs).state (port_after part cs) tdi))
+pub clocks_on : (part : PartData) (k m n : TapState) (d e : DeviceState) (cs : List PortClock) (tms tdi : Bool) → TapStandsFor part k d cs → (StandsForPort part k d (port_after part cs) → StandsForPort part m e (after_action part (port_after part cs).state (port_after part cs) tdi))
     → n ≡ record m { state = next_of m.state tms } → TapStandsFor part n e (cs ++ record { tms = tms; tdi = tdi } ∷ [])
 clocks_on part k m n d e cs tms tdi s act with =
     let c : PortClock = record { tms = tms; tdi = tdi } in
-    subst (StandsForPort part n e) (sym (fold-append (clocked part) new_port cs (c ∷ []))) (moves part m n e (port_after part cs) tms tdi (act s) with)
+    subst (StandsForPort part n e) (sym (fold-append (after_clock part) new_port cs (c ∷ []))) (moves part m n e (port_after part cs) tms tdi (act s) with)

@@ -12,7 +12,7 @@ use Rattle.x7_jtag.specs.declared.state.State.{State}
 use Rattle.x7_jtag.specs.declared.state.State.TheVariants as state
 use Rattle.x7_jtag.specs.Events.{byte_at_eight, data_events, events_in, events_of, idle_events, update_events}
 use Rattle.x7_jtag.specs.Instruction.{instruction_of}
-use Rattle.x7_jtag.specs.Port.{Port, clocked, new_port, port_after, with_bit, words_read_out}
+use Rattle.x7_jtag.specs.Port.{Port, after_clock, new_port, port_after, with_bit, words_read_out}
 use Rattle.x7_jtag.specs.Queue.{QueueEvent, Byte, Bit, Program, Queue, bits_read, dropped, in_turn, waits, give_held, empty_queue, by_event, most_bytes_held, QueueIsSound, queue_with_room}
 use Rattle.x7_jtag.specs.State.{PortClock}
 use Rattle.x7_jtag.proofs.EventLemmas.{queue_events}
@@ -220,7 +220,7 @@ clock_bytes state.Exit2Ir p tdi = tt
 
 clocks_bytes : (part : PartData) (p : Port) (cs : List PortClock) → AreByteEvents (events_of part p cs)
 clocks_bytes part p [] = tt
-clocks_bytes part p (c ∷ cs) = join_events (events_in p.state p c.tdi) (events_of part (clocked part p c) cs) (clock_bytes p.state p c.tdi) (clocks_bytes part (clocked part p c) cs)
+clocks_bytes part p (c ∷ cs) = join_events (events_in p.state p c.tdi) (events_of part (after_clock part p c) cs) (clock_bytes p.state p c.tdi) (clocks_bytes part (after_clock part p c) cs)
 
 pub port_sound : (part : PartData) (cs : List PortClock) → QueueIsSound (words_read_out part) (port_after part cs).queue
 port_sound part cs =

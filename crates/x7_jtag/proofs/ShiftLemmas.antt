@@ -11,7 +11,7 @@ use Rattle.x7_jtag.specs.declared.instruction.Instruction.TheVariants as instruc
 use Rattle.x7_jtag.specs.declared.state.State.{State}
 use Rattle.x7_jtag.specs.declared.state.State.TheVariants as state
 use Rattle.x7_jtag.specs.Clocks.{clock, inner_clocks}
-use Rattle.x7_jtag.specs.Port.{Port, clocked, port_after, new_port, with_bit, words_read_out}
+use Rattle.x7_jtag.specs.Port.{Port, after_clock, port_after, new_port, with_bit, words_read_out}
 use Rattle.x7_jtag.specs.Queue.{Queue, offered}
 use Rattle.x7_jtag.specs.State.{PortClock}
 use Rattle.x7_jtag.specs.Tap.{QueueStandsFor, StandsForPort, TakesBytes, TapStandsFor, TapState, last_or}
@@ -94,19 +94,19 @@ with_byte r b l =
 abbrev in_bytes : ℕ → Queue → Port
 in_bytes r q = record { state = state.ShiftDr; instruction = instruction.CfgIn; register = r; count = 0; queue = q }
 
-byte_clocked : (part : PartData) (r : ℕ) (q : Queue) (b : ℕ) → b < 256 → fold (clocked part) (in_bytes r q) (inner_clocks (byte_bits b)) ≡ in_bytes b (offered (words_read_out part) q b)
+byte_clocked : (part : PartData) (r : ℕ) (q : Queue) (b : ℕ) → b < 256 → fold (after_clock part) (in_bytes r q) (inner_clocks (byte_bits b)) ≡ in_bytes b (offered (words_read_out part) q b)
 byte_clocked part r q b l = ap (λ (w : ℕ). in_bytes w (offered (words_read_out part) q w)) (with_byte r b l)
 
 pub inner_append : (bs cs : List Bool) → inner_clocks (bs ++ cs) ≡ inner_clocks bs ++ inner_clocks cs
 inner_append [] cs = refl
 inner_append (b ∷ bs) cs = ap (λ t. clock false b ∷ t) (inner_append bs cs)
 
-bytes_clocked : (part : PartData) (r : ℕ) (q : Queue) (bs : List ℕ) → AreBytes bs → fold (clocked part) (in_bytes r q) (inner_clocks (bytes_bits bs)) ≡ in_bytes (last_or r bs) (fold (offered (words_read_out part)) q bs)
+bytes_clocked : (part : PartData) (r : ℕ) (q : Queue) (bs : List ℕ) → AreBytes bs → fold (after_clock part) (in_bytes r q) (inner_clocks (bytes_bits bs)) ≡ in_bytes (last_or r bs) (fold (offered (words_read_out part)) q bs)
 bytes_clocked part r q [] f = refl
 bytes_clocked part r q (b ∷ bs) f =
-    ap (fold (clocked part) (in_bytes r q)) (inner_append (byte_bits b) (bytes_bits bs))
-    ∙ fold-append (clocked part) (in_bytes r q) (inner_clocks (byte_bits b)) (inner_clocks (bytes_bits bs))
-    ∙ ap (λ (p : Port). fold (clocked part) p (inner_clocks (bytes_bits bs))) (byte_clocked part r q b f.0)
+    ap (fold (after_clock part) (in_bytes r q)) (inner_append (byte_bits b) (bytes_bits bs))
+    ∙ fold-append (after_clock part) (in_bytes r q) (inner_clocks (byte_bits b)) (inner_clocks (bytes_bits bs))
+    ∙ ap (λ (p : Port). fold (after_clock part) p (inner_clocks (bytes_bits bs))) (byte_clocked part r q b f.0)
     ∙ bytes_clocked part b (offered (words_read_out part) q b) bs f.1
 
 -- ---- a tap that took whole bytes
@@ -125,7 +125,7 @@ shifts_bytes part k n d e cs bs s t f with q =
     let under : p.instruction ≡ instruction.CfgIn = sym s.instruction_is ∙ t.under in
     let first : p.count ≡ 0 = sym s.count_is ∙ t.at_first in
     let all : port_after part (cs ++ inner_clocks (bytes_bits bs)) ≡ in_bytes (last_or p.register bs) (fold (offered (words_read_out part)) p.queue bs) =
-    fold-append (clocked part) new_port cs (inner_clocks (bytes_bits bs)) ∙ ap (λ (x : Port). fold (clocked part) x (inner_clocks (bytes_bits bs))) (port_in_bytes p in_state under first) ∙ bytes_clocked part p.register p.queue bs f in
+    fold-append (after_clock part) new_port cs (inner_clocks (bytes_bits bs)) ∙ ap (λ (x : Port). fold (after_clock part) x (inner_clocks (bytes_bits bs))) (port_in_bytes p in_state under first) ∙ bytes_clocked part p.register p.queue bs f in
     subst (StandsForPort part n e) (sym all) (record {
       state_is = ap (λ (x : TapState). x.state) with ∙ t.in_shift;
       instruction_is = ap (λ (x : TapState). x.instruction) with ∙ t.under;

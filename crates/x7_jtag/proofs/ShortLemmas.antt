@@ -8,7 +8,7 @@ use Rattle.x7_jtag.specs.declared.instruction.Instruction.TheVariants as instruc
 use Rattle.x7_jtag.specs.declared.state.State.{State}
 use Rattle.x7_jtag.specs.declared.state.State.TheVariants as state
 use Rattle.x7_jtag.specs.Instruction.{instruction_of}
-use Rattle.x7_jtag.specs.Port.{Port, acted, clocked, data_shifted, idled, captured, new_port, port_after, queue_at_update, words_read_out, with_bit}
+use Rattle.x7_jtag.specs.Port.{Port, after_action, after_clock, data_shifted, after_idle, after_capture, new_port, port_after, queue_at_update, words_read_out, with_bit}
 use Rattle.x7_jtag.specs.Queue.{Queue, dropped, in_turn, most_bytes_held, offered, give_held, shifted_out, waits, queue_with_room}
 use Rattle.x7_jtag.specs.State.{PortClock}
 use Rattle.x7_jtag.proofs.QueueLemmas.{given_on, in_turns}
@@ -53,7 +53,7 @@ if_size a q false l = omega arith
 same_size : (q : Queue) → size q ≤ size q + 1
 same_size q = omega arith
 
-idled_size : (part : PartData) (i : Instruction) (p : Port) → size (idled part i p).queue ≤ size p.queue + 1
+idled_size : (part : PartData) (i : Instruction) (p : Port) → size (after_idle part i p).queue ≤ size p.queue + 1
 idled_size part instruction.Jstart p = if_size (offered (words_read_out part) p.queue 255) p.queue (p.count == 7) (offered_size (words_read_out part) p.queue 255)
 idled_size part instruction.CfgOut p = same_size p.queue
 idled_size part instruction.CfgIn p = same_size p.queue
@@ -63,7 +63,7 @@ idled_size part instruction.Jprogram p = same_size p.queue
 idled_size part instruction.Jshutdown p = same_size p.queue
 idled_size part instruction.Bypass p = same_size p.queue
 
-captured_size : (part : PartData) (i : Instruction) (p : Port) → size (captured part i p).queue ≤ size p.queue + 1
+captured_size : (part : PartData) (i : Instruction) (p : Port) → size (after_capture part i p).queue ≤ size p.queue + 1
 captured_size part instruction.Jstart p = same_size p.queue
 captured_size part instruction.CfgOut p = same_size p.queue
 captured_size part instruction.CfgIn p = same_size p.queue
@@ -93,7 +93,7 @@ programmed_size instruction.Idcode q = same_size q
 programmed_size instruction.Jshutdown q = same_size q
 programmed_size instruction.Bypass q = same_size q
 
-acted_size : (part : PartData) (s : State) (p : Port) (tdi : Bool) → size (acted part s p tdi).queue ≤ size p.queue + 1
+acted_size : (part : PartData) (s : State) (p : Port) (tdi : Bool) → size (after_action part s p tdi).queue ≤ size p.queue + 1
 acted_size part state.TestLogicReset p tdi = same_size p.queue
 acted_size part state.RunTestIdle p tdi = idled_size part p.instruction p
 acted_size part state.SelectDr p tdi = same_size p.queue
@@ -111,11 +111,11 @@ acted_size part state.PauseIr p tdi = same_size p.queue
 acted_size part state.Exit2Ir p tdi = same_size p.queue
 acted_size part state.UpdateIr p tdi = programmed_size (instruction_of p.register) p.queue
 
-clocks_size : (part : PartData) (p : Port) (cs : List PortClock) → size (fold (clocked part) p cs).queue ≤ size p.queue + length cs
+clocks_size : (part : PartData) (p : Port) (cs : List PortClock) → size (fold (after_clock part) p cs).queue ≤ size p.queue + length cs
 clocks_size part p [] = omega arith
 clocks_size part p (c ∷ cs) =
-    let step : size (clocked part p c).queue ≤ size p.queue + 1 = acted_size part p.state p c.tdi in
-    omega (arith, step, clocks_size part (clocked part p c) cs)
+    let step : size (after_clock part p c).queue ≤ size p.queue + 1 = acted_size part p.state p c.tdi in
+    omega (arith, step, clocks_size part (after_clock part p c) cs)
 
 -- a device took no more bytes than there were clocks, with the bytes held
 pub held_short : (part : PartData) (t : TapState) (d : DeviceState) (cs : List PortClock) → TapStandsFor part t d cs → d.taken + length t.queue.held ≤ length cs

@@ -8,7 +8,7 @@ use Rattle.x7_svf.specs.declared.statement.Scan.{Scan}
 use Rattle.x7_svf.specs.declared.statement.Statement.{Statement}
 use Rattle.x7_svf.specs.declared.statement.Statement.TheVariants as statement
 use Rattle.x7_jtag.specs.Clocks.{clock, clocks, clocks_of, from_reset, shift_clocks, to_shift}
-use Rattle.x7_jtag.specs.Port.{Port, clocked, new_port, port_after, tdo_of}
+use Rattle.x7_jtag.specs.Port.{Port, after_clock, new_port, port_after, tdo_of}
 use Rattle.x7_engine.specs.Standing.{DeviceState}
 use Rattle.x7_jtag.specs.State.{PortClock, test_logic_reset}
 use Rattle.x7_jtag.specs.Tap.{TapStandsFor, TapState}
@@ -19,13 +19,13 @@ bit_or_0 None = false
 bit_or_0 (Some b) = b
 
 -- bit i of a scan, and 0 past the last
-abbrev pub bit_at : List Bool → ℕ → Bool
-bit_at bits i = bit_or_0 (slice_get bits i)
+abbrev pub scan_bit : List Bool → ℕ → Bool
+scan_bit bits i = bit_or_0 (slice_get bits i)
 
 -- whether bit i counts: all do where there is no mask
 abbrev pub counts : Option (List Bool) → ℕ → Bool
 counts None i = true
-counts (Some mask) i = bit_at mask i
+counts (Some mask) i = scan_bit mask i
 
 -- two bits differ
 abbrev pub bits_differ : Bool → Bool → Bool
@@ -34,7 +34,7 @@ bits_differ false b = b
 
 -- the port after clocks
 abbrev pub after_clocks : PartData → Port → List PortClock → Port
-after_clocks part p cs = fold (clocked part) p cs
+after_clocks part p cs = fold (after_clock part) p cs
 
 -- TDO at shift clock i of a scan, where the port is in Shift-DR or Shift-IR before the first
 abbrev pub tdo_at : PartData → Port → List Bool → ℕ → Bool
@@ -43,7 +43,7 @@ tdo_at part p tdi i = tdo_of part (after_clocks part p (take i (shift_clocks tdi
 -- whether the bit that is shown differs from the wanted one, where bits are wanted and bit i counts
 abbrev pub differs_from_wanted : Option (List Bool) → Option (List Bool) → ℕ → Bool → Bool
 differs_from_wanted None mask i shown = false
-differs_from_wanted (Some tdo) mask i shown = counts mask i && bits_differ (bit_at tdo i) shown
+differs_from_wanted (Some tdo) mask i shown = counts mask i && bits_differ (scan_bit tdo i) shown
 
 -- the first bit found that differs: bit i, if it differs, where none was found before
 abbrev pub first_found : Option ℕ → Bool → ℕ → Option ℕ

@@ -43,32 +43,32 @@ abbrev pub register_shifted : ℕ → ℕ → Bool → ℕ
 register_shifted top register tdi = register / 2 + top * number_of_bit tdi
 
 -- what the highest bit of a register of 32 bits is worth
-abbrev pub top_of_word : ℕ
-top_of_word = 2 ^ 31
+abbrev pub top_bit_of_word : ℕ
+top_bit_of_word = 2 ^ 31
 
 -- what the highest bit of the instruction register, which has six, is worth
-abbrev pub top_of_instruction : ℕ
-top_of_instruction = 32
+abbrev pub top_bit_of_instruction : ℕ
+top_bit_of_instruction = 32
 
 -- what the bit of the bypass register, which has one, is worth
-abbrev pub top_of_bypass : ℕ
-top_of_bypass = 1
+abbrev pub top_bit_of_bypass : ℕ
+top_bit_of_bypass = 1
 
 -- what the highest bit of a byte is worth
-abbrev pub top_of_byte : ℕ
-top_of_byte = 128
+abbrev pub top_bit_of_byte : ℕ
+top_bit_of_byte = 128
 
 -- a byte after one bit more: TDI comes in as the lowest, and the highest is dropped
 abbrev pub with_bit : ℕ → Bool → ℕ
-with_bit byte tdi = byte % top_of_byte * 2 + number_of_bit tdi
+with_bit byte tdi = byte % top_bit_of_byte * 2 + number_of_bit tdi
 
 -- what DONE is worth in what Capture-IR loads: bit 5
-abbrev pub done_in_ir : ℕ
-done_in_ir = 32
+abbrev pub done_bit_value : ℕ
+done_bit_value = 32
 
 -- what INIT_B is worth in what Capture-IR loads: bit 4
-abbrev pub init_b_in_ir : ℕ
-init_b_in_ir = 16
+abbrev pub init_b_bit_value : ℕ
+init_b_bit_value = 16
 
 -- the two lowest bits of what Capture-IR loads: 01 (IEEE 1149.1)
 abbrev pub lowest_in_ir : ℕ
@@ -78,10 +78,10 @@ lowest_in_ir = 1
 abbrev pub init_b_of : ℕ → Bool
 init_b_of stat = stat / 2 ^ 12 % 2 == 1
 
--- what Capture-IR loads for these values of DONE and INIT_B: DONE, INIT_B, 00 and 01, the highest bit first (bits 5 to
--- 2 are this project's choice)
+-- what Capture-IR loads for these values of DONE and INIT_B: these two, the highest bit first, then ISC_ENABLED and
+-- ISC_DONE, which are 0 here (this project's choice), and 01 (UG470, instruction register)
 abbrev pub ir_status_with : Bool → Bool → ℕ
-ir_status_with done init_b = done_in_ir * number_of_bit done + init_b_in_ir * number_of_bit init_b + lowest_in_ir
+ir_status_with done init_b = done_bit_value * number_of_bit done + init_b_bit_value * number_of_bit init_b + lowest_in_ir
 
 -- what Capture-IR loads for a device of the part to which these bytes were given
 abbrev pub ir_status : PartData → List ℕ → ℕ
@@ -98,16 +98,16 @@ abbrev pub user_code : ℕ
 user_code = 0xFFFFFFFF
 
 -- Run-Test/Idle: under JSTART each eighth clock offers a byte FF
-abbrev pub idled : PartData → Instruction → Port → Port
-idled part instruction.Jstart p = record p { count = next_of_eight p.count; queue = if is_eighth p.count then offered (words_read_out part) p.queue startup_byte else p.queue }
-idled part _ p = p
+abbrev pub after_idle : PartData → Instruction → Port → Port
+after_idle part instruction.Jstart p = record p { count = next_of_eight p.count; queue = if is_eighth p.count then offered (words_read_out part) p.queue startup_byte else p.queue }
+after_idle part _ p = p
 
 -- Capture-DR: the register takes the idcode, the user code or 0; under CFG_IN the next bit is a byte's first
-abbrev pub captured : PartData → Instruction → Port → Port
-captured part instruction.Idcode p = record p { register = part.idcode }
-captured part instruction.Usercode p = record p { register = user_code }
-captured part instruction.CfgIn p = record p { register = 0; count = 0 }
-captured part _ p = record p { register = 0 }
+abbrev pub after_capture : PartData → Instruction → Port → Port
+after_capture part instruction.Idcode p = record p { register = part.idcode }
+after_capture part instruction.Usercode p = record p { register = user_code }
+after_capture part instruction.CfgIn p = record p { register = 0; count = 0 }
+after_capture part _ p = record p { register = 0 }
 
 -- Shift-DR, one bit: under CFG_IN each eighth completes a byte, which is offered; under CFG_OUT one of the words read
 -- out goes out; IDCODE and USERCODE shift the register of 32 bits, and any other instruction the one bit of bypass
@@ -118,9 +118,9 @@ data_shifted part instruction.CfgIn p tdi = record p {
   queue = if is_eighth p.count then offered (words_read_out part) p.queue (with_bit p.register tdi) else p.queue;
 }
 data_shifted part instruction.CfgOut p tdi = record p { queue = shifted_out (words_read_out part) p.queue }
-data_shifted part instruction.Idcode p tdi = record p { register = register_shifted top_of_word p.register tdi }
-data_shifted part instruction.Usercode p tdi = record p { register = register_shifted top_of_word p.register tdi }
-data_shifted part _ p tdi = record p { register = register_shifted top_of_bypass p.register tdi }
+data_shifted part instruction.Idcode p tdi = record p { register = register_shifted top_bit_of_word p.register tdi }
+data_shifted part instruction.Usercode p tdi = record p { register = register_shifted top_bit_of_word p.register tdi }
+data_shifted part _ p tdi = record p { register = register_shifted top_bit_of_bypass p.register tdi }
 
 -- what an instruction does as it comes: JPROGRAM resets the device
 abbrev pub queue_at_update : Instruction → Queue → Queue
@@ -132,15 +132,15 @@ abbrev pub updated : Port → Port
 updated p = record p { instruction = instruction_of p.register; count = 0; queue = queue_at_update (instruction_of p.register) p.queue }
 
 -- the action of a state
-abbrev pub acted : PartData → State → Port → Bool → Port
-acted part state.TestLogicReset p tdi = record p { instruction = instruction.Idcode }
-acted part state.RunTestIdle p tdi = idled part p.instruction p
-acted part state.CaptureDr p tdi = captured part p.instruction p
-acted part state.ShiftDr p tdi = data_shifted part p.instruction p tdi
-acted part state.CaptureIr p tdi = record p { register = ir_status part p.queue.given }
-acted part state.ShiftIr p tdi = record p { register = register_shifted top_of_instruction p.register tdi }
-acted part state.UpdateIr p tdi = updated p
-acted part _ p tdi = p
+abbrev pub after_action : PartData → State → Port → Bool → Port
+after_action part state.TestLogicReset p tdi = record p { instruction = instruction.Idcode }
+after_action part state.RunTestIdle p tdi = after_idle part p.instruction p
+after_action part state.CaptureDr p tdi = after_capture part p.instruction p
+after_action part state.ShiftDr p tdi = data_shifted part p.instruction p tdi
+after_action part state.CaptureIr p tdi = record p { register = ir_status part p.queue.given }
+after_action part state.ShiftIr p tdi = record p { register = register_shifted top_bit_of_instruction p.register tdi }
+after_action part state.UpdateIr p tdi = updated p
+after_action part _ p tdi = p
 
 -- ---- TDO
 
@@ -163,8 +163,8 @@ tdo_of part p = shown_in part p.state p
 -- ---- clocks
 
 -- a clock: the action of the present state, and then the next state
-abbrev pub clocked : PartData → Port → PortClock → Port
-clocked part p c = record (acted part p.state p c.tdi) { state = next_of p.state c.tms }
+abbrev pub after_clock : PartData → Port → PortClock → Port
+after_clock part p c = record (after_action part p.state p c.tdi) { state = next_of p.state c.tms }
 
 -- a new port
 abbrev pub new_port : Port
@@ -172,4 +172,4 @@ new_port = record { state = test_logic_reset; instruction = instruction.Idcode; 
 
 -- the port after clocks
 abbrev pub port_after : PartData → List PortClock → Port
-port_after part cs = fold (clocked part) new_port cs
+port_after part cs = fold (after_clock part) new_port cs

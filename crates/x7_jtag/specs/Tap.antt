@@ -118,8 +118,8 @@ MakesClocks old_tap old_device new_tap new_device made =
     → TapStandsFor part new_tap new_device (cs ++ made (port_after part cs))
 
 -- what holds of each device and of the port that it and a tap stand for
-abbrev pub OfEachPort : (PartData → DeviceState → Port → Type 0) → Type 0
-OfEachPort Fact = (part : PartData) (t : TapState) (d : DeviceState) (cs : List PortClock) → TapStandsFor part t d cs → Fact part d (port_after part cs)
+abbrev pub ForEachPort : (PartData → DeviceState → Port → Type 0) → Type 0
+ForEachPort Fact = (part : PartData) (t : TapState) (d : DeviceState) (cs : List PortClock) → TapStandsFor part t d cs → Fact part d (port_after part cs)
 
 -- the next bit is the first of a byte for the device
 pub record TakesBytes (t : TapState) : Type 0 where

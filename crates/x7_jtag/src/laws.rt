@@ -7,7 +7,7 @@ ghost use Rattle.x7_jtag.specs.Events.{events_of};
 ghost use Rattle.x7_jtag.specs.Port.{new_port, port_after, words_read_out};
 ghost use Rattle.x7_jtag.specs.Queue.{QueueIsSound, queue_after};
 ghost use Rattle.x7_jtag.specs.Shown.{bytes_taken, state_shown, state_with, port_words_due};
-ghost use Rattle.x7_jtag.specs.Tap.{OfEachPort};
+ghost use Rattle.x7_jtag.specs.Tap.{ForEachPort};
 ghost use Rattle.x7_jtag.specs.State.{PortClock, state_after, test_logic_reset, tms_one};
 ghost use Rattle.x7_jtag.specs.declared.state.State.{State};
 
@@ -20,9 +20,9 @@ pub fn five_ones_reset()
 /// one whose bits go out; and its state (`Device::state`) is that of these bytes, where FAR counts the words that the
 /// port took.
 pub fn devices_take_what_is_given()
-    ensures taken { OfEachPort (λ part d p. DeviceStandsFor part on_the_bench false d (bytes_taken part p)) }
-    ensures due { OfEachPort (λ part d p. due_count d.registers.due ≡ port_words_due part p) }
-    ensures shows { OfEachPort (λ part d p. state_with part p (frames_due d.registers.due) ≡ state_shown part p) }
+    ensures taken { ForEachPort (λ part d p. DeviceStandsFor part on_the_bench false d (bytes_taken part p)) }
+    ensures due { ForEachPort (λ part d p. due_count d.registers.due ≡ port_words_due part p) }
+    ensures shows { ForEachPort (λ part d p. state_with part p (frames_due d.registers.due) ≡ state_shown part p) }
 {}
 
 /// After any clocks a port has no more bits out than were read out, holds at most 64 bytes, and holds them only while a

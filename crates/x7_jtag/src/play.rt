@@ -3,7 +3,7 @@ ghost use Rattle.std.specs.Prelude.{◌≡◌, ◌≤◌, ◌<◌, ◌+◌, ◌-
 ghost use Rattle.std.specs.List.{slice_get};
 ghost use Rattle.x7_part.specs.Part.{PartData};
 ghost use Rattle.x7_jtag.specs.Clocks.{clock as clock_of, clocks_of, from_reset, shift_clocks, to_shift as to_shift_clocks};
-ghost use Rattle.x7_jtag.specs.Play.{AreNew, FindsBit, AfterClocks, MayClock, bits_differ, bit_at, clocks_played, count_limit, counts as counts_at, difference, difference_from, first_difference, first_found, differs_from_wanted, statement_limit, walk_clocks};
+ghost use Rattle.x7_jtag.specs.Play.{AreNew, FindsBit, AfterClocks, MayClock, bits_differ, scan_bit, clocks_played, count_limit, counts as counts_at, difference, difference_from, first_difference, first_found, differs_from_wanted, statement_limit, walk_clocks};
 ghost use Rattle.x7_jtag.specs.Port.{port_after};
 ghost use Rattle.x7_jtag.specs.Tap.{MakesClocks, TapStandsFor};
 ghost use Rattle.x7_jtag.specs.declared.state.State.{State as StateData};
@@ -69,8 +69,8 @@ fn to_shift(tap: &mut Tap, device: &mut Device, register: ScannedRegister)
 }
 
 /// Bit `index`, from 0, and 0 past the last.
-fn bit_at(bits: &Bits<'_>, index: u32) -> bool
-    ensures { result ≡ bit_at bits.now index }
+fn scan_bit(bits: &Bits<'_>, index: u32) -> bool
+    ensures { result ≡ scan_bit bits.now index }
 {
     match bits.bit(index) {
         Some(bit) => bit,
@@ -83,7 +83,7 @@ fn counts(mask: &Option<Bits<'_>>, index: u32) -> bool
     ensures { result ≡ counts_at mask.now index }
 {
     match mask {
-        Some(mask) => bit_at(mask, index),
+        Some(mask) => scan_bit(mask, index),
         None => true,
     }
 }
@@ -100,7 +100,7 @@ fn differs_from_wanted(scan: &Scan<'_>, index: u32, shown: bool) -> bool
     ensures { result ≡ differs_from_wanted scan.now.tdo scan.now.mask index shown }
 {
     match &scan.tdo {
-        Some(tdo) => counts(&scan.mask, index) && bits_differ(bit_at(tdo, index), shown),
+        Some(tdo) => counts(&scan.mask, index) && bits_differ(scan_bit(tdo, index), shown),
         None => false,
     }
 }
@@ -155,7 +155,7 @@ fn shift_from(tap: &mut Tap, device: &mut Device, scan: &Scan<'_>, first: u32) -
     let mut found = None;
     let count = tdi.len();
     for i in first..count {
-        let shown = tap.clock(i == count - 1, bit_at(tdi, i), device);
+        let shown = tap.clock(i == count - 1, scan_bit(tdi, i), device);
         found = first_found(found, differs_from_wanted(scan, i, shown), i);
     }
     found

@@ -4,7 +4,7 @@ ghost use Rattle.x7_words.specs.Word.{number_of_bit};
 ghost use Rattle.x7_part.specs.Part.{PartData};
 ghost use Rattle.x7_engine.specs.Kept.{on_the_bench};
 ghost use Rattle.x7_engine.specs.Standing.{DeviceStandsFor, DeviceState};
-ghost use Rattle.x7_jtag.specs.Port.{Port, acted, captured, data_shifted, data_shown, idled, init_b_of, is_eighth, lowest_bit, next_of_eight, port_after, register_shifted as shifted_in, ir_status, ir_status_with, tdo_of, top_of_word, updated, with_bit as with_bit_in};
+ghost use Rattle.x7_jtag.specs.Port.{Port, after_action, after_capture, data_shifted, data_shown, after_idle, init_b_of, is_eighth, lowest_bit, next_of_eight, port_after, register_shifted as shifted_in, ir_status, ir_status_with, tdo_of, top_bit_of_word, updated, with_bit as with_bit_in};
 ghost use Rattle.x7_jtag.specs.State.{PortClock};
 ghost use Rattle.x7_jtag.specs.declared.instruction.Instruction.TheVariants.{CfgIn};
 ghost use Rattle.x7_jtag.specs.Tap.{CanAllBeOffered, CanBeOffered, MakesClocks, PortBecomes, StandsForPort, TakesBytes, TapStandsFor, TookOfGiven, last_or};
@@ -78,7 +78,7 @@ fn lowest_bit(register: u32) -> bool
 
 /// One shift: the lowest bit goes out, and TDI comes in as the highest, which is worth `top`.
 fn register_shifted(top: u32, register: u32, tdi: bool) -> u32
-    requires { top ≤ top_of_word }
+    requires { top ≤ top_bit_of_word }
     ensures { result ≡ shifted_in top register tdi }
 {
     let high = if tdi { top } else { 0 };
@@ -160,7 +160,7 @@ impl Tap {
     /// Run-Test/Idle: under JSTART each eighth clock offers a byte FF.
     fn idle(&mut self, device: &mut Device)
         requires { CanBeOffered device.old }
-        ensures port { PortBecomes self.old device.old self.new device.new (λ part p. idled part p.instruction p) }
+        ensures port { PortBecomes self.old device.old self.new device.new (λ part p. after_idle part p.instruction p) }
     {
         match self.instruction {
             Instruction::Jstart => {
@@ -174,7 +174,7 @@ impl Tap {
 
     /// Capture-DR: the register takes the idcode, the user code or 0. Under CFG_IN the next bit is a byte's first.
     fn capture(&mut self, device: &Device)
-        ensures port { PortBecomes self.old device.now self.new device.now (λ part p. captured part p.instruction p) }
+        ensures port { PortBecomes self.old device.now self.new device.now (λ part p. after_capture part p.instruction p) }
     {
         match self.instruction {
             Instruction::Idcode => self.register = device.part().idcode(),
@@ -201,7 +201,7 @@ impl Tap {
 
     /// One shift of the register, whose highest bit is worth `top`. Gives the bit that goes out.
     fn shift_register(&mut self, top: u32, tdi: bool) -> bool
-        requires { top ≤ top_of_word }
+        requires { top ≤ top_bit_of_word }
         ensures shifted { self.new ≡ record self.old { register = shifted_in top self.old.register tdi } }
         ensures out { result ≡ lowest_bit self.old.register }
     {
@@ -264,7 +264,7 @@ impl Tap {
     /// Does the action of the present state, and gives TDO.
     fn act(&mut self, tdi: bool, device: &mut Device) -> bool
         requires { CanBeOffered device.old }
-        ensures port { PortBecomes self.old device.old self.new device.new (λ part p. acted part p.state p tdi) }
+        ensures port { PortBecomes self.old device.old self.new device.new (λ part p. after_action part p.state p tdi) }
         ensures tdo { (part : PartData) (p : Port) → StandsForPort part self.old device.old p → result ≡ tdo_of part p }
     {
         match self.state {

@@ -5,7 +5,7 @@ use Rattle.std.proofs.lemmas.List.{length-map, length-take-le}
 use Rattle.x7_words.specs.Word.{bytes_of_word}
 use Rattle.x7_packets.specs.SyncWord.{sync_bytes}
 use Rattle.x7_packets.specs.ByHand.{before_last_four, Reading, reading_of}
-use Rattle.x7_packets.specs.Packet.{Packet, named_by, stepped, words}
+use Rattle.x7_packets.specs.Packet.{Packet, register_named_by, stepped, words}
 use Rattle.x7_packets.specs.Reading.{Place, Searching, Synced, EndedSession, IsPlace, IsEndedSession, packet_bytes, place_bytes, session_bytes}
 use Rattle.x7_packets.specs.declared.header.Step.{Step}
 use Rattle.x7_packets.specs.declared.header.Step.TheVariants.{Payload, Filler, Nop, Open, Read, Bad}
@@ -80,7 +80,7 @@ four_each (w ∷ ws) = omega (arith, four_each ws)
 as_many : (ps : List Packet) → length (flat_map words ps) ≡ length (flat_map stepped ps)
 as_many [] = refl
 as_many (p ∷ ps) =
-    omega (arith, as_many ps, length-append (words p) (flat_map words ps), length-append (stepped p) (flat_map stepped ps), length-map {B = ℕ × Step} p.payload (λ (w : ℕ). (w, Payload (named_by p.step) w)))
+    omega (arith, as_many ps, length-append (words p) (flat_map words ps), length-append (stepped p) (flat_map stepped ps), length-map {B = ℕ × Step} p.payload (λ (w : ℕ). (w, Payload (register_named_by p.step) w)))
 
 -- a gap, the sync word and packets
 session_long : (gap : List ℕ) (packets : List Packet) → length gap + 4 + length (packet_bytes packets) ≤ length (ended_texts (gap_and_sync_lines gap) ++ open_words 0 (flat_map stepped packets))

@@ -17,7 +17,7 @@ use Rattle.x7_listing.proofs.AssemblingLemmas.{begins_at, begins_more}
 use Rattle.x7_listing.proofs.BitLemmas.{header_by, header_is}
 use Rattle.x7_listing.proofs.GuessLemmas.{guess, line_is}
 use Rattle.x7_regs.specs.Register.{reg_number_count}
-use Rattle.x7_packets.specs.PacketWords.{type1_counts, type2_counts}
+use Rattle.x7_packets.specs.PacketWords.{type1_count_bound, type2_count_bound}
 
 -- ---- what is decided
 
@@ -70,10 +70,10 @@ fits_or (Comment text) = inl tt
 fits_or (Bytes bytes) = row_or 256 32 bytes
 fits_or Sync = inl tt
 fits_or Nop = inl tt
-fits_or (Write register count) = both_or (below_or register reg_number_count) (below_or count type1_counts)
-fits_or (Read register count) = both_or (below_or register reg_number_count) (below_or count type1_counts)
-fits_or (Write2 count) = below_or count type2_counts
-fits_or (Read2 count) = below_or count type2_counts
+fits_or (Write register count) = both_or (below_or register reg_number_count) (below_or count type1_count_bound)
+fits_or (Read register count) = both_or (below_or register reg_number_count) (below_or count type1_count_bound)
+fits_or (Write2 count) = below_or count type2_count_bound
+fits_or (Read2 count) = below_or count type2_count_bound
 fits_or (Word word) = below_or word (2 ^ 32)
 fits_or (Data words) = row_or (2 ^ 32) 8 words
 fits_or (Cmd command) = inl tt

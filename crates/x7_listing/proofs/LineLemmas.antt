@@ -11,7 +11,7 @@ use Rattle.x7_regs.specs.declared.command.Command.{Command}
 use Rattle.x7_text.specs.Digits.{hex_byte, hex_word}
 use Rattle.x7_text.specs.Lines.{means_nothing}
 use Rattle.x7_text.specs.Row.{spaced}
-use Rattle.x7_packets.specs.PacketWords.{type1_counts, type1_read_header, type1_write_header, type2_counts, type2_read_header, type2_write_header}
+use Rattle.x7_packets.specs.PacketWords.{type1_count_bound, type1_read_header, type1_write_header, type2_count_bound, type2_read_header, type2_write_header}
 use Rattle.x7_listing.specs.Line.{Line, Empty, Comment, Bytes, Sync, Nop, Write, Read, Write2, Read2, Word, Data, Cmd, Check, type1_text, line_bytes, FitsLine, FitsWordLine, IsType1, IsLine, text_of, word_of_line}
 use Rattle.x7_listing.specs.OneWord.{IsWordOf, PutsWord}
 use Rattle.x7_text.specs.Row.{IsByteRow, IsWordRow}
@@ -97,11 +97,11 @@ module _ (found : Option ℕ) (t rest : List ℕ) where
   read_line e i = lift_word IsType1 type1_text (λ (a : ℕ × ℕ). type1_read_header a.0 a.1) (codes "read ") (λ (a : ℕ × ℕ). Read a.0 a.1) found t rest e
       (λ x h. h) (λ x h. h) (λ x. refl) (λ x. refl) (λ l i. ((register_in rest, count_in rest), line_is _ l i)) i
 
-  pub write2_line : t ≡ codes "write2 " ++ rest → IsWordOf (λ n. n < type2_counts) decimal type2_write_header rest found → IsWordOf FitsWordLine text_of word_of_line t found
-  write2_line e i = lift_word (λ n. n < type2_counts) decimal type2_write_header (codes "write2 ") Write2 found t rest e (λ x h. h) (λ x h. h) (λ x. refl) (λ x. refl) (λ l i. (decimal_after 0 rest, line_is _ l i)) i
+  pub write2_line : t ≡ codes "write2 " ++ rest → IsWordOf (λ n. n < type2_count_bound) decimal type2_write_header rest found → IsWordOf FitsWordLine text_of word_of_line t found
+  write2_line e i = lift_word (λ n. n < type2_count_bound) decimal type2_write_header (codes "write2 ") Write2 found t rest e (λ x h. h) (λ x h. h) (λ x. refl) (λ x. refl) (λ l i. (decimal_after 0 rest, line_is _ l i)) i
 
-  pub read2_line : t ≡ codes "read2 " ++ rest → IsWordOf (λ n. n < type2_counts) decimal type2_read_header rest found → IsWordOf FitsWordLine text_of word_of_line t found
-  read2_line e i = lift_word (λ n. n < type2_counts) decimal type2_read_header (codes "read2 ") Read2 found t rest e (λ x h. h) (λ x h. h) (λ x. refl) (λ x. refl) (λ l i. (decimal_after 0 rest, line_is _ l i)) i
+  pub read2_line : t ≡ codes "read2 " ++ rest → IsWordOf (λ n. n < type2_count_bound) decimal type2_read_header rest found → IsWordOf FitsWordLine text_of word_of_line t found
+  read2_line e i = lift_word (λ n. n < type2_count_bound) decimal type2_read_header (codes "read2 ") Read2 found t rest e (λ x h. h) (λ x h. h) (λ x. refl) (λ x. refl) (λ l i. (decimal_after 0 rest, line_is _ l i)) i
 
 -- the text doesn't begin with this word
 abbrev pub NotAfter : List ℕ → List ℕ → Type 0
@@ -155,7 +155,7 @@ pub nothing_read : (check : ℕ) (t old : List ℕ) → means_nothing t ≡ true
 nothing_read check [] old e = (Empty, tt, refl, sym (append-nil old))
 nothing_read check (c ∷ cs) old e = (Comment cs, tt, ap (λ (d : ℕ). d ∷ cs) (grind (arith, common_steps)), sym (append-nil old))
 
-pub no_type1 : (t ds : List ℕ) (r : ℕ) → r < reg_number_count → t ≡ reg_name r ++ 32 ∷ ds → ((n : ℕ) → n < type1_counts → ds ≢ decimal n) → (a : ℕ × ℕ) → IsType1 a → t ≡ type1_text a → ⊥
+pub no_type1 : (t ds : List ℕ) (r : ℕ) → r < reg_number_count → t ≡ reg_name r ++ 32 ∷ ds → ((n : ℕ) → n < type1_count_bound → ds ≢ decimal n) → (a : ℕ × ℕ) → IsType1 a → t ≡ type1_text a → ⊥
 no_type1 t ds r h e none a i k =
     none a.1 i.1 (sym (digits_after_space (reg_name r) ds (name_free r h)) ∙ ap after_space (sym e ∙ k) ∙ digits_after_space (reg_name a.0) (decimal a.1) (name_free a.0 i.0))
 

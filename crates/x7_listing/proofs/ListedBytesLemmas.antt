@@ -4,7 +4,7 @@ use Rattle.std.proofs.lemmas.Grind.{flat_map-append}
 use Rattle.std.specs.List.{AllByRecursion, flat_map}
 use Rattle.x7_words.specs.Word.{AreBytes, AreWords, bytes_of_word}
 use Rattle.x7_words.proofs.ListLemmas.{all_append, all_back, all_prefix}
-use Rattle.x7_packets.specs.Packet.{named_by, Packet, register_of, type1_count_of, type2_count_of, header_kind_of, words}
+use Rattle.x7_packets.specs.Packet.{register_named_by, Packet, register_of, type1_count_of, type2_count_of, header_kind_of, words}
 use Rattle.x7_packets.specs.PacketWords.{no_op, sync_word, type1_read_header, type1_write_header, type2_read_kind, type2_write_kind}
 use Rattle.x7_packets.specs.Reading.{EndedSession, IsEndedSession, IsPlace, IsReading, packet_bytes, Place, place_bytes, Searching, session_bytes, Synced}
 use Rattle.x7_packets.specs.SyncWord.{sync_bytes}
@@ -110,7 +110,7 @@ head_of (step.Read r c) w h = best w h
 
 packet_stands : (p : Packet) → AreWords (words p) → Stands (packet_lines p) (flat_map bytes_of_word (words p))
 packet_stands p a = let q : IsHeadOf p.head (line_of_head p.step p.head) = head_of p.step p.head a.0 in
-    one_stands (line_as (line_of_head p.step p.head)) (payload_lines (named_by p.step) p.payload) (bytes_of_word p.head) (flat_map bytes_of_word p.payload) (as_bytes (line_of_head p.step p.head) ∙ ap bytes_of_word q.0) q.1 (payload_by (named_by p.step == 4) p.payload a.1)
+    one_stands (line_as (line_of_head p.step p.head)) (payload_lines (register_named_by p.step) p.payload) (bytes_of_word p.head) (flat_map bytes_of_word p.payload) (as_bytes (line_of_head p.step p.head) ∙ ap bytes_of_word q.0) q.1 (payload_by (register_named_by p.step == 4) p.payload a.1)
 
 packets_stand : (ps : List Packet) → AreWords (flat_map words ps) → Stands (flat_map packet_lines ps) (packet_bytes ps)
 packets_stand [] a = none_stand

@@ -13,7 +13,7 @@ use Rattle.x7_header.specs.Reading.{header_at}
 use Rattle.x7_header.specs.declared.fault.HeaderFault.{HeaderFault}
 use Rattle.x7_header.specs.declared.fault.HeaderFault.TheVariants as fault
 use Rattle.x7_header.proofs.HeaderLemmas.{header_takes, IsPrefix}
-use Rattle.x7_packets.specs.Packet.{Packet, named_by}
+use Rattle.x7_packets.specs.Packet.{Packet, register_named_by}
 use Rattle.x7_packets.specs.Reading.{EndedSession, Place, Searching, Synced}
 use Rattle.x7_packets.specs.ByHand.{reading_of}
 use Rattle.x7_regs.specs.Command.{code_of, command_by, command_name_of}
@@ -35,7 +35,7 @@ use Rattle.x7_listing.specs.StreamListing.{listing_by, stream_listing}
 use Rattle.x7_listing.proofs.GuessLemmas.{each_holds, each_name}
 use Rattle.x7_listing.proofs.ListedBytesLemmas.{listing_stands}
 use Rattle.x7_listing.proofs.line.LineTextLemmas.{Listed}
-use Rattle.x7_packets.specs.PacketWords.{type1_counts, type2_counts}
+use Rattle.x7_packets.specs.PacketWords.{type1_count_bound, type2_count_bound}
 
 -- names are short
 few : List ℕ → ℕ → Bool
@@ -85,10 +85,10 @@ IsWhole (Bytes bytes) = ⊥
 IsWhole Check = ⊥
 IsWhole _ = Unit {0}
 
-access_few : (word : List ℕ) (n c : ℕ) → length word ≤ 6 → n < reg_number_count → c < type1_counts → length ((word ++ (reg_name n ++ 32 ∷ decimal c)) ++ 10 ∷ []) ≤ 20
+access_few : (word : List ℕ) (n c : ℕ) → length word ≤ 6 → n < reg_number_count → c < type1_count_bound → length ((word ++ (reg_name n ++ 32 ∷ decimal c)) ++ 10 ∷ []) ≤ 20
 access_few word n c l h k = omega (arith, l, name_few n h, length-decimal-le 4 c (omega arith) (omega (arith, k)) (omega (arith, k)), length-append (word ++ (reg_name n ++ 32 ∷ decimal c)) (10 ∷ []), length-append word (reg_name n ++ 32 ∷ decimal c), length-append (reg_name n) (32 ∷ decimal c))
 
-count_few : (word : List ℕ) (c : ℕ) → length word ≤ 7 → c < type2_counts → length ((word ++ decimal c) ++ 10 ∷ []) ≤ 20
+count_few : (word : List ℕ) (c : ℕ) → length word ≤ 7 → c < type2_count_bound → length ((word ++ decimal c) ++ 10 ∷ []) ≤ 20
 count_few word c l k = omega (arith, l, length-decimal-le 9 c (omega arith) (omega (arith, k)) (omega (arith, k)), length-append (word ++ decimal c) (10 ∷ []), length-append word (decimal c))
 
 line_short : (l : Line) → FitsLine l → IsWhole l → length (ended_text l) ≤ 5 * length (line_bytes 0 l)
@@ -156,7 +156,7 @@ payload_by false ws = data_whole (rows 8 ws)
 
 packets_whole : (ps : List Packet) → AllByRecursion IsWhole (flat_map packet_lines ps)
 packets_whole [] = tt
-packets_whole (p ∷ ps) = all_append IsWhole (packet_lines p) (flat_map packet_lines ps) (head_whole (line_of_head p.step p.head), payload_by (named_by p.step == 4) p.payload) (packets_whole ps)
+packets_whole (p ∷ ps) = all_append IsWhole (packet_lines p) (flat_map packet_lines ps) (head_whole (line_of_head p.step p.head), payload_by (register_named_by p.step == 4) p.payload) (packets_whole ps)
 
 -- a gap, the sync word and packets
 session_short : (gap : List ℕ) (packets : List Packet) → AllByRecursion Listed (packets_lines gap packets) → length (ended_texts (packets_lines gap packets)) + 11 ≤ 5 * length (flat_map (line_bytes 0) (packets_lines gap packets))

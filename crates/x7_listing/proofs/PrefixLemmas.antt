@@ -7,7 +7,7 @@ use Rattle.std.specs.Prelude.{nat_lt}
 use Rattle.x7_words.specs.Word.{AreBytes, word_of_bytes}
 use Rattle.x7_words.proofs.ListLemmas.{all_back, all_prefix, map_append}
 use Rattle.x7_packets.specs.ByHand.{before_last_four, header_packet, is_sync, last_four, Reading, reading_of, with_byte, with_byte_at, with_payload_word, with_session_byte, packets_with_word, with_word_after}
-use Rattle.x7_packets.specs.Packet.{Packet, count_of, EachPacket, ended, latest_after, meaning, named_by, payload_steps, stepped}
+use Rattle.x7_packets.specs.Packet.{Packet, count_of, EachPacket, ended, latest_after, meaning, register_named_by, payload_steps, stepped}
 use Rattle.x7_packets.specs.Reading.{Place, Searching, Synced, EndedSession, IsReading, IsEndedSession}
 use Rattle.x7_packets.specs.declared.header.Step.{Step}
 use Rattle.x7_packets.specs.declared.header.Step.TheVariants.{Payload}
@@ -94,12 +94,12 @@ SteppedMore all ps w = (step : Step) × (flat_map stepped all ≡ flat_map stepp
 
 last_stepped : (latest : Option ℕ) (p : Packet) (w : ℕ) (b : Bool) → SteppedMore (if b then with_payload_word p w ∷ [] else p ∷ header_packet (latest_after latest p.step) w ∷ []) (p ∷ []) w
 last_stepped latest p w true =
-    let step : Step = Payload (named_by p.step) w in
+    let step : Step = Payload (register_named_by p.step) w in
     let head : ℕ × Step = (p.head, p.step) in
-    let old : List (ℕ × Step) = payload_steps (named_by p.step) p.payload in (
+    let old : List (ℕ × Step) = payload_steps (register_named_by p.step) p.payload in (
       step,
-      append-nil (head ∷ payload_steps (named_by p.step) (p.payload ++ w ∷ []))
-          ∙ ap (λ t. head ∷ t) (map_append (λ x. (x, Payload (named_by p.step) x)) p.payload (w ∷ []))
+      append-nil (head ∷ payload_steps (register_named_by p.step) (p.payload ++ w ∷ []))
+          ∙ ap (λ t. head ∷ t) (map_append (λ x. (x, Payload (register_named_by p.step) x)) p.payload (w ∷ []))
           ∙ sym (ap (λ t. t ++ (w, step) ∷ []) (append-nil (head ∷ old))),
     )
 last_stepped latest p w false =

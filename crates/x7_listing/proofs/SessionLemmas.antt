@@ -2,7 +2,7 @@
 use Rattle.std.proofs.Common.{◌≡◌, ℕ, ◌==◌, Bool, true, false, List, [], ◌∷◌, ◌++◌, Option, refl, ap, sym, ◌∙◌, append_assoc, append-nil, codes, flat_map, map}
 use Rattle.std.proofs.Common.{arith}
 use Rattle.std.proofs.lemmas.Bool.Decides.{nat_tests}
-use Rattle.x7_packets.specs.Packet.{Packet, EachPacket, IsPacket, latest_after, named_by, payload_steps, stepped}
+use Rattle.x7_packets.specs.Packet.{Packet, EachPacket, IsPacket, latest_after, register_named_by, payload_steps, stepped}
 use Rattle.x7_packets.specs.declared.header.Step.{Step}
 use Rattle.x7_packets.specs.declared.header.Step.TheVariants.{Filler, Nop, Open, Payload, Read, Bad}
 use Rattle.x7_packets.proofs.PacketLemmas.{no_payload}
@@ -68,9 +68,9 @@ packet_glue W c h C O R e f = rw (e, ← f) (simp append_assoc)
 packet_closed : (l : Option ℕ) (i : ℕ) (p : Packet) → IsPacket l p → open_words i (stepped p) ++ close (in_line_after_words i (stepped p)) ≡ close i ++ ended_texts (packet_lines p)
 packet_closed l i p is =
     let none : (r x : ℕ) → p.step ≡ Payload r x → ⊥ = λ r x e. no_payload l p.head r x (sym is.means ∙ e) in
-    let ss : List (ℕ × Step) = payload_steps (named_by p.step) p.payload in
+    let ss : List (ℕ × Step) = payload_steps (register_named_by p.step) p.payload in
     ap (λ k. open_session_word i p.head p.step ++ open_words k ss ++ close (in_line_after_words k ss)) (head_next i p.step none)
-    ∙ packet_glue (open_session_word i p.head p.step) (close i) (text_of_head p.step p.head) (close (in_line_after_words 0 ss)) (open_words 0 ss) (ended_texts (payload_lines (named_by p.step) p.payload)) (head_listed i p.head p.step none) (payload_closed (named_by p.step) p.payload)
+    ∙ packet_glue (open_session_word i p.head p.step) (close i) (text_of_head p.step p.head) (close (in_line_after_words 0 ss)) (open_words 0 ss) (ended_texts (payload_lines (register_named_by p.step) p.payload)) (head_listed i p.head p.step none) (payload_closed (register_named_by p.step) p.payload)
 
 split_each : (l : Option ℕ) (p : Packet) (ps : List Packet) → EachPacket l (p ∷ ps) → IsPacket l p × EachPacket (latest_after l p.step) ps
 split_each l p [] e = (e, tt)

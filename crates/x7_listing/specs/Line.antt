@@ -6,7 +6,7 @@ use Rattle.x7_regs.specs.Register.{number_of, reg_name, reg_number_count}
 use Rattle.x7_regs.specs.Command.{code_of, command_by, command_name_of}
 use Rattle.x7_regs.specs.declared.command.Command.{Command}
 use Rattle.x7_regs.specs.declared.register.Reg.TheVariants.{Crc}
-use Rattle.x7_packets.specs.PacketWords.{no_op, sync_word, type1_counts, type1_read_header, type1_write_header, type2_counts, type2_read_header, type2_write_header}
+use Rattle.x7_packets.specs.PacketWords.{no_op, sync_word, type1_count_bound, type1_read_header, type1_write_header, type2_count_bound, type2_read_header, type2_write_header}
 use Rattle.x7_text.specs.Digits.{hex_byte, hex_word}
 use Rattle.x7_words.specs.Characters.{line_end_byte, space_byte}
 use Rattle.x7_text.specs.Row.{IsByteRow, IsWordRow, spaced}
@@ -30,7 +30,7 @@ pub data Line : Type 0 where
 
 -- the fields of a type 1 header, a register's number and a word count, are each within their bits
 abbrev pub IsType1 : ℕ × ℕ → Type 0
-IsType1 a = (a.0 < reg_number_count) × (a.1 < type1_counts)
+IsType1 a = (a.0 < reg_number_count) × (a.1 < type1_count_bound)
 
 -- the fields of a type 1 header as text: the register's name, a space and the word count
 abbrev pub type1_text : ℕ × ℕ → List ℕ
@@ -58,8 +58,8 @@ abbrev pub FitsLine : Line → Type 0
 FitsLine (Bytes bytes) = IsByteRow bytes
 FitsLine (Write register count) = IsType1 (register, count)
 FitsLine (Read register count) = IsType1 (register, count)
-FitsLine (Write2 count) = count < type2_counts
-FitsLine (Read2 count) = count < type2_counts
+FitsLine (Write2 count) = count < type2_count_bound
+FitsLine (Read2 count) = count < type2_count_bound
 FitsLine (Word word) = word < 2 ^ 32
 FitsLine (Data words) = IsWordRow words
 FitsLine _ = Unit {0}
@@ -91,8 +91,8 @@ FitsWordLine Sync = Unit {0}
 FitsWordLine Nop = Unit {0}
 FitsWordLine (Write register count) = IsType1 (register, count)
 FitsWordLine (Read register count) = IsType1 (register, count)
-FitsWordLine (Write2 count) = count < type2_counts
-FitsWordLine (Read2 count) = count < type2_counts
+FitsWordLine (Write2 count) = count < type2_count_bound
+FitsWordLine (Read2 count) = count < type2_count_bound
 FitsWordLine (Word word) = word < 2 ^ 32
 FitsWordLine (Cmd command) = Unit {0}
 FitsWordLine _ = ⊥

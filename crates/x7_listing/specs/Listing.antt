@@ -1,7 +1,7 @@
 -- The listing of a reading: its lines, and their texts, each with its end (this project's choice).
 use Rattle.std.specs.Prelude.{◌≡◌, ℕ, ◌==◌, if◌then◌else◌, List, [], ◌∷◌, ◌++◌, map}
 use Rattle.std.specs.List.{flat_map}
-use Rattle.x7_packets.specs.Packet.{Packet, named_by}
+use Rattle.x7_packets.specs.Packet.{Packet, register_named_by}
 use Rattle.x7_packets.specs.Reading.{Place, Searching, Synced, EndedSession, IsReading}
 use Rattle.x7_packets.specs.ByHand.{reading_of}
 use Rattle.x7_regs.specs.Register.{number_of}
@@ -16,7 +16,7 @@ payload_lines register ws = if register == number_of Cmd then map cmd_line ws el
 
 -- the lines of a packet
 abbrev pub packet_lines : Packet → List Line
-packet_lines p = line_as (line_of_head p.step p.head) ∷ payload_lines (named_by p.step) p.payload
+packet_lines p = line_as (line_of_head p.step p.head) ∷ payload_lines (register_named_by p.step) p.payload
 
 -- the lines of the bytes of a gap, or of no whole word: 32 bytes a line
 abbrev pub gap_lines : List ℕ → List Line

@@ -17,8 +17,8 @@ abbrev pub byte_values : ℕ
 byte_values = 256
 
 -- how many bytes a record has beside its data: its count, the two of its address, its type and its sum byte
-abbrev pub bytes_beside : ℕ
-bytes_beside = 5
+abbrev pub bytes_beside_data : ℕ
+bytes_beside_data = 5
 
 -- ---- the types of records
 
@@ -58,7 +58,7 @@ record_count bs = get_or bs 0 0
 
 -- a record has as many bytes as its count says, and those beside its data
 abbrev pub IsOfItsCount : List ℕ → Type 0
-IsOfItsCount bs = record_count bs + bytes_beside ≡ length bs
+IsOfItsCount bs = record_count bs + bytes_beside_data ≡ length bs
 
 -- a record's address: 16 bits, the high byte first
 abbrev pub record_address : List ℕ → ℕ
@@ -100,7 +100,7 @@ meaning_by_type n bs =
 -- what the bytes of line n say, where a record 01 stood before or not
 abbrev pub meaning_of : ℕ → Bool → List ℕ → Result Meaning McsFault
 meaning_of n has_ended bs =
-    if not (record_count bs + bytes_beside == length bs) then Err (fault.Line n)
+    if not (record_count bs + bytes_beside_data == length bs) then Err (fault.Line n)
     else if not (sum_wanted bs == sum_found bs) then Err (fault.Sum n (sum_wanted bs) (sum_found bs))
     else if has_ended then Err (fault.Line n)
     else meaning_by_type n bs

@@ -1,7 +1,7 @@
 //! What the bytes of one record say.
 ghost use Rattle.std.specs.Prelude.{◌≡◌, ◌<◌, ◌%◌, ◌++◌, length, MatchResult};
 ghost use Rattle.std.specs.List.{sum};
-ghost use Rattle.x7_mcs.specs.Record.{IsOfItsCount, base_value, record_data, meaning_by_type, meaning_of, sum_byte, byte_values, bytes_beside};
+ghost use Rattle.x7_mcs.specs.Record.{IsOfItsCount, base_value, record_data, meaning_by_type, meaning_of, sum_byte, byte_values, bytes_beside_data};
 
 use crate::fault::McsFault;
 
@@ -9,7 +9,7 @@ use crate::fault::McsFault;
 pub(crate) const BLOCK_SIZE: u32 = 65_536;
 
 /// How many bytes a record has beside its data: its count, the two of its address, its type and its sum byte.
-pub(crate) const BYTES_BESIDE: usize = 5;
+pub(crate) const BYTES_BESIDE_DATA: usize = 5;
 
 /// The type of a record of data (Intel HEX).
 pub(crate) const DATA_TYPE: u8 = 0x00;
@@ -64,7 +64,7 @@ pub(crate) fn sum_byte(fields: &[u8], content: &[u8]) -> u8
 
 /// The number in the two data bytes of a record that gives a base.
 fn base_value(bytes: &[u8]) -> u32
-    requires { bytes_beside < length bytes.now }
+    requires { bytes_beside_data < length bytes.now }
     ensures { result ≡ base_value bytes.now }
 {
     256 * u32::from(bytes[4]) + u32::from(bytes[5])
@@ -96,7 +96,7 @@ pub(crate) fn meaning_of(
     ensures meaning { result ≡ meaning_of line_number has_ended bytes.now }
     ensures counted { MatchResult result (λ _. IsOfItsCount bytes.now) (λ _. Unit {0}) }
 {
-    if bytes.len() == 0 || usize::from(bytes[0]) + BYTES_BESIDE != bytes.len() {
+    if bytes.len() == 0 || usize::from(bytes[0]) + BYTES_BESIDE_DATA != bytes.len() {
         return Err(McsFault::Line(line_number));
     }
     let last = bytes.len() - 1;

@@ -7,11 +7,11 @@ ghost use Rattle.x7_mcs.specs.Readings.{CallComesTo, ImageHolds, after_record, f
 
 use crate::fault::McsFault;
 use crate::image::{Image, take_content};
-use crate::record::{BYTES_BESIDE, Meaning, meaning_of, record_data};
+use crate::record::{BYTES_BESIDE_DATA, Meaning, meaning_of, record_data};
 use x7_text::read_pairs;
 
 /// The bytes of the longest record: 255 of data, and those beside them.
-const MOST_RECORD_SIZE: usize = 255 + BYTES_BESIDE;
+const MOST_RECORD_SIZE: usize = 255 + BYTES_BESIDE_DATA;
 
 /// The base that stands, a place in bytes, and whether a record 01 stood.
 #[derive(Clone, Copy)]

@@ -7,7 +7,7 @@ use Rattle.std.proofs.lemmas.Option.{none-some, same_Some}
 use Rattle.std.specs.Option.{option_or}
 use Rattle.x7_part.specs.AddressOrder.{addresses_in}
 use Rattle.x7_part.specs.Part.{PartData, frame_words}
-use Rattle.x7_memory.specs.FrameMap.{FrameMap, override, single_frame, AreDisjoint, AreSame}
+use Rattle.x7_memory.specs.FrameMap.{FrameMap, override, single_frame, AreDisjoint, HaveSameFrames}
 use Rattle.x7_memory.specs.PartFrames.{frame_among, frame_at, zeros, AreFramesOf}
 use Rattle.x7_memory.specs.Plan.{PlanRow, PlanData, AreInOrder, planned, planned_addresses, total}
 use Rattle.x7_memory.proofs.FrameLemmas.{among_here, among_after, among_found, among_none}
@@ -27,7 +27,7 @@ or_else_if : (b : Bool) (words : List ℕ) (m : Option (List ℕ)) → (if b the
 or_else_if true words m = refl
 or_else_if false words m = refl
 
-pub override_twice : (m p q : FrameMap) → AreSame (override (override m p) q) (override m (override p q))
+pub override_twice : (m p q : FrameMap) → HaveSameFrames (override (override m p) q) (override m (override p q))
 override_twice m p q far = or_else_else (q far) (p far) (m far)
 
 or_else_apart : (p q m : Option (List ℕ)) → (p ≡ None) ⊎ (q ≡ None) → option_or q (option_or p m) ≡ option_or p (option_or q m)
@@ -36,16 +36,16 @@ or_else_apart (Some words) None m apart = refl
 or_else_apart (Some words) (Some others) m (inl e) = absurd (none-some words (sym e))
 or_else_apart (Some words) (Some others) m (inr e) = absurd (none-some others (sym e))
 
-pub override_disjoint : (m p q : FrameMap) → AreDisjoint p q → AreSame (override (override m p) q) (override (override m q) p)
+pub override_disjoint : (m p q : FrameMap) → AreDisjoint p q → HaveSameFrames (override (override m p) q) (override (override m q) p)
 override_disjoint m p q apart far = or_else_apart (p far) (q far) (m far) (apart far)
 
-pub override_again : (m p : FrameMap) → AreSame (override (override m p) p) (override m p)
+pub override_again : (m p : FrameMap) → HaveSameFrames (override (override m p) p) (override m p)
 override_again m p far = or_else_same (p far) (m far)
 
-pub override_same : (m n p q : FrameMap) → AreSame m n → AreSame p q → AreSame (override m p) (override n q)
+pub override_same : (m n p q : FrameMap) → HaveSameFrames m n → HaveSameFrames p q → HaveSameFrames (override m p) (override n q)
 override_same m n p q e f far = ap (λ o. option_or o (m far)) (f far) ∙ ap (λ o. option_or (q far) o) (e far)
 
-pub override_one : (m n : FrameMap) (far : ℕ) (words : List ℕ) → ((a : ℕ) → n a ≡ (if a == far then Some words else m a)) → AreSame n (override m (single_frame far words))
+pub override_one : (m n : FrameMap) (far : ℕ) (words : List ℕ) → ((a : ℕ) → n a ≡ (if a == far then Some words else m a)) → HaveSameFrames n (override m (single_frame far words))
 override_one m n far words e a = e a ∙ or_else_if (a == far) words (m a)
 
 -- ---- memories
@@ -62,7 +62,7 @@ among_all (suc k) far words (a ∷ fars) h e =
 pub zeros_at : (part : PartData) (far : ℕ) → Contains (addresses_in part) far → zeros part far ≡ Some (replicate (frame_words part) 0)
 zeros_at part far has = among_all has.0 far (replicate (frame_words part) 0) (addresses_in part) has.1 has.2
 
-pub same_memory : (part : PartData) (m n : List (List ℕ)) → AreFramesOf part m → AreFramesOf part n → AreSame (frame_at part m) (frame_at part n) → m ≡ n
+pub same_memory : (part : PartData) (m n : List (List ℕ)) → AreFramesOf part m → AreFramesOf part n → HaveSameFrames (frame_at part m) (frame_at part n) → m ≡ n
 same_memory part m n are also_are same =
     let cm = are.count in let cn = also_are.count in
     ext_get_or [] m n (omega arith) (λ i h.
@@ -93,7 +93,7 @@ unnamed_none rows far free =
     let long = length-map rows (λ row. row.far) in
     planned_none rows far (λ j h e. free (j, (omega arith), get_or-map (λ row. row.far) rows j no_row far h ∙ e))
 
-pub planned_joined : (before after : List PlanRow) → AreSame (planned (before ++ after)) (override (planned after) (planned before))
+pub planned_joined : (before after : List PlanRow) → HaveSameFrames (planned (before ++ after)) (override (planned after) (planned before))
 unfolding planned
 planned_joined [] after far = refl
 planned_joined (row ∷ before) after far =
@@ -133,7 +133,7 @@ or_else_either None b c same = same refl
 or_else_either (Some words) b c same = refl
 
 pub override_whole : (part : PartData) (plan : PlanData) (frames : List (List ℕ)) → ((far : ℕ) → Contains (addresses_in part) far → Contains (planned_addresses plan.rows) far) →
-    AreSame (override (frame_at part frames) (planned plan.rows)) (total part plan)
+    HaveSameFrames (override (frame_at part frames) (planned plan.rows)) (total part plan)
 override_whole part plan frames all far = or_else_either (planned plan.rows far) (frame_at part frames far) (zeros part far) (λ none.
     let out : Contains (addresses_in part) far → ⊥ = λ has. named_some plan.rows far (all far has) none in
     among_none far (addresses_in part) frames out ∙ sym (among_none far (addresses_in part) _ out))

@@ -23,5 +23,5 @@ abbrev pub AreDisjoint : FrameMap → FrameMap → Type 0
 AreDisjoint p q = (far : ℕ) → (p far ≡ None) ⊎ (q far ≡ None)
 
 -- the maps have the same frames
-abbrev pub AreSame : FrameMap → FrameMap → Type 0
-AreSame m n = (far : ℕ) → m far ≡ n far
+abbrev pub HaveSameFrames : FrameMap → FrameMap → Type 0
+HaveSameFrames m n = (far : ℕ) → m far ≡ n far

@@ -3,7 +3,7 @@
 ghost use Rattle.std.specs.Prelude.{◌≡◌, ℕ, ◌<◌, ◌++◌, ◌==◌, ◌↔◌, if◌then◌else◌, List, length, replicate, slice_index_or, Contains, IsPermutation, Some, None};
 ghost use Rattle.x7_part.specs.AddressOrder.{addresses_in};
 ghost use Rattle.x7_part.specs.Part.{PartData, frame_words};
-ghost use Rattle.x7_memory.specs.FrameMap.{FrameMap, override, no_frames, single_frame, AreDisjoint, AreSame};
+ghost use Rattle.x7_memory.specs.FrameMap.{FrameMap, override, no_frames, single_frame, AreDisjoint, HaveSameFrames};
 ghost use Rattle.x7_memory.specs.PartFrames.{frame_at, zeros, AreFramesOf};
 ghost use Rattle.x7_memory.specs.Plan.{PlanRow, PlanData, PlansEach, IsPlan, AreInOrder, AreApart, planned, planned_addresses, total};
 
@@ -11,19 +11,19 @@ ghost use Rattle.x7_memory.specs.Plan.{PlanRow, PlanData, PlansEach, IsPlan, Are
 /// is that map once. A map with nothing over it stays, and maps that are the same give the same. A map that differs
 /// from another by one frame is that other map with this frame alone over it.
 pub fn maps_override_by_address()
-    ensures twice { (m p q : FrameMap) → AreSame (override (override m p) q) (override m (override p q)) }
-    ensures disjoint { (m p q : FrameMap) → AreDisjoint p q → AreSame (override (override m p) q) (override (override m q) p) }
-    ensures again { (m p : FrameMap) → AreSame (override (override m p) p) (override m p) }
-    ensures nothing { (m : FrameMap) → AreSame (override m no_frames) m }
-    ensures same { (m n p q : FrameMap) → AreSame m n → AreSame p q → AreSame (override m p) (override n q) }
-    ensures one_frame { (m n : FrameMap) (far : ℕ) (words : List ℕ) → ((a : ℕ) → n a ≡ (if a == far then Some words else m a)) → AreSame n (override m (single_frame far words)) }
+    ensures twice { (m p q : FrameMap) → HaveSameFrames (override (override m p) q) (override m (override p q)) }
+    ensures disjoint { (m p q : FrameMap) → AreDisjoint p q → HaveSameFrames (override (override m p) q) (override (override m q) p) }
+    ensures again { (m p : FrameMap) → HaveSameFrames (override (override m p) p) (override m p) }
+    ensures nothing { (m : FrameMap) → HaveSameFrames (override m no_frames) m }
+    ensures same { (m n p q : FrameMap) → HaveSameFrames m n → HaveSameFrames p q → HaveSameFrames (override m p) (override n q) }
+    ensures one_frame { (m n : FrameMap) (far : ℕ) (words : List ℕ) → ((a : ℕ) → n a ≡ (if a == far then Some words else m a)) → HaveSameFrames n (override m (single_frame far words)) }
 {}
 
 /// A memory as a map: the part's addresses alone have frames, zeros are zeros, and equal maps are equal memories.
 pub fn memories_are_maps()
     ensures outside { (part : PartData) (frames : List (List ℕ)) (far : ℕ) → (¬ Contains (addresses_in part) far) → frame_at part frames far ≡ None }
     ensures zeros { (part : PartData) (far : ℕ) → Contains (addresses_in part) far → zeros part far ≡ Some (replicate (frame_words part) 0) }
-    ensures equal { (part : PartData) (m n : List (List ℕ)) → AreFramesOf part m → AreFramesOf part n → AreSame (frame_at part m) (frame_at part n) → m ≡ n }
+    ensures equal { (part : PartData) (m n : List (List ℕ)) → AreFramesOf part m → AreFramesOf part n → HaveSameFrames (frame_at part m) (frame_at part n) → m ≡ n }
 {}
 
 /// A plan is a map: at the address of a row it has the row's words, and at an address that it doesn't name nothing. The
@@ -35,12 +35,12 @@ pub fn plans_are_maps()
     ensures rows { (plan : PlanData) (k : ℕ) (d : PlanRow) → IsPlan plan → k < length plan.rows →
         planned plan.rows (slice_index_or plan.rows k d).far ≡ Some (slice_index_or plan.rows k d).words }
     ensures named { (rows : List PlanRow) (far : ℕ) → (planned rows far ≡ None) ↔ (¬ Contains (planned_addresses rows) far) }
-    ensures joined { (before after : List PlanRow) → AreSame (planned (before ++ after)) (override (planned after) (planned before)) }
+    ensures joined { (before after : List PlanRow) → HaveSameFrames (planned (before ++ after)) (override (planned after) (planned before)) }
     ensures apart { (before after : List PlanRow) → AreInOrder (before ++ after) → AreDisjoint (planned before) (planned after) }
-    ensures permuted { (rows others : List PlanRow) → IsPermutation rows others → AreApart rows → AreSame (planned rows) (planned others) }
-    ensures total { (part : PartData) (plan : PlanData) → AreSame (total part plan) (override (zeros part) (planned plan.rows)) }
+    ensures permuted { (rows others : List PlanRow) → IsPermutation rows others → AreApart rows → HaveSameFrames (planned rows) (planned others) }
+    ensures total { (part : PartData) (plan : PlanData) → HaveSameFrames (total part plan) (override (zeros part) (planned plan.rows)) }
     ensures unplanned { (part : PartData) (plan : PlanData) (far : ℕ) → (¬ Contains (planned_addresses plan.rows) far) → total part plan far ≡ zeros part far }
     ensures planned { (part : PartData) (plan : PlanData) (far : ℕ) → Contains (planned_addresses plan.rows) far → total part plan far ≡ planned plan.rows far }
     ensures whole { (part : PartData) (plan : PlanData) (frames : List (List ℕ)) → PlansEach part plan →
-        AreSame (override (frame_at part frames) (planned plan.rows)) (total part plan) }
+        HaveSameFrames (override (frame_at part frames) (planned plan.rows)) (total part plan) }
 {}

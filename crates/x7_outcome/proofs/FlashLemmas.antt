@@ -1,7 +1,7 @@
 -- What more may fail where a form may have a flash, and why a flash was not attached.
 use Rattle.std.proofs.Common.{◌≡◌, ap, ℕ, List, Option, None, Some, Result, Err, subst, inl}
 use Rattle.x7_words.specs.Count.{HasRisen}
-use Rattle.x7_words.specs.Flash.{FlashIsAskedFor, FlashFails, FlashState, FlashStays, FlashRefuses}
+use Rattle.x7_words.specs.Flash.{FlashIsAskedFor, FlashFails, FlashState, KeepsBytes, FlashRefuses}
 use Rattle.x7_words.specs.Input.{InputsState}
 use Rattle.x7_words.specs.declared.input.SelectFault.{SelectFault}
 use Rattle.x7_words.specs.declared.input.SelectFault.TheVariants.{Missing, Failed}
@@ -50,5 +50,5 @@ pub was_failed : (old new : FlashState) (fault : SelectFault) → fault ≡ Fail
 was_failed old new fault e h = subst (λ (f : SelectFault). FlashRefuses old new f) e h
 
 -- an attach that asks for this name
-pub reads_asked : (name : List ℕ) (old new : FlashState) (past since : ℕ → List ℕ → Type 0) → FlashStays old new past since → FlashIsAskedFor old name new → ReadsFlash name old new
+pub reads_asked : (name : List ℕ) (old new : FlashState) (past since : ℕ → List ℕ → Type 0) → KeepsBytes old new past since → FlashIsAskedFor old name new → ReadsFlash name old new
 reads_asked name old new past since s a = record { bytes = s.bytes; write_faults = s.unwritten.write_faults; moments = s.unwritten.moments; faults = s.faults; absences = s.absences; no_other = a.no_other }

@@ -9,8 +9,8 @@ use Rattle.x7_forms.specs.declared.status.Status.TheVariants as status
 use Rattle.x7_outcome.specs.Outside.{Outside}
 
 -- the most by which the bytes read of a stream exceed the bytes of text written: half a MiB (this project's choice)
-abbrev pub most_ahead : ℕ
-most_ahead = 524288
+abbrev pub most_bytes_ahead : ℕ
+most_bytes_ahead = 524288
 
 -- the most bytes of a listing that are held of it: those of bytes that may yet be a sync
 -- word, or the rest of a word, and line ends
@@ -24,22 +24,22 @@ pub record HasWritten (early before after : List ℕ) : Type 0 where
   pub lists : stream_listing early ≡ Ok text
   pub written : length before + length text ≤ length after + most_held
 
--- A stream's bytes are early ones, which are listed, late ones, at most `most_ahead`, and those that are left. The
--- bytes read, early and late, are at most `most_ahead` more than the sink got.
+-- A stream's bytes are early ones, which are listed, late ones, at most `most_bytes_ahead`, and those that are left. The
+-- bytes read, early and late, are at most `most_bytes_ahead` more than the sink got.
 pub record ReadsNear (bytes left before after : List ℕ) : Type 0 where
   pub early : List ℕ
   pub late : List ℕ
   pub split : bytes ≡ early ++ (late ++ left)
-  pub not_far : length late ≤ most_ahead
+  pub not_far : length late ≤ most_bytes_ahead
   pub written : HasWritten early before after
-  pub near : length bytes + length before ≤ length left + length after + most_ahead
+  pub near : length bytes + length before ≤ length left + length after + most_bytes_ahead
 
--- The early bytes of a stream are listed, and at most `most_ahead` bytes more than these were given.
+-- The early bytes of a stream are listed, and at most `most_bytes_ahead` bytes more than these were given.
 pub record GivesNear (bytes : List ℕ) (given : ℕ) (before after : List ℕ) : Type 0 where
   pub early : List ℕ
   pub others : List ℕ
   pub split : bytes ≡ early ++ others
-  pub not_far : given ≤ length early + most_ahead
+  pub not_far : given ≤ length early + most_bytes_ahead
   pub written : HasWritten early before after
 
 -- where the stream, what is left of it, and what the sink got are known, few bytes more were read than are listed

@@ -25,7 +25,7 @@ use Rattle.x7_boot.specs.declared.boots.BootEnd.{BootEnd}
 use Rattle.x7_boot.specs.declared.boots.BootEnd.TheVariants as boot_end
 use Rattle.x7_boot.specs.declared.fault.BootFault.{BootFault}
 use Rattle.x7_boot.specs.declared.fault.BootFault.TheVariants as fault
-use Rattle.x7_update.specs.Fault.{CanTake, IsTooLong, NoLayoutAt}
+use Rattle.x7_update.specs.Fault.{StreamFits, IsTooLong, NoLayoutAt}
 use Rattle.x7_update.specs.Writing.{IsReadWrong}
 use Rattle.x7_update.specs.declared.fault.UpdateFault.{UpdateFault}
 use Rattle.x7_update.specs.declared.fault.UpdateFault.TheVariants as update_fault
@@ -217,8 +217,8 @@ abbrev pub gen_answer : PartData → ℕ → Answer
 gen_answer part seed = record { stopped = false; text = gen_text part seed }
 
 -- `gen PART SEED`: the summary, or why there is no part
-abbrev pub gen_made : Known → List ℕ → ℕ → Result Answer Event
-gen_made known part_name seed = and_so (part_known known part_name) (λ part. Ok (gen_answer part seed))
+abbrev pub gen_answer_of : Known → List ℕ → ℕ → Result Answer Event
+gen_answer_of known part_name seed = and_so (part_known known part_name) (λ part. Ok (gen_answer part seed))
 
 -- ---- images
 
@@ -239,12 +239,12 @@ image_by name unit s =
     else Ok (record { stopped = false; text = image_of unit s.golden s.update })
 
 -- `image GOLDEN UPDATE`: the flash image of both streams' data, for parts whose start address counts bytes
-abbrev pub imaged : Known → List ℕ → List ℕ → Result Answer Event
-imaged known golden_name update_name = and_so (image_streams known golden_name update_name) (image_by update_name 1)
+abbrev pub image_answer : Known → List ℕ → List ℕ → Result Answer Event
+image_answer known golden_name update_name = and_so (image_streams known golden_name update_name) (image_by update_name 1)
 
 -- `image PART GOLDEN UPDATE`: the flash image of both streams' data for a part, by its start unit
-abbrev pub imaged_for : Known → List ℕ → List ℕ → List ℕ → Result Answer Event
-imaged_for known part_name golden_name update_name =
+abbrev pub image_answer_for : Known → List ℕ → List ℕ → List ℕ → Result Answer Event
+image_answer_for known part_name golden_name update_name =
     and_so (part_known known part_name) (λ part. and_so (image_streams known golden_name update_name) (image_by update_name part.start_unit))
 
 -- ---- boots
@@ -318,7 +318,7 @@ IsUpdateFault bytes stream update_fault.NoMemory = ⊥
 -- the update of a flash of these bytes, where they are known, with the data of a stream
 abbrev pub UpdatesWith : UpdateNames → Option (List ℕ) → Result (List ℕ) Event → Result Answer Event → Type 0
 UpdatesWith names bytes (Err event) end = Err event ≡ end
-UpdatesWith names bytes (Ok stream) (Ok answer) = (answer ≡ no_text) × IfKnown bytes (CanTake stream)
+UpdatesWith names bytes (Ok stream) (Ok answer) = (answer ≡ no_text) × IfKnown bytes (StreamFits stream)
 UpdatesWith names bytes (Ok stream) (Err event) = (fault : UpdateFault) × IsUpdateFault bytes stream fault × (update_event names fault ≡ event)
 
 -- the update of a flash of any size: one that is larger than a flash may be is refused before the stream is read
@@ -374,9 +374,9 @@ FormGives known (PlayingSvf part_name text_name) end = PlayedSvf text_name (part
 FormGives known (PlanningFull part_name frames_name) end = PlannedFull frames_name (part_and_text known part_name frames_name) end
 FormGives known (PlanningPartial part_name frames_name) end = PlannedPartial frames_name (part_and_text known part_name frames_name) end
 FormGives known (PlanningRead part_name far n) end = PlannedRead part_name far n (part_known known part_name) end
-FormGives known (Generating part_name seed) end = gen_made known part_name seed ≡ end
-FormGives known (Imaging golden_name update_name) end = imaged known golden_name update_name ≡ end
-FormGives known (ImagingFor part_name golden_name update_name) end = imaged_for known part_name golden_name update_name ≡ end
+FormGives known (Generating part_name seed) end = gen_answer_of known part_name seed ≡ end
+FormGives known (Imaging golden_name update_name) end = image_answer known golden_name update_name ≡ end
+FormGives known (ImagingFor part_name golden_name update_name) end = image_answer_for known part_name golden_name update_name ≡ end
 FormGives known (Booting part_name flash_name) end = BootedAs flash_name (part_known known part_name) (known.flash flash_name) end
 FormGives known (UpdatingFlash flash_name stream_name) end = UpdatedAs known (record { flash = flash_name; stream = stream_name }) end
 FormGives known (ToMcs image_name) end = mcs_written known image_name ≡ end

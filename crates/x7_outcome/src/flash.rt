@@ -1,6 +1,6 @@
 //! A flash that a command reads or updates, attached under its name.
 ghost use Rattle.std.specs.Prelude.{◌≡◌, ◌≤◌, IfErr, OnOk, length, true, false};
-ghost use Rattle.x7_words.specs.Flash.{FlashIsAskedFor, IsSized, IfKnown};
+ghost use Rattle.x7_words.specs.Flash.{FlashIsAskedFor, ExtentIsLength, IfKnown};
 ghost use Rattle.x7_words.specs.FlashCalls.{CallKeepsBytes};
 ghost use Rattle.x7_boot.specs.Image.{flash_limit};
 ghost use Rattle.x7_forms.specs.Event.{event_of};
@@ -18,7 +18,7 @@ pub fn attach<'w, F: Flash>(flash: &mut F, name: &'w str) -> Result<(), Refusal<
     ensures reads { ReadsFlash name.now (F.state flash.old) (F.state flash.new) }
     ensures stays { CallKeepsBytes F.Flash flash.old flash.new }
     ensures asks { FlashIsAskedFor (F.state flash.old) name.now (F.state flash.new) }
-    ensures sized { IsSized (F.state flash.new) }
+    ensures sized { ExtentIsLength (F.state flash.new) }
 {
     match flash.attach(name) {
         Ok(()) => Ok(()),

@@ -14,7 +14,7 @@ use Rattle.x7_packets.specs.declared.cutter.Cut.TheVariants.{Body, Head, Skip}
 use Rattle.x7_packets.specs.Mode.{Mode}
 use Rattle.x7_packets.specs.AtOnce.{BeginsWrite, EndsGap, in_write, longest_gap_and_sync, longest_short_write, most_short_words, short_gap_room, WritesShort, WritesOne}
 use Rattle.x7_packets.specs.Cutter.{AtPlace, CutterState, CutterStandsFor, LongerSession, AfterRun, TakesAsOneRun}
-use Rattle.x7_packets.specs.PacketWords.{dummy_word, no_op, sync_word, type1_counts, type1_write_header, type1_write_kind}
+use Rattle.x7_packets.specs.PacketWords.{dummy_word, no_op, sync_word, type1_count_bound, type1_write_header, type1_write_kind}
 use Rattle.x7_packets.specs.Packet.{Packet, ends_session, meaning, packet_type_of, payload_steps, register_of, type1_count_of, header_kind_of}
 use Rattle.x7_packets.specs.Reading.{EndedSession, Place, Searching, Synced, packet_bytes, session_bytes}
 use Rattle.x7_packets.specs.Machine.{HasTakenWords, MachineStandsFor, MachineState, ends_by, is_end}
@@ -27,7 +27,7 @@ use Rattle.x7_regs.specs.Register.{reg_number_count}
 
 -- ---- a machine
 
-write_means : (latest : Option ℕ) (register count : ℕ) → register < reg_number_count → count < type1_counts → Open register count ≡ meaning latest (type1_write_header register count)
+write_means : (latest : Option ℕ) (register count : ℕ) → register < reg_number_count → count < type1_count_bound → Open register count ≡ meaning latest (type1_write_header register count)
 write_means latest register count h k =
     let sync : (type1_write_header register count == sync_word) ≡ false = grind (arith, nat_tests) in
     let ones : (type1_write_header register count == dummy_word) ≡ false = grind (arith, nat_tests) in
@@ -37,7 +37,7 @@ write_means latest register count h k =
     let number : type1_count_of (type1_write_header register count) ≡ count = omega arith in
     rw (sync, ones, zero_type, kind, named, number) refl
 
-pub write_opens : (m : MachineState) (ps : List Packet) (register count : ℕ) → register < reg_number_count → 0 < count → count < type1_counts → m.due ≡ 0 → MachineStandsFor m ps
+pub write_opens : (m : MachineState) (ps : List Packet) (register count : ℕ) → register < reg_number_count → 0 < count → count < type1_count_bound → m.due ≡ 0 → MachineStandsFor m ps
     → HasTakenWords ps ((type1_write_header register count, Open register count) ∷ []) (in_write register count)
 write_opens m ps register count h some few none (inl a) = header_opens m (in_write register count) ps (type1_write_header register count) register count (omega arith) a (write_means m.latest register count h few) some refl refl refl
 write_opens m ps register count h some few none (inr a) = absurd (omega (arith, none, a.more))
@@ -152,7 +152,7 @@ takes_words c n register count run is to none none2 fits long some other machine
 
 pub writes_short : (old new : CutterState) (bs : List ℕ) (head register count : ℕ) → old.mode ≡ Mode.Synced → new.mode ≡ Mode.Synced → old.kept ≡ [] → new.kept ≡ [] → longest_short_write ≤ length bs → AreBytes bs
     → bytes_of_word head ≡ get_or bs 0 0 ∷ get_or bs 1 0 ∷ get_or bs 2 0 ∷ get_or bs 3 0 ∷ [] → head ≡ type1_write_header register count → register < reg_number_count → (register ≡ 4 → ⊥) → 0 < count → count ≤ most_short_words
-    → ((ps : List Packet) (n : ℕ) → 0 < n → n < type1_counts → MachineStandsFor old.machine ps → HasTakenWords ps ((type1_write_header register n, Open register n) ∷ []) (in_write register n))
+    → ((ps : List Packet) (n : ℕ) → 0 < n → n < type1_count_bound → MachineStandsFor old.machine ps → HasTakenWords ps ((type1_write_header register n, Open register n) ∷ []) (in_write register n))
     → ((ps : List Packet) (ws : List ℕ) → AreWords ws → 0 < length ws → MachineStandsFor (in_write register (length ws)) ps → HasTakenWords ps (payload_steps register ws) new.machine)
     → WritesShort old new bs register count
 writes_short old new bs head register count is to none none2 long fits e g range other some few opens goes =

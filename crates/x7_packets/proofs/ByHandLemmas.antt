@@ -10,7 +10,7 @@ use Rattle.x7_words.specs.Word.{AreBytes, AreWords, bytes_of_word, word_of_bytes
 use Rattle.x7_words.proofs.ListLemmas.{all_append, all_prefix, all_back, flat_map_last}
 use Rattle.x7_words.proofs.WordLemmas.{bytes_words, words_fit}
 use Rattle.x7_packets.specs.SyncWord.{sync_bytes, EndsWithSync}
-use Rattle.x7_packets.specs.Packet.{Packet, HavePackets, EachPacket, IsPacket, IsWhole, OnlyLastEnds, NoneEnds, latest_after, count_of, named_by, words, ended, last_ends}
+use Rattle.x7_packets.specs.Packet.{Packet, HavePackets, EachPacket, IsPacket, IsWhole, OnlyLastMayEnd, NoneEnds, latest_after, count_of, register_named_by, words, ended, last_ends}
 use Rattle.x7_packets.specs.Reading.{Place, Searching, Synced, EndedSession, IsReading, IsEndedSession, packet_bytes, session_bytes}
 use Rattle.x7_packets.specs.ByHand.{header_packet, with_payload_word, with_word_after, packets_with_word, packets_of, AreOfOneSession, is_sync, last_four, before_last_four, Reading, with_session_byte, with_byte_at, with_byte, reading_of}
 use Rattle.x7_packets.proofs.PacketLemmas.{only_more, one_list}
@@ -20,7 +20,7 @@ use Rattle.x7_packets.proofs.EndLemmas.{after_end}
 use Rattle.x7_packets.proofs.UniqueLemmas.{one_reading, each_fits}
 
 -- a payload whose last word does not end the session has no word that does
-none_of : (register : ℕ) (ws : List ℕ) → OnlyLastEnds register ws → last_ends register ws ≡ false → NoneEnds register ws
+none_of : (register : ℕ) (ws : List ℕ) → OnlyLastMayEnd register ws → last_ends register ws ≡ false → NoneEnds register ws
 none_of register [] o e = tt
 none_of register (w ∷ []) o e = (e, tt)
 none_of register (w ∷ x ∷ ws) o e = (o.0, none_of register (x ∷ ws) o.1 e)
@@ -28,19 +28,19 @@ none_of register (w ∷ x ∷ ws) o e = (o.0, none_of register (x ∷ ws) o.1 e)
 header_is : (latest : Option ℕ) (w : ℕ) → w < 2 ^ 32 → IsPacket latest (header_packet latest w)
 header_is latest w f = record { fits = (f, tt); means = refl; most = omega arith; goes_on = tt }
 
-longer_is : (latest : Option ℕ) (p : Packet) (w : ℕ) → w < 2 ^ 32 → IsPacket latest p → last_ends (named_by p.step) p.payload ≡ false → length p.payload < count_of p.step → IsPacket latest (with_payload_word p w)
+longer_is : (latest : Option ℕ) (p : Packet) (w : ℕ) → w < 2 ^ 32 → IsPacket latest p → last_ends (register_named_by p.step) p.payload ≡ false → length p.payload < count_of p.step → IsPacket latest (with_payload_word p w)
 longer_is latest p w f i e l = record {
   fits = all_append (λ x. x < 2 ^ 32) (words p) (w ∷ []) i.fits (f, tt);
   means = i.means;
   most = omega (arith, length-append p.payload (w ∷ []));
-  goes_on = only_more (named_by p.step) p.payload w (none_of (named_by p.step) p.payload i.goes_on e);
+  goes_on = only_more (register_named_by p.step) p.payload w (none_of (register_named_by p.step) p.payload i.goes_on e);
 }
 
 -- a last packet with one word more, by whether it lacks payload words
-last_each : (latest : Option ℕ) (p : Packet) (w : ℕ) (b : Bool) → nat_lt (length p.payload) (count_of p.step) ≡ b → w < 2 ^ 32 → IsPacket latest p → last_ends (named_by p.step) p.payload ≡ false
+last_each : (latest : Option ℕ) (p : Packet) (w : ℕ) (b : Bool) → nat_lt (length p.payload) (count_of p.step) ≡ b → w < 2 ^ 32 → IsPacket latest p → last_ends (register_named_by p.step) p.payload ≡ false
     → EachPacket latest (if b then with_payload_word p w ∷ [] else p ∷ header_packet (latest_after latest p.step) w ∷ [])
 last_each latest p w true t f i e = longer_is latest p w f i e (ltb-true _ _ t)
-last_each latest p w false t f i e = (i, record { all = (let h : count_of p.step ≤ length p.payload = ltb-false _ _ t in omega (arith, i.most)); none_ends = none_of (named_by p.step) p.payload i.goes_on e }, header_is (latest_after latest p.step) w f)
+last_each latest p w false t f i e = (i, record { all = (let h : count_of p.step ≤ length p.payload = ltb-false _ _ t in omega (arith, i.most)); none_ends = none_of (register_named_by p.step) p.payload i.goes_on e }, header_is (latest_after latest p.step) w f)
 
 each_after : (latest : Option ℕ) (p : Packet) (ps : List Packet) → IsPacket latest p → IsWhole p → EachPacket (latest_after latest p.step) ps → EachPacket latest (p ∷ ps)
 each_after latest p [] i h a = i

@@ -3,10 +3,10 @@ use Rattle.std.proofs.Common.{◌≡◌, ℕ, true, false, List, [], ◌∷◌, 
 use Rattle.std.specs.List.{flat_map}
 use Rattle.std.proofs.lemmas.List.{append_cancel_left}
 use Rattle.x7_words.proofs.ListLemmas.{shorter_prefix}
-use Rattle.x7_packets.specs.Packet.{Packet, EachPacket, IsWhole, OnlyLastEnds, NoneEnds, latest_after, count_of, named_by, words, meaning, ends_session, ended, last_ends}
+use Rattle.x7_packets.specs.Packet.{Packet, EachPacket, IsWhole, OnlyLastMayEnd, NoneEnds, latest_after, count_of, register_named_by, words, meaning, ends_session, ended, last_ends}
 use Rattle.x7_packets.proofs.PacketLemmas.{same_packet, same_count}
 
-only_then : (register : ℕ) (xs m : List ℕ) → last_ends register xs ≡ true → OnlyLastEnds register (xs ++ m) → m ≡ []
+only_then : (register : ℕ) (xs m : List ℕ) → last_ends register xs ≡ true → OnlyLastMayEnd register (xs ++ m) → m ≡ []
 only_then register [] m e o = absurd (cc)
 only_then register (x ∷ []) [] e o = refl
 only_then register (x ∷ []) (y ∷ m) e o = absurd (let h : ends_session register x ≡ false = o.0 in cc)
@@ -17,8 +17,8 @@ none_then register [] m e o = cc
 none_then register (x ∷ []) m e o = let h : ends_session register x ≡ false = o.0 in cc
 none_then register (x ∷ y ∷ xs) m e o = none_then register (y ∷ xs) m e o.1
 
-not_prefix : (p q : Packet) (m : List ℕ) → p.step ≡ q.step → last_ends (named_by p.step) p.payload ≡ true → IsWhole q → q.payload ≡ p.payload ++ m → ⊥
-not_prefix p q m step d w f = none_then (named_by p.step) p.payload m d (rw (step, ← f) w.none_ends)
+not_prefix : (p q : Packet) (m : List ℕ) → p.step ≡ q.step → last_ends (register_named_by p.step) p.payload ≡ true → IsWhole q → q.payload ≡ p.payload ++ m → ⊥
+not_prefix p q m step d w f = none_then (register_named_by p.step) p.payload m d (rw (step, ← f) w.none_ends)
 
 pub after_end : (l : Option ℕ) (ps qs : List Packet) (m : List ℕ) → EachPacket l ps → ended ps ≡ true → EachPacket l qs → flat_map words ps ++ m ≡ flat_map words qs → m ≡ []
 after_end l [] qs m a d b e = absurd (cc)
@@ -28,8 +28,8 @@ after_end l (p ∷ []) (q ∷ []) m a d b e =
     let step : p.step ≡ q.step = a.means ∙ ap (meaning l) head ∙ sym b.means in
     let tail : p.payload ++ [] ++ m ≡ q.payload ++ [] = cc in
     let pay : p.payload ++ m ≡ q.payload = ap (λ t. t ++ m) (sym (append-nil p.payload)) ∙ tail ∙ append-nil q.payload in
-    let o : OnlyLastEnds (named_by p.step) (p.payload ++ m) = rw (step, pay) b.goes_on in
-    only_then (named_by p.step) p.payload m d o
+    let o : OnlyLastMayEnd (register_named_by p.step) (p.payload ++ m) = rw (step, pay) b.goes_on in
+    only_then (register_named_by p.step) p.payload m d o
 after_end l (p ∷ []) (q ∷ r ∷ qs) m a d b e =
     let head : p.head ≡ q.head = cc in
     let step : p.step ≡ q.step = a.means ∙ ap (meaning l) head ∙ sym b.0.means in

@@ -5,7 +5,7 @@ use Rattle.x7_words.specs.Word.{AreBytes}
 use Rattle.x7_packets.specs.Ended.{HasEnded, newest_ends}
 use Rattle.x7_packets.specs.ByHand.{reading_of}
 use Rattle.x7_packets.specs.History.{History, Write, entered, entered_all, entered_sessions, entry, history, history_of}
-use Rattle.x7_packets.specs.Packet.{Packet, ended, last_ends, named_by, payload_steps, stepped}
+use Rattle.x7_packets.specs.Packet.{Packet, ended, last_ends, register_named_by, payload_steps, stepped}
 use Rattle.x7_packets.specs.Reading.{EndedSession, IsEndedSession, Place, Searching, Synced, is_synced, session_bytes}
 use Rattle.x7_packets.proofs.ByHandLemmas.{reading_is_found}
 use Rattle.x7_packets.proofs.HistoryLemmas.{entered_all_append}
@@ -18,7 +18,7 @@ payload_ends n register (w ∷ x ∷ ws) h e = payload_ends (n + 4) register (x 
 packets_end : (n : ℕ) (packets : List Packet) (h : History) → ended packets ≡ true → newest_ends (entered_all n (flat_map stepped packets) h) ≡ true
 packets_end n [] h e = absurd (cc)
 packets_end n (p ∷ []) h e =
-    ap (λ t. newest_ends (entered_all n t h)) (append-nil (stepped p)) ∙ payload_ends (n + 4) (named_by p.step) p.payload (entered (n + 4) p.step h) e
+    ap (λ t. newest_ends (entered_all n t h)) (append-nil (stepped p)) ∙ payload_ends (n + 4) (register_named_by p.step) p.payload (entered (n + 4) p.step h) e
 packets_end n (p ∷ q ∷ packets) h e =
     ap newest_ends (entered_all_append n (stepped p) (flat_map stepped (q ∷ packets)) h)
     ∙ packets_end (n + 4 * length (stepped p)) (q ∷ packets) (entered_all n (stepped p) h) e

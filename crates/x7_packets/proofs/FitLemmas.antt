@@ -5,18 +5,18 @@ use Rattle.x7_words.specs.Word.{AreWords}
 use Rattle.x7_words.proofs.ListLemmas.{all_append}
 use Rattle.x7_packets.specs.declared.header.Step.{Step}
 use Rattle.x7_packets.specs.declared.header.Step.TheVariants.{Filler, Nop, Open, Payload, Read, Bad}
-use Rattle.x7_packets.specs.Packet.{Packet, EachPacket, IsPacket, header_kind_of, register_of, type2_meaning, meaning, named_by, payload_steps, stepped, latest_after, packet_type_of, type1_count_of, type2_count_of}
+use Rattle.x7_packets.specs.Packet.{Packet, EachPacket, IsPacket, header_kind_of, register_of, type2_meaning, meaning, register_named_by, payload_steps, stepped, latest_after, packet_type_of, type1_count_of, type2_count_of}
 use Rattle.x7_packets.specs.Reading.{Place, Searching, Synced, EndedSession, IsReading, IsEndedSession, IsPlace, session_bytes}
 use Rattle.x7_packets.specs.History as access
 use Rattle.x7_packets.specs.History.{History, AllFit, entry, entered, entered_all, entered_sessions, entered_place, history}
 use Rattle.x7_regs.specs.Register.{reg_number_count}
-use Rattle.x7_packets.specs.PacketWords.{type2_counts, sync_word, dummy_word, no_op_kind, type1_write_kind, type1_read_kind, type2_write_kind, type2_read_kind}
+use Rattle.x7_packets.specs.PacketWords.{type2_count_bound, sync_word, dummy_word, no_op_kind, type1_write_kind, type1_read_kind, type2_write_kind, type2_read_kind}
 
 -- the step can come of words of 32 bits
 abbrev FitsStep : Step → Type 0
 FitsStep (Open register count) = register < reg_number_count
 FitsStep (Payload register w) = (register < reg_number_count) × (w < 2 ^ 32)
-FitsStep (Read register count) = (register < reg_number_count) × (count < type2_counts)
+FitsStep (Read register count) = (register < reg_number_count) × (count < type2_count_bound)
 FitsStep (Bad w) = w < 2 ^ 32
 FitsStep _ = Unit {0}
 
@@ -56,7 +56,7 @@ payload_fits : (register : ℕ) (ws : List ℕ) → register < reg_number_count 
 payload_fits register [] r f = tt
 payload_fits register (w ∷ ws) r f = ((r, f.0), payload_fits register ws r f.1)
 
-named_fits : (s : Step) → FitsStep s → named_by s < reg_number_count
+named_fits : (s : Step) → FitsStep s → register_named_by s < reg_number_count
 named_fits (Open register count) f = f
 named_fits (Payload register w) f = omega arith
 named_fits (Read register count) f = f.0
@@ -68,7 +68,7 @@ packet_step_fits : (latest : Option ℕ) (p : Packet) → FitsLatest latest → 
 packet_step_fits latest p l i = rw i.means (meaning_fits latest p.head i.fits.0 l)
 
 packet_fits : (latest : Option ℕ) (p : Packet) → FitsLatest latest → IsPacket latest p → AllSteps (stepped p)
-packet_fits latest p l i = (packet_step_fits latest p l i, payload_fits (named_by p.step) p.payload (named_fits p.step (packet_step_fits latest p l i)) i.fits.1)
+packet_fits latest p l i = (packet_step_fits latest p l i, payload_fits (register_named_by p.step) p.payload (named_fits p.step (packet_step_fits latest p l i)) i.fits.1)
 
 packets_fit : (latest : Option ℕ) (ps : List Packet) → FitsLatest latest → EachPacket latest ps → AllSteps (flat_map stepped ps)
 packets_fit latest [] l a = tt

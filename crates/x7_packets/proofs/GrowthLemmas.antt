@@ -8,7 +8,7 @@ use Rattle.x7_words.specs.Word.{AreBytes, word_of_bytes}
 use Rattle.x7_words.proofs.ListLemmas.{all_prefix}
 use Rattle.x7_packets.specs.declared.header.Step.{Step}
 use Rattle.x7_packets.specs.declared.header.Step.TheVariants as step
-use Rattle.x7_packets.specs.Packet.{Packet, count_of, ended, latest_after, meaning, named_by, stepped}
+use Rattle.x7_packets.specs.Packet.{Packet, count_of, ended, latest_after, meaning, register_named_by, stepped}
 use Rattle.x7_packets.specs.Reading.{Place, Searching, Synced, EndedSession, IsReading}
 use Rattle.x7_packets.specs.ByHand.{before_last_four, header_packet, is_sync, last_four, Reading, reading_of, with_byte, with_byte_at, with_payload_word, with_session_byte, packets_with_word, with_word_after}
 use Rattle.x7_packets.specs.History.{Access, AllAfter, Bad, entered, entered_all, entered_sessions, entry, History, history, history_of, next_word, Placed, Read, until, Write}
@@ -39,7 +39,7 @@ OneWordMore packets all = (s : ℕ × Step) × (flat_map stepped all ≡ flat_ma
 
 -- a last packet and a word, by whether the word is its payload's
 last_grows : (latest : Option ℕ) (p : Packet) (w : ℕ) (b : Bool) → OneWordMore (p ∷ []) (if b then with_payload_word p w ∷ [] else p ∷ header_packet latest w ∷ [])
-last_grows latest p w true = ((w, step.Payload (named_by p.step) w), stepped_more [] p w)
+last_grows latest p w true = ((w, step.Payload (register_named_by p.step) w), stepped_more [] p w)
 last_grows latest p w false = ((w, meaning latest w), ap (λ t. t ++ (w, meaning latest w) ∷ []) (sym (append-nil (stepped p))))
 
 packets_grow : (latest : Option ℕ) (packets : List Packet) (w : ℕ) → OneWordMore packets (with_word_after latest packets w)

@@ -6,7 +6,7 @@ use Rattle.std.specs.List.{flat_map}
 use Rattle.x7_words.proofs.ListLemmas.{flat_map_last, same_prefix, map_append}
 use Rattle.x7_packets.specs.declared.header.Step.{Step}
 use Rattle.x7_packets.specs.declared.header.Step.TheVariants.{Payload}
-use Rattle.x7_packets.specs.Packet.{Packet, HavePackets, EachPacket, IsPacket, IsWhole, OnlyLastEnds, NoneEnds, latest_of, latest_after, count_of, named_by, words, payload_steps, stepped, meaning, ends_session, ended, last_ends}
+use Rattle.x7_packets.specs.Packet.{Packet, HavePackets, EachPacket, IsPacket, IsWhole, OnlyLastMayEnd, NoneEnds, latest_of, latest_after, count_of, register_named_by, words, payload_steps, stepped, meaning, ends_session, ended, last_ends}
 use Rattle.x7_packets.specs.Machine.{AllWhole, is_end}
 
 pub whole_more : (l : Option ℕ) (ps : List Packet) (p : Packet) → AllWhole l ps → IsPacket (latest_of l ps) p → IsWhole p → AllWhole l (ps ++ p ∷ [])
@@ -33,7 +33,7 @@ pub none_more : (register : ℕ) (ws : List ℕ) (w : ℕ) → NoneEnds register
 none_more register [] w n e = (e, tt)
 none_more register (x ∷ ws) w n e = (n.0, none_more register ws w n.1 e)
 
-pub only_more : (register : ℕ) (ws : List ℕ) (w : ℕ) → NoneEnds register ws → OnlyLastEnds register (ws ++ w ∷ [])
+pub only_more : (register : ℕ) (ws : List ℕ) (w : ℕ) → NoneEnds register ws → OnlyLastMayEnd register (ws ++ w ∷ [])
 only_more register [] w n = tt
 only_more register (x ∷ []) w n = (n.0, tt)
 only_more register (x ∷ y ∷ ws) w n = (n.0, only_more register (y ∷ ws) w n.1)
@@ -51,7 +51,7 @@ last_ends_more register [] w = refl
 last_ends_more register (x ∷ []) w = refl
 last_ends_more register (x ∷ y ∷ ws) w = last_ends_more register (y ∷ ws) w
 
-pub ended_more : (ps : List Packet) (p : Packet) → ended (ps ++ p ∷ []) ≡ last_ends (named_by p.step) p.payload
+pub ended_more : (ps : List Packet) (p : Packet) → ended (ps ++ p ∷ []) ≡ last_ends (register_named_by p.step) p.payload
 ended_more [] p = refl
 ended_more (q ∷ []) p = refl
 ended_more (q ∷ r ∷ ps) p = ended_more (r ∷ ps) p
@@ -65,7 +65,7 @@ pub words_stepped : (ps : List Packet) → map (λ (s : ℕ × Step). s.0) (flat
 words_stepped [] = refl
 words_stepped (p ∷ ps) =
     map_append (λ (s : ℕ × Step). s.0) (stepped p) (flat_map stepped ps)
-    ∙ ap (λ t. p.head ∷ t ++ map (λ (s : ℕ × Step). s.0) (flat_map stepped ps)) (firsts_payload (named_by p.step) p.payload)
+    ∙ ap (λ t. p.head ∷ t ++ map (λ (s : ℕ × Step). s.0) (flat_map stepped ps)) (firsts_payload (register_named_by p.step) p.payload)
     ∙ ap (λ t. words p ++ t) (words_stepped ps)
 
 -- the words of packets that grew

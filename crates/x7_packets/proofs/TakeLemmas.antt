@@ -7,7 +7,7 @@ use Rattle.x7_words.specs.Word.{AreWords}
 use Rattle.x7_words.proofs.ListLemmas.{flat_map_last, map_append, all_append}
 use Rattle.x7_packets.specs.declared.header.Step.{Step}
 use Rattle.x7_packets.specs.declared.header.Step.TheVariants.{Filler, Nop, Open, Payload, Read, Bad}
-use Rattle.x7_packets.specs.Packet.{Packet, IsPacket, IsWhole, NoneEnds, latest_of, latest_after, count_of, named_by, words, payload_steps, stepped, meaning, ends_session, last_ends}
+use Rattle.x7_packets.specs.Packet.{Packet, IsPacket, IsWhole, NoneEnds, latest_of, latest_after, count_of, register_named_by, words, payload_steps, stepped, meaning, ends_session, last_ends}
 use Rattle.x7_packets.specs.Machine.{MachineState, MachineStandsFor, AtHeader, InPayload, HasTakenWords, is_end, ends_by}
 use Rattle.x7_packets.proofs.PacketLemmas.{whole_more, each_more, latest_more, none_more, only_more, header_ends, last_ends_more, ended_more}
 
@@ -45,17 +45,17 @@ abbrev pub extended : Packet → ℕ → Packet
 extended p w = record { head = p.head; step = p.step; payload = p.payload ++ w ∷ [] }
 
 -- the stepped words of packets whose last has one payload word more
-pub stepped_more : (prefix : List Packet) (p : Packet) (w : ℕ) → flat_map stepped (prefix ++ extended p w ∷ []) ≡ flat_map stepped (prefix ++ p ∷ []) ++ (w, Payload (named_by p.step) w) ∷ []
+pub stepped_more : (prefix : List Packet) (p : Packet) (w : ℕ) → flat_map stepped (prefix ++ extended p w ∷ []) ≡ flat_map stepped (prefix ++ p ∷ []) ++ (w, Payload (register_named_by p.step) w) ∷ []
 stepped_more prefix p w =
     flat_map_last stepped prefix (extended p w)
-    ∙ ap (λ t. flat_map stepped prefix ++ (p.head, p.step) ∷ t) (map_append (λ x. (x, Payload (named_by p.step) x)) p.payload (w ∷ []))
-    ∙ sym (append_assoc (flat_map stepped prefix) (stepped p) ((w, Payload (named_by p.step) w) ∷ []))
-    ∙ ap (λ t. t ++ (w, Payload (named_by p.step) w) ∷ []) (sym (flat_map_last stepped prefix p))
+    ∙ ap (λ t. flat_map stepped prefix ++ (p.head, p.step) ∷ t) (map_append (λ x. (x, Payload (register_named_by p.step) x)) p.payload (w ∷ []))
+    ∙ sym (append_assoc (flat_map stepped prefix) (stepped p) ((w, Payload (register_named_by p.step) w) ∷ []))
+    ∙ ap (λ t. t ++ (w, Payload (register_named_by p.step) w) ∷ []) (sym (flat_map_last stepped prefix p))
 
 -- the stepped words of an open payload with one word more
 open_more : (m : MachineState) (ps : List Packet) (w : ℕ) (a : InPayload m ps) → flat_map stepped (a.prefix ++ extended a.last w ∷ []) ≡ flat_map stepped ps ++ (w, Payload m.register w) ∷ []
 open_more m ps w a =
-    let same_register : named_by a.last.step ≡ m.register = ap named_by a.opens in
+    let same_register : register_named_by a.last.step ≡ m.register = ap register_named_by a.opens in
     stepped_more a.prefix a.last w ∙ ap (λ x. flat_map stepped (a.prefix ++ a.last ∷ []) ++ (w, Payload x w) ∷ []) same_register ∙ ap (λ x. flat_map stepped x ++ (w, Payload m.register w) ∷ []) (sym a.split)
 
 fits_more : (p : Packet) (w : ℕ) → AreWords (words p) → w < 2 ^ 32 → AreWords (words (extended p w))
@@ -65,7 +65,7 @@ fits_more p w a f = all_append (λ x. x < 2 ^ 32) (words p) (w ∷ []) a (f, tt)
 pub payload_goes : (m n : MachineState) (ps : List Packet) (w : ℕ) → w < 2 ^ 32 → InPayload m ps → ends_session m.register w ≡ false → n.register ≡ m.register → n.latest ≡ m.latest → n.due + 1 ≡ m.due → HasTakenWords ps ((w, Payload m.register w) ∷ []) n
 payload_goes m n ps w f a e r l d =
     let p : Packet = extended a.last w in
-    let same_register : named_by a.last.step ≡ m.register = ap named_by a.opens in
+    let same_register : register_named_by a.last.step ≡ m.register = ap register_named_by a.opens in
     let same_count : count_of a.last.step ≡ a.count = ap count_of a.opens in
     let none : NoneEnds m.register p.payload = none_more m.register a.last.payload w a.none_ends e in
     let more : length p.payload ≡ length a.last.payload + 1 = length-append a.last.payload (w ∷ []) in
@@ -99,7 +99,7 @@ payload_goes m n ps w f a e r l d =
 pub payload_ends : (m n : MachineState) (ps : List Packet) (w : ℕ) → w < 2 ^ 32 → InPayload m ps → ends_session m.register w ≡ true → MachineStandsFor n [] → HasTakenWords ps ((w, Payload m.register w) ∷ []) n
 payload_ends m n ps w f a e s =
     let p : Packet = extended a.last w in
-    let same_register : named_by a.last.step ≡ m.register = ap named_by a.opens in
+    let same_register : register_named_by a.last.step ≡ m.register = ap register_named_by a.opens in
     let same_count : count_of a.last.step ≡ a.count = ap count_of a.opens in
     let more : length p.payload ≡ length a.last.payload + 1 = length-append a.last.payload (w ∷ []) in
     let i : IsPacket (latest_of None a.prefix) p = record { fits = fits_more a.last w a.fits f; means = a.means; most = omega (arith, a.more, a.due); goes_on = rw same_register (only_more m.register a.last.payload w a.none_ends) } in

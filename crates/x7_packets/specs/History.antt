@@ -10,7 +10,7 @@ use Rattle.x7_regs.specs.declared.command.Command.TheVariants.{Desync, Iprog, Nu
 use Rattle.x7_packets.specs.declared.header.Step.{Step}
 use Rattle.x7_packets.specs.declared.header.Step.TheVariants as step
 use Rattle.x7_packets.specs.Packet.{stepped}
-use Rattle.x7_packets.specs.PacketWords.{type2_counts}
+use Rattle.x7_packets.specs.PacketWords.{type2_count_bound}
 use Rattle.x7_packets.specs.Reading.{Place, Searching, Synced, EndedSession, session_bytes}
 use Rattle.x7_packets.specs.ByHand.{Reading, reading_of}
 
@@ -137,7 +137,7 @@ executed (e ∷ h) = with_command (executed_by (command_held h) e.access) (execu
 -- the access can come of words of 32 bits: a register's number has five bits, and a count at most 27
 abbrev pub FitsAccess : Access → Type 0
 FitsAccess (Write register w) = (register < reg_number_count) × (w < 2 ^ 32)
-FitsAccess (Read register count) = (register < reg_number_count) × (count < type2_counts)
+FitsAccess (Read register count) = (register < reg_number_count) × (count < type2_count_bound)
 FitsAccess (Bad w) = w < 2 ^ 32
 
 -- each access of a history can come of words of 32 bits

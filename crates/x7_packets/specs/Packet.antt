@@ -8,7 +8,7 @@ use Rattle.x7_regs.specs.Register.{number_of}
 use Rattle.x7_regs.specs.Command.{code_of, command_code_of}
 use Rattle.x7_regs.specs.declared.register.Reg.TheVariants.{Cmd}
 use Rattle.x7_regs.specs.declared.command.Command.TheVariants.{Desync}
-use Rattle.x7_packets.specs.PacketWords.{dummy_word, no_op_kind, sync_word, type1_counts, type1_read_kind, type1_write_kind, type2_counts, type2_read_kind, type2_write_kind}
+use Rattle.x7_packets.specs.PacketWords.{dummy_word, no_op_kind, sync_word, type1_count_bound, type1_read_kind, type1_write_kind, type2_count_bound, type2_read_kind, type2_write_kind}
 use Rattle.x7_packets.specs.declared.header.Step.{Step}
 use Rattle.x7_packets.specs.declared.header.Step.TheVariants.{Filler, Nop, Open, Payload, Read, Bad}
 
@@ -26,11 +26,11 @@ register_of = field_of 13 5
 
 -- word count 10:0 of a type 1 header
 abbrev pub type1_count_of : ℕ → ℕ
-type1_count_of word = word % type1_counts
+type1_count_of word = word % type1_count_bound
 
 -- word count 26:0 of a type 2 header
 abbrev pub type2_count_of : ℕ → ℕ
-type2_count_of word = word % type2_counts
+type2_count_of word = word % type2_count_bound
 
 -- what a word in a header's place means as a type 2 header, where the nearest type 1 read or write named this register
 abbrev pub type2_meaning : Option ℕ → ℕ → Step
@@ -60,10 +60,10 @@ count_of (Open register count) = count
 count_of _ = 0
 
 -- the register that a header names, by its step; 0 where it names none
-abbrev pub named_by : Step → ℕ
-named_by (Open register count) = register
-named_by (Read register count) = register
-named_by _ = 0
+abbrev pub register_named_by : Step → ℕ
+register_named_by (Open register count) = register
+register_named_by (Read register count) = register
+register_named_by _ = 0
 
 -- the words of a packet
 abbrev pub words : Packet → List ℕ
@@ -75,7 +75,7 @@ payload_steps register ws = map (λ w. (w, Payload register w)) ws
 
 -- the words of a packet, each with its step
 abbrev pub stepped : Packet → List (ℕ × Step)
-stepped p = (p.head, p.step) ∷ payload_steps (named_by p.step) p.payload
+stepped p = (p.head, p.step) ∷ payload_steps (register_named_by p.step) p.payload
 
 -- the register of the nearest type 1 read or write after a header; a type 2 header names it again
 abbrev pub latest_after : Option ℕ → Step → Option ℕ
@@ -98,10 +98,10 @@ NoneEnds register [] = Unit {0}
 NoneEnds register (w ∷ ws) = (ends_session register w ≡ false) × NoneEnds register ws
 
 -- no word written to the register but the last ends the session
-abbrev pub OnlyLastEnds : ℕ → List ℕ → Type 0
-OnlyLastEnds register [] = Unit {0}
-OnlyLastEnds register (w ∷ []) = Unit {0}
-OnlyLastEnds register (w ∷ x ∷ ws) = (ends_session register w ≡ false) × OnlyLastEnds register (x ∷ ws)
+abbrev pub OnlyLastMayEnd : ℕ → List ℕ → Type 0
+OnlyLastMayEnd register [] = Unit {0}
+OnlyLastMayEnd register (w ∷ []) = Unit {0}
+OnlyLastMayEnd register (w ∷ x ∷ ws) = (ends_session register w ≡ false) × OnlyLastMayEnd register (x ∷ ws)
 
 -- a packet: the header means its step, the payload is no longer than the header says,
 -- and only its last word may end the session
@@ -109,12 +109,12 @@ pub record IsPacket (latest : Option ℕ) (p : Packet) : Type 0 where
   pub fits : AreWords (words p)
   pub means : p.step ≡ meaning latest p.head
   pub most : length p.payload ≤ count_of p.step
-  pub goes_on : OnlyLastEnds (named_by p.step) p.payload
+  pub goes_on : OnlyLastMayEnd (register_named_by p.step) p.payload
 
 -- a packet is whole: all of the payload is there, and no word of it ends the session
 pub record IsWhole (p : Packet) : Type 0 where
   pub all : length p.payload ≡ count_of p.step
-  pub none_ends : NoneEnds (named_by p.step) p.payload
+  pub none_ends : NoneEnds (register_named_by p.step) p.payload
 
 -- each is a packet, and each but the last is whole
 abbrev pub EachPacket : Option ℕ → List Packet → Type 0
@@ -136,5 +136,5 @@ last_ends register (w ∷ x ∷ ws) = last_ends register (x ∷ ws)
 -- the packets end by a word that ends the session
 abbrev pub ended : List Packet → Bool
 ended [] = false
-ended (p ∷ []) = last_ends (named_by p.step) p.payload
+ended (p ∷ []) = last_ends (register_named_by p.step) p.payload
 ended (p ∷ q ∷ ps) = ended (q ∷ ps)

@@ -29,12 +29,12 @@ bus_width_detect = 0x11220044
 -- ---- headers
 
 -- how many word counts a type 1 header can say: each is below this
-abbrev pub type1_counts : ℕ
-type1_counts = 2 ^ 11
+abbrev pub type1_count_bound : ℕ
+type1_count_bound = 2 ^ 11
 
 -- how many word counts a type 2 header can say: each is below this
-abbrev pub type2_counts : ℕ
-type2_counts = 2 ^ 27
+abbrev pub type2_count_bound : ℕ
+type2_count_bound = 2 ^ 27
 
 -- the packet type and the opcode of a no-op as one number, bits 31:27
 abbrev pub no_op_kind : ℕ

@@ -4,7 +4,7 @@ ghost use Rattle.x7_words.specs.Word.{AreWords, words_of_bytes};
 ghost use Rattle.x7_regs.specs.Register.{number_of, reg_number_count};
 ghost use Rattle.x7_regs.specs.declared.register.Reg.TheVariants.{Cmd};
 ghost use Rattle.x7_packets.specs.AtOnce.{in_write};
-ghost use Rattle.x7_packets.specs.PacketWords.{type1_counts, type1_write_header};
+ghost use Rattle.x7_packets.specs.PacketWords.{type1_count_bound, type1_write_header};
 ghost use Rattle.x7_packets.specs.Packet.{Packet, ends_session, payload_steps};
 ghost use Rattle.x7_packets.specs.Machine.{ends_by, HasTakenWords, MachineStandsFor};
 
@@ -140,7 +140,7 @@ impl Machine {
         requires at_header { self.old.due ≡ 0 }
         requires register { register < reg_number_count }
         requires not_cmd { register ≡ number_of Cmd → ⊥ }
-        ensures head { (ps : List Packet) (count : ℕ) → 0 < count → count < type1_counts → MachineStandsFor self.old ps
+        ensures head { (ps : List Packet) (count : ℕ) → 0 < count → count < type1_count_bound → MachineStandsFor self.old ps
             → HasTakenWords ps ((type1_write_header register count, Step.Open register count) ∷ []) (in_write register count) }
         ensures words { (ps : List Packet) (ws : List ℕ) → AreWords ws → 0 < length ws → MachineStandsFor (in_write register (length ws)) ps
             → HasTakenWords ps (payload_steps register ws) self.new }

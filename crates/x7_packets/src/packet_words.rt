@@ -2,7 +2,7 @@
 ghost use Rattle.std.specs.Prelude.{◌≡◌, ◌<◌};
 ghost use Rattle.x7_regs.specs.Register.{reg_number_count};
 ghost use Rattle.x7_packets.specs.Packet.{packet_type_of, register_of, type1_count_of, type2_count_of, header_kind_of};
-ghost use Rattle.x7_packets.specs.PacketWords.{command, frame_data_headers, frame_read_headers, type1_counts, type1_read_header, type1_write_header, type2_counts, type2_read_header, type2_write_header, write_one};
+ghost use Rattle.x7_packets.specs.PacketWords.{command, frame_data_headers, frame_read_headers, type1_count_bound, type1_read_header, type1_write_header, type2_count_bound, type2_read_header, type2_write_header, write_one};
 
 use x7_regs::{Command, Reg};
 
@@ -92,7 +92,7 @@ pub fn register_in(header: u32) -> u8
 #[inline(always)]
 pub fn type1_count_in(header: u32) -> u32
     ensures value { result ≡ type1_count_of header }
-    ensures most { result < type1_counts }
+    ensures most { result < type1_count_bound }
 {
     header & TYPE1_COUNT_BITS
 }
@@ -101,7 +101,7 @@ pub fn type1_count_in(header: u32) -> u32
 #[inline(always)]
 pub fn type2_count_in(header: u32) -> u32
     ensures value { result ≡ type2_count_of header }
-    ensures most { result < type2_counts }
+    ensures most { result < type2_count_bound }
 {
     header & TYPE2_COUNT_BITS
 }
@@ -110,7 +110,7 @@ pub fn type2_count_in(header: u32) -> u32
 #[inline(always)]
 pub fn type1_read_header(register: u8, count: u32) -> u32
     requires register { register < reg_number_count }
-    requires count { count < type1_counts }
+    requires count { count < type1_count_bound }
     ensures { result ≡ type1_read_header register count }
 {
     (TYPE1_READ_KIND << BELOW_KIND) + (u32::from(register) << BELOW_REGISTER) + count
@@ -120,7 +120,7 @@ pub fn type1_read_header(register: u8, count: u32) -> u32
 #[inline(always)]
 pub fn type1_write_header(register: u8, count: u32) -> u32
     requires register { register < reg_number_count }
-    requires count { count < type1_counts }
+    requires count { count < type1_count_bound }
     ensures { result ≡ type1_write_header register count }
 {
     (TYPE1_WRITE_KIND << BELOW_KIND) + (u32::from(register) << BELOW_REGISTER) + count
@@ -129,7 +129,7 @@ pub fn type1_write_header(register: u8, count: u32) -> u32
 /// The header of a type 2 read of `count` words.
 #[inline(always)]
 pub fn type2_read_header(count: u32) -> u32
-    requires { count < type2_counts }
+    requires { count < type2_count_bound }
     ensures { result ≡ type2_read_header count }
 {
     (TYPE2_READ_KIND << BELOW_KIND) + count
@@ -138,7 +138,7 @@ pub fn type2_read_header(count: u32) -> u32
 /// The header of a type 2 write of `count` words.
 #[inline(always)]
 pub fn type2_write_header(count: u32) -> u32
-    requires { count < type2_counts }
+    requires { count < type2_count_bound }
     ensures { result ≡ type2_write_header count }
 {
     (TYPE2_WRITE_KIND << BELOW_KIND) + count
@@ -163,7 +163,7 @@ pub fn command(c: Command) -> [u32; 2]
 /// The headers of a write of `count` words to FDRI: an empty type 1 packet, and a type 2 packet.
 #[inline(always)]
 pub fn frame_data_headers(count: u32) -> [u32; 2]
-    requires { count < type2_counts }
+    requires { count < type2_count_bound }
     ensures { result ≡ frame_data_headers count }
 {
     [
@@ -175,7 +175,7 @@ pub fn frame_data_headers(count: u32) -> [u32; 2]
 /// The headers of a read of `count` words from FDRO: an empty type 1 packet, and a type 2 packet.
 #[inline(always)]
 pub fn frame_read_headers(count: u32) -> [u32; 2]
-    requires { count < type2_counts }
+    requires { count < type2_count_bound }
     ensures { result ≡ frame_read_headers count }
 {
     [

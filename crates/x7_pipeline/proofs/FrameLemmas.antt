@@ -7,7 +7,7 @@ use Rattle.x7_words.proofs.WordLemmas.{words_apart, words_count, words_of_bytes_
 use Rattle.x7_part.specs.Part.{PartData}
 use Rattle.x7_part.specs.Slot.{slots_from}
 use Rattle.x7_part.specs.declared.slot.Slot.TheVariants.{End}
-use Rattle.x7_memory.specs.FrameMap.{FrameMap, AreSame}
+use Rattle.x7_memory.specs.FrameMap.{FrameMap, HaveSameFrames}
 use Rattle.x7_regs.specs.declared.command.Command.{Command}
 use Rattle.x7_pipeline.specs.declared.fault.RunFault.{RunFault}
 use Rattle.x7_pipeline.specs.FarAsRead.{has_frame_at}
@@ -108,8 +108,8 @@ pub record Whole (part : PartData) (q : PipelineData) (old new : FrameMap) (comm
 
 pub whole : (part : PartData) (p q : PipelineData) (old new : FrameMap) (command : Command) (base : ℕ) (run : List ℕ) (source : Option (List ℕ)) (given : ℕ) (frame : List ℕ) →
     StandsFor part p command base run source given → p.rest ≡ [] → length frame ≡ p.width → p.frame_count < length (slots_from part p.base) →
-    q ≡ record p { newest = Some frame; frame_count = p.frame_count + 1 } → (p.newest ≡ None → AreSame new old) →
-    ((kept : List ℕ) → p.newest ≡ Some kept → AreSame new (put_over (at_slot (get_or (slots_from part p.base) (p.frame_count - 1) End) kept []) old)) →
+    q ≡ record p { newest = Some frame; frame_count = p.frame_count + 1 } → (p.newest ≡ None → HaveSameFrames new old) →
+    ((kept : List ℕ) → p.newest ≡ Some kept → HaveSameFrames new (put_over (at_slot (get_or (slots_from part p.base) (p.frame_count - 1) End) kept []) old)) →
     Whole part q old new command base run source given frame
 unfolding run_written
 whole part p q old new command base run source given frame s begins wide slot e none some =

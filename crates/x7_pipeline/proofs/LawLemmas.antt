@@ -14,18 +14,18 @@ use Rattle.x7_part.specs.AddressOrder.{addresses_of}
 use Rattle.x7_part.specs.Slot.{slots, slots_in, from_address, slots_from}
 use Rattle.x7_part.specs.declared.slot.Slot.{Slot}
 use Rattle.x7_part.specs.declared.slot.Slot.TheVariants.{Frame, Pad, End}
-use Rattle.x7_memory.specs.FrameMap.{FrameMap, AreSame, override}
+use Rattle.x7_memory.specs.FrameMap.{FrameMap, HaveSameFrames, override}
 use Rattle.x7_memory.specs.Plan.{PlanRow, planned}
 use Rattle.x7_memory.proofs.MapLemmas.{override_twice, override_same, planned_joined}
 use Rattle.x7_regs.specs.declared.command.Command.{Command}
 use Rattle.x7_pipeline.specs.declared.fault.RunFault.{RunFault}
 use Rattle.x7_pipeline.specs.declared.fault.RunFault.TheVariants.{Address, Overrun, Multi}
-use Rattle.x7_pipeline.specs.Runs.{rest_of, frames_of, at_slot, in_slots, but_newest, written_frames, put_over, Lands}
+use Rattle.x7_pipeline.specs.Runs.{rest_of, frames_of, at_slot, in_slots, without_newest, written_frames, put_over, Lands}
 use Rattle.x7_pipeline.specs.RunsInWords.{AreCutFrom, FarStandsAt, pair_of, place_in}
 use Rattle.x7_pipeline.specs.FarAsRead.{has_frame_at, first_address, last_address, far_at, far_of}
 use Rattle.x7_regs.specs.declared.command.Command.TheVariants.{Wcfg, Mfw}
 use Rattle.x7_pipeline.specs.Copies.{is_wcfg, is_mfw, newest_of, source_after}
-use Rattle.x7_pipeline.specs.Readback.{word_at, readback_at, read_limit, given_stored}
+use Rattle.x7_pipeline.specs.Readback.{word_at, readback_at, readback_end, given_stored}
 use Rattle.x7_pipeline.specs.Fault.{address_fault, completes, has_filled, write_fault, copy_fault, readback_fault}
 use Rattle.x7_pipeline.specs.Pipeline.{PipelineData}
 use Rattle.x7_pipeline.specs.Flow.{Flow, HoldsFlow}
@@ -92,9 +92,9 @@ in_order places (frame ∷ older) =
     ∙ ap (λ t. filter_map pair_of (zip places t)) (sym (reverse_cons frame older))
 
 pub landed_in_order : (part : PartData) (base : ℕ) (run : List ℕ) →
-    reverse (written_frames part base run) ≡ filter_map pair_of (zip (slots_from part base) (reverse (but_newest (frames_of (frame_words part) run))))
+    reverse (written_frames part base run) ≡ filter_map pair_of (zip (slots_from part base) (reverse (without_newest (frames_of (frame_words part) run))))
 unfolding written_frames
-landed_in_order part base run = in_order (slots_from part base) (but_newest (frames_of (frame_words part) run))
+landed_in_order part base run = in_order (slots_from part base) (without_newest (frames_of (frame_words part) run))
 
 pub landed_empty : (part : PartData) (base : ℕ) → written_frames part base [] ≡ []
 unfolding written_frames frames_of in_slots
@@ -108,15 +108,15 @@ nothing_lands places (frame ∷ older) none =
 
 pub landed_nowhere : (part : PartData) (base : ℕ) (run : List ℕ) → has_frame_at part base ≡ false → written_frames part base run ≡ []
 unfolding written_frames
-landed_nowhere part base run f = nothing_lands (slots_from part base) (but_newest (frames_of (frame_words part) run)) (no_slots part base f)
+landed_nowhere part base run f = nothing_lands (slots_from part base) (without_newest (frames_of (frame_words part) run)) (no_slots part base f)
 
 -- ---- what a memory gets
 
-pub lands_none : (part : PartData) (base : ℕ) (run : List ℕ) (old new : FrameMap) → AreSame new old → Lands part base run run old new
+pub lands_none : (part : PartData) (base : ℕ) (run : List ℕ) (old new : FrameMap) → HaveSameFrames new old → Lands part base run run old new
 unfolding planned
 lands_none part base run old new same = record { added = []; grows = refl; memory = same }
 
-pub put_twice : (first second : List PlanRow) (old middle new : FrameMap) → AreSame middle (put_over first old) → AreSame new (put_over second middle) → AreSame new (put_over (second ++ first) old)
+pub put_twice : (first second : List PlanRow) (old middle new : FrameMap) → HaveSameFrames middle (put_over first old) → HaveSameFrames new (put_over second middle) → HaveSameFrames new (put_over (second ++ first) old)
 put_twice first second old middle new m n far =
     n far
     ∙ override_same middle (put_over first old) (planned second) (planned second) m (λ a. refl) far
@@ -130,7 +130,7 @@ lands_more part base run longer longest old middle new first second = record {
   memory = put_twice first.added second.added old middle new first.memory second.memory;
 }
 
-pub lands_over : (part : PartData) (base : ℕ) (run longer : List ℕ) (under old new : FrameMap) → Lands part base run longer old new → AreSame old (put_over (written_frames part base run) under) → AreSame new (put_over (written_frames part base longer) under)
+pub lands_over : (part : PartData) (base : ℕ) (run longer : List ℕ) (under old new : FrameMap) → Lands part base run longer old new → HaveSameFrames old (put_over (written_frames part base run) under) → HaveSameFrames new (put_over (written_frames part base longer) under)
 lands_over part base run longer under old new l m = rw l.grows (put_twice (written_frames part base run) l.added under old new m l.memory)
 
 -- ---- FAR as read
@@ -200,13 +200,13 @@ far_begun part base given run r g =
 commute : (a b n : ℕ) → a * b ≤ n → b * a ≤ n
 commute a b n h = grind (arith, h)
 
-many_frames : (part : PartData) (base given : ℕ) → 0 < frame_words part → read_limit part base ≤ given → 1 + length (slots_from part base) ≤ given / frame_words part
-unfolding read_limit
+many_frames : (part : PartData) (base given : ℕ) → 0 < frame_words part → readback_end part base ≤ given → 1 + length (slots_from part base) ≤ given / frame_words part
+unfolding readback_end
 many_frames part base given some h =
     (le-div_iff_mul-le {k = frame_words part} {x = 1 + length (slots_from part base)} {y = given} some).1
     (commute (frame_words part) (1 + length (slots_from part base)) given h)
 
-pub far_last : (part : PartData) (base : ℕ) (run : List ℕ) (given : ℕ) → 0 < frame_words part → has_frame_at part base ≡ true → read_limit part base ≤ given → far_of part base run given ≡ last_address part
+pub far_last : (part : PartData) (base : ℕ) (run : List ℕ) (given : ℕ) → 0 < frame_words part → has_frame_at part base ≡ true → readback_end part base ≤ given → far_of part base run given ≡ last_address part
 unfolding far_of
 far_last part base run given some t h =
     let many = many_frames part base given some h in
@@ -235,8 +235,8 @@ read_frames part base memory n i h =
     ∙ ap (λ k. word_at (get_or (slots_from part base) k End) memory ((frame_words part * (1 + n) + i) % frame_words part)) place
     ∙ ap (word_at (get_or (slots_from part base) n End) memory) d.1
 
-pub stored_more : (part : PartData) (base given n : ℕ) → given_stored part base (given + n) ≡ min (given_stored part base given + n) (read_limit part base)
-stored_more part base given n = lesser given n (read_limit part base)
+pub stored_more : (part : PartData) (base given n : ℕ) → given_stored part base (given + n) ≡ min (given_stored part base given + n) (readback_end part base)
+stored_more part base given n = lesser given n (readback_end part base)
   where
     lesser : (g n limit : ℕ) → min (g + n) limit ≡ min (min g limit + n) limit
     lesser g n limit = omega arith
@@ -308,7 +308,7 @@ past_slots part base v run fault e = by (length (rest_of (frame_words part) (v �
     by : (a b m n : ℕ) → (if (a == b) && nat_le m n then Some Overrun else None) ≡ Some fault → (a ≡ b) × (m ≤ n) × (fault ≡ Overrun)
     by a b m n e = let t = test ((a == b) && nat_le m n) e in let parts = and_parts (a == b) (nat_le m n) t.0 in (eqb-true a b parts.0, leb-true m n parts.1, t.1)
 
-at_newest : (places : List Slot) (frames : List (List ℕ)) → length places ≤ length frames → ((i far : ℕ) → length places ≤ i + 1 → get_or places i End ≡ Frame far → ⊥) → in_slots places frames ≡ in_slots places (but_newest frames)
+at_newest : (places : List Slot) (frames : List (List ℕ)) → length places ≤ length frames → ((i far : ℕ) → length places ≤ i + 1 → get_or places i End ≡ Frame far → ⊥) → in_slots places frames ≡ in_slots places (without_newest frames)
 unfolding in_slots
 at_newest places [] h ends = refl
 at_newest places (frame ∷ older) h ends = at_no_frame (get_or places (length older) End) frame (in_slots places older) (λ far. ends (length older) far (omega arith))
@@ -320,7 +320,7 @@ refused_landed part base [] word fault e =
     let f = (no_address part base fault e).0 in landed_nowhere part base (word ∷ []) f ∙ sym (landed_nowhere part base [] f)
 refused_landed part base (v ∷ run) word fault e =
     let p = past_slots part base v run fault e in
-    ap (λ frames. in_slots (slots_from part base) (but_newest frames)) (frames_completes (frame_words part) word (v ∷ run) p.0)
+    ap (λ frames. in_slots (slots_from part base) (without_newest frames)) (frames_completes (frame_words part) word (v ∷ run) p.0)
     ∙ at_newest (slots_from part base) (frames_of (frame_words part) (v ∷ run)) p.1 (last_slot part base)
 
 none_after : (places : List Slot) (i : ℕ) → length places ≤ i + 1 → ((i far : ℕ) → length places ≤ i + 1 → get_or places i End ≡ Frame far → ⊥) → first_address (drop i places) ≡ None

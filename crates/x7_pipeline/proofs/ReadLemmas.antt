@@ -10,7 +10,7 @@ use Rattle.x7_part.specs.Slot.{slots, slots_in, from_address, slots_from}
 use Rattle.x7_part.specs.declared.slot.Slot.{Slot}
 use Rattle.x7_part.specs.declared.slot.Slot.TheVariants.{Frame, Pad, End}
 use Rattle.x7_memory.specs.FrameMap.{FrameMap}
-use Rattle.x7_pipeline.specs.Readback.{word_at, read_slot, readback_at, read_limit, given_stored}
+use Rattle.x7_pipeline.specs.Readback.{word_at, read_slot, readback_at, readback_end, given_stored}
 
 -- ---- a slot among those of a readback
 
@@ -79,15 +79,15 @@ commute : (a b n : ℕ) → a * b ≤ n → b * a ≤ n
 commute a b n h = grind (arith, h)
 
 -- the slots end where the limit is
-pub past_limit : (part : PartData) (base place : ℕ) → 0 < frame_words part → read_limit part base ≤ place → read_slot part base place ≡ End
-unfolding read_slot read_limit
+pub past_limit : (part : PartData) (base place : ℕ) → 0 < frame_words part → readback_end part base ≤ place → read_slot part base place ≡ End
+unfolding read_slot readback_end
 past_limit part base place some h =
     let many : 1 + length (slots_from part base) ≤ place / frame_words part =
     (le-div_iff_mul-le {k = frame_words part} {x = 1 + length (slots_from part base)} {y = place} some).1 (commute (frame_words part) (1 + length (slots_from part base)) place h) in
     get_or_past (Pad ∷ slots_from part base) (place / frame_words part) End (omega arith)
 
-pub at_end : (part : PartData) (base place : ℕ) → 0 < frame_words part → read_slot part base place ≡ End → read_limit part base ≤ place
-unfolding read_slot read_limit NoEnds
+pub at_end : (part : PartData) (base place : ℕ) → 0 < frame_words part → read_slot part base place ≡ End → readback_end part base ≤ place
+unfolding read_slot readback_end NoEnds
 at_end part base place some e =
     elim (cases_lt (place / frame_words part) (1 + length (slots_from part base))) [
       | inl low ↦ absurd (no_end (Pad ∷ slots_from part base) (place / frame_words part) (ends_from base (slots_in part) (ends_slots part.field_widths part.rows)) (omega arith) e)
@@ -96,24 +96,24 @@ at_end part base place some e =
     ]
 
 -- zeros from the limit on
-pub zeros_from : (part : PartData) (base : ℕ) (memory : FrameMap) (place : ℕ) → 0 < frame_words part → read_limit part base ≤ place → readback_at part base memory place ≡ 0
+pub zeros_from : (part : PartData) (base : ℕ) (memory : FrameMap) (place : ℕ) → 0 < frame_words part → readback_end part base ≤ place → readback_at part base memory place ≡ 0
 unfolding readback_at
 zeros_from part base memory place some high = ap (λ slot. word_at slot memory (place % frame_words part)) (past_limit part base place some high)
 
 -- the stored count gives the word of the count
 pub read_stored : (part : PartData) (base : ℕ) (memory : FrameMap) (given : ℕ) → 0 < frame_words part → readback_at part base memory (given_stored part base given) ≡ readback_at part base memory given
 read_stored part base memory given some =
-    elim (cases_lt given (read_limit part base)) [
+    elim (cases_lt given (readback_end part base)) [
       | inl low ↦ let e : given_stored part base given ≡ given = omega arith in rw e refl
-      | inr high ↦ let e : given_stored part base given ≡ read_limit part base = omega arith in
-          ap (readback_at part base memory) e ∙ zeros_from part base memory (read_limit part base) some (omega arith) ∙ sym (zeros_from part base memory given some high)
+      | inr high ↦ let e : given_stored part base given ≡ readback_end part base = omega arith in
+          ap (readback_at part base memory) e ∙ zeros_from part base memory (readback_end part base) some (omega arith) ∙ sym (zeros_from part base memory given some high)
     ]
 
 -- ---- words that are passed over
 
 pub passed : (part : PartData) (base given n width : ℕ) → width ≡ frame_words part →
     min (given_stored part base given + n) (width * (1 + length (slots_from part base))) ≡ given_stored part base (given + n)
-unfolding read_limit
+unfolding readback_end
 passed part base given n width w = rw w (lesser given n (frame_words part * (1 + length (slots_from part base))))
   where
     lesser : (g n limit : ℕ) → min (min g limit + n) limit ≡ min (g + n) limit
@@ -126,7 +126,7 @@ stands_still part base given some e = let high = at_end part base (given_stored 
 -- and before the end it is the count
 pub goes_up : (part : PartData) (base given : ℕ) → 0 < frame_words part → (read_slot part base (given_stored part base given) ≡ End → ⊥) → given_stored part base given + 1 ≡ given_stored part base (given + 1)
 goes_up part base given some n =
-    elim (cases_lt given (read_limit part base)) [
+    elim (cases_lt given (readback_end part base)) [
       | inl low ↦ omega arith
       | inr high ↦ absurd (n (past_limit part base (given_stored part base given) some (omega arith)))
     ]
@@ -148,7 +148,7 @@ same_slot part base place some n =
 
 -- some words were given exactly where the stored count isn't 0
 pub none_given : (part : PartData) (base given : ℕ) → 0 < frame_words part → given_stored part base given ≡ 0 → given ≡ 0
-unfolding read_limit
+unfolding readback_end
 none_given part base given some e = none given (frame_words part * (1 + length (slots_from part base))) (mul-pos some (omega arith)) e
   where
     none : (g limit : ℕ) → 0 < limit → min g limit ≡ 0 → g ≡ 0

@@ -9,11 +9,11 @@ use Rattle.x7_part.specs.AddressOrder.{addresses_in}
 use Rattle.x7_part.specs.Slot.{slots_from}
 use Rattle.x7_part.specs.declared.slot.Slot.{Slot}
 use Rattle.x7_part.specs.declared.slot.Slot.TheVariants.{Frame, Pad, End}
-use Rattle.x7_memory.specs.FrameMap.{FrameMap, AreSame}
+use Rattle.x7_memory.specs.FrameMap.{FrameMap, HaveSameFrames}
 use Rattle.x7_memory.specs.PartFrames.{AreFramesOf, frame_among, frame_at}
 use Rattle.x7_memory.specs.Plan.{PlanRow, planned}
 use Rattle.x7_memory.proofs.MapLemmas.{override_one}
-use Rattle.x7_pipeline.specs.Runs.{at_slot, but_newest, frames_of, in_slots, written_frames, put_over, rest_of, Lands}
+use Rattle.x7_pipeline.specs.Runs.{at_slot, without_newest, frames_of, in_slots, written_frames, put_over, rest_of, Lands}
 use Rattle.x7_regs.specs.declared.command.Command.{Command}
 use Rattle.x7_pipeline.specs.declared.fault.RunFault.TheVariants.{Address, Multi}
 use Rattle.x7_pipeline.specs.FarAsRead.{has_frame_at}
@@ -35,26 +35,26 @@ slot_named part base n Pad at s e = rw e tt
 slot_named part base n End at s e = rw e tt
 
 -- the pair is put, where there is one
-pub pair_put : (has : Bool) (far : ℕ) (words frame : List ℕ) (pair : List PlanRow) (old new : FrameMap) → pair_seen has far words ≡ pair → has ≡ true → frame ≡ words → ((a : ℕ) → new a ≡ (if a == far then Some frame else old a)) → AreSame new (put_over pair old)
+pub pair_put : (has : Bool) (far : ℕ) (words frame : List ℕ) (pair : List PlanRow) (old new : FrameMap) → pair_seen has far words ≡ pair → has ≡ true → frame ≡ words → ((a : ℕ) → new a ≡ (if a == far then Some frame else old a)) → HaveSameFrames new (put_over pair old)
 unfolding planned
 pair_put has far words frame pair old new e h f n = rw (← e, h, ← f) (override_one old new far frame n)
 
-pub pair_none : (has : Bool) (far : ℕ) (words : List ℕ) (pair : List PlanRow) (m : FrameMap) → pair_seen has far words ≡ pair → has ≡ false → AreSame m (put_over pair m)
+pub pair_none : (has : Bool) (far : ℕ) (words : List ℕ) (pair : List PlanRow) (m : FrameMap) → pair_seen has far words ≡ pair → has ≡ false → HaveSameFrames m (put_over pair m)
 unfolding planned
 pair_none has far words pair m e h = rw (← e, h) (λ a. refl)
 
 -- ---- changes at one address
 
-pub changes_none : (at : Option ℕ) (old new : FrameMap) → AreSame new old → ChangesAt at old new
+pub changes_none : (at : Option ℕ) (old new : FrameMap) → HaveSameFrames new old → ChangesAt at old new
 changes_none at old new s = λ far apart. s far
 
-pub changes_slot : (slot : Slot) (frame : List ℕ) (old new : FrameMap) → AreSame new (put_over (at_slot slot frame []) old) → ChangesAt (address_at_slot slot) old new
+pub changes_slot : (slot : Slot) (frame : List ℕ) (old new : FrameMap) → HaveSameFrames new (put_over (at_slot slot frame []) old) → ChangesAt (address_at_slot slot) old new
 unfolding planned
 changes_slot (Frame at) frame old new s = λ far apart. s far ∙ ap (λ (b : Bool). option_or (if b then Some frame else None) (old far)) (ne_eqb far at (λ e. apart (ap Some (sym e))))
 changes_slot Pad frame old new s = λ far apart. s far
 changes_slot End frame old new s = λ far apart. s far
 
-pub changes_copy : (base : ℕ) (source : Option (List ℕ)) (old new : FrameMap) → AreSame new (put_over (copied_pairs base source) old) → ChangesAt (Some base) old new
+pub changes_copy : (base : ℕ) (source : Option (List ℕ)) (old new : FrameMap) → HaveSameFrames new (put_over (copied_pairs base source) old) → ChangesAt (Some base) old new
 unfolding planned
 changes_copy base None old new s = λ far apart. s far
 changes_copy base (Some frame) old new s = λ far apart. s far ∙ ap (λ (b : Bool). option_or (if b then Some frame else None) (old far)) (ne_eqb far base (λ e. apart (ap Some (sym e))))
@@ -74,7 +74,7 @@ none_both a (x ∷ fars) (w ∷ old) (v ∷ new) e f n = by (a == x) n (none_bot
     by false q later = later q
 
 pub taken_back : (part : PartData) (at : Option ℕ) (old new : List (List ℕ)) → AreFramesOf part old → AreFramesOf part new → ChangesAt at (frame_at part old) (frame_at part new)
-    → AreSame (put_over (pair_at (frame_at part old) at) (frame_at part new)) (frame_at part old)
+    → HaveSameFrames (put_over (pair_at (frame_at part old) at) (frame_at part new)) (frame_at part old)
 unfolding planned
 taken_back part None old new o n c = λ far. c far (λ e. none-some far e)
 taken_back part (Some a) old new o n c = λ far. by far (frame_at part old a) refl
@@ -103,7 +103,7 @@ copy_at part p true false b e f g q = absurd (none-some _ (sym q))
 copy_at part p false s b e f g q = absurd (none-some _ (sym q))
 
 pub copy_changes : (part : PartData) (p : PipelineData) (command : Command) (base : ℕ) (run : List ℕ) (source : Option (List ℕ)) (given : ℕ) (old new : FrameMap) → StandsFor part p command base run source given
-    → copy_fault part command base source ≡ None → AreSame new (put_over (copied_pairs base source) old) → ChangesAt (next_put part p) old new
+    → copy_fault part command base source ≡ None → HaveSameFrames new (put_over (copied_pairs base source) old) → ChangesAt (next_put part p) old new
 unfolding copy_fault address_fault
 copy_changes part p command base run source given old new s f same =
     let at : next_put part p ≡ Some base = copy_at part p (is_mfw command) (is_some source) (has_frame_at part base) (ap is_mfw s.command_is) (ap is_some s.source_is) (ap (has_frame_at part) s.base_is) (rw s.base_is f) ∙ ap Some s.base_is in
@@ -112,7 +112,7 @@ copy_changes part p command base run source given old new s f same =
 -- ---- a word
 
 -- a word that lands nothing more changes nothing
-lands_none : (part : PartData) (base : ℕ) (run longer : List ℕ) (old new : FrameMap) → written_frames part base longer ≡ written_frames part base run → Lands part base run longer old new → AreSame new old
+lands_none : (part : PartData) (base : ℕ) (run longer : List ℕ) (old new : FrameMap) → written_frames part base longer ≡ written_frames part base run → Lands part base run longer old new → HaveSameFrames new old
 unfolding planned
 lands_none part base run longer old new same l = λ far.
     let none : l.added ≡ [] = append_cancel_right l.added [] (written_frames part base run) (sym l.grows ∙ same) in
@@ -123,11 +123,11 @@ lands_newest : (part : PartData) (base : ℕ) (run longer : List ℕ) (frames : 
     → written_frames part base longer ≡ in_slots (slots_from part base) frames → Lands part base run longer old new → ChangesAt (address_at_slot (if n == 0 then Pad else get_or (slots_from part base) (n - 1) End)) old new
 unfolding written_frames in_slots
 lands_newest part base run longer [] n old new e count now l =
-    let same : written_frames part base longer ≡ written_frames part base run = now ∙ ap (λ (fs : List (List ℕ)). in_slots (slots_from part base) (but_newest fs)) (sym e) in
+    let same : written_frames part base longer ≡ written_frames part base run = now ∙ ap (λ (fs : List (List ℕ)). in_slots (slots_from part base) (without_newest fs)) (sym e) in
     rw count (changes_none None old new (lands_none part base run longer old new same l))
 lands_newest part base run longer (frame ∷ older) n old new e count now l =
     let slot : Slot = get_or (slots_from part base) (length older) End in
-    let before : written_frames part base run ≡ in_slots (slots_from part base) older = ap (λ (fs : List (List ℕ)). in_slots (slots_from part base) (but_newest fs)) e in
+    let before : written_frames part base run ≡ in_slots (slots_from part base) older = ap (λ (fs : List (List ℕ)). in_slots (slots_from part base) (without_newest fs)) e in
     let added : l.added ≡ at_slot slot frame [] =
     append_cancel_right l.added (at_slot slot frame []) (written_frames part base run)
     (sym l.grows ∙ now ∙ at_slot_more slot frame (in_slots (slots_from part base) older) ∙ ap (λ (ps : List PlanRow). at_slot slot frame [] ++ ps) (sym before)) in
@@ -148,10 +148,10 @@ word_changes part p command base run source given word old new s words l =
           let full : length (rest_of (frame_words part) run) + 1 ≡ frame_words part = sym rest ∙ e ∙ s.width_is in
           rw (copies, eq-eqb (length p.rest + 1) p.width e, s.base_is)
           (lands_newest part base run (word ∷ run) (frames_of (frame_words part) run) p.frame_count old new refl s.count_is
-          (ap (λ (fs : List (List ℕ)). in_slots (slots_from part base) (but_newest fs)) (frames_completes (frame_words part) word run full)) l)
+          (ap (λ (fs : List (List ℕ)). in_slots (slots_from part base) (without_newest fs)) (frames_completes (frame_words part) word run full)) l)
       | inr n ↦
           let inside : length (rest_of (frame_words part) run) + 1 ≡ frame_words part → ⊥ = λ e. n (rest ∙ e ∙ sym s.width_is) in
           rw (copies, ne_eqb (length p.rest + 1) p.width n)
           (changes_none None old new
-          (lands_none part base run (word ∷ run) old new (ap (λ (fs : List (List ℕ)). in_slots (slots_from part base) (but_newest fs)) (frames_goes_on (frame_words part) word run inside)) l))
+          (lands_none part base run (word ∷ run) old new (ap (λ (fs : List (List ℕ)). in_slots (slots_from part base) (without_newest fs)) (frames_goes_on (frame_words part) word run inside)) l))
     ]

@@ -10,15 +10,15 @@ use Rattle.x7_part.specs.Ranges.{IsPart}
 use Rattle.x7_part.specs.Slot.{slots_from}
 use Rattle.x7_part.specs.declared.slot.Slot.{Slot}
 use Rattle.x7_part.specs.declared.slot.Slot.TheVariants.{Frame, Pad, End}
-use Rattle.x7_memory.specs.FrameMap.{FrameMap, AreSame}
+use Rattle.x7_memory.specs.FrameMap.{FrameMap, HaveSameFrames}
 use Rattle.x7_memory.specs.Plan.{PlanRow, planned}
 use Rattle.x7_memory.proofs.MapLemmas.{override_one}
 use Rattle.x7_regs.specs.declared.command.Command.{Command}
 use Rattle.x7_pipeline.specs.declared.fault.RunFault.TheVariants.{Address, Overrun, Multi}
-use Rattle.x7_pipeline.specs.Runs.{rest_of, frames_of, at_slot, in_slots, but_newest, written_frames, put_over, Lands}
+use Rattle.x7_pipeline.specs.Runs.{rest_of, frames_of, at_slot, in_slots, without_newest, written_frames, put_over, Lands}
 use Rattle.x7_pipeline.specs.FarAsRead.{has_frame_at, far_at, far_of}
 use Rattle.x7_pipeline.specs.Copies.{is_mfw, newest_of, source_with, source_after, copied_pairs}
-use Rattle.x7_pipeline.specs.Readback.{word_at, read_slot, readback_at, read_limit, given_stored}
+use Rattle.x7_pipeline.specs.Readback.{word_at, read_slot, readback_at, readback_end, given_stored}
 use Rattle.x7_pipeline.specs.Fault.{address_fault, completes, has_filled, write_fault, copy_fault, readback_fault, drop_fault}
 use Rattle.x7_pipeline.specs.Pipeline.{PipelineData}
 use Rattle.x7_pipeline.proofs.FlowLemmas.{StandsFor}
@@ -59,7 +59,7 @@ begins_under part p q old new base run source given at s e f =
 -- FAR as read of what it stands for
 pub far_so : (part : PartData) (p : PipelineData) (command : Command) (base : ℕ) (run : List ℕ) (source : Option (List ℕ)) (given : ℕ) → StandsFor part p command base run source given → 0 < p.width →
     far_at part p.base (max p.frame_count (p.given / p.width) - 1) ≡ far_of part base run given
-unfolding far_of read_limit
+unfolding far_of readback_end
 far_so part p command base run source given s some =
     rw (s.base_is, s.count_is, s.given_is, s.width_is) (far_stored part base (length (frames_of (frame_words part) run)) given (frame_words part) (omega arith))
 
@@ -113,18 +113,18 @@ completes_frame part p q w command base run source given s whole low e =
 
 -- ---- what the memory gets
 
-same_lands : (part : PartData) (base : ℕ) (run longer : List ℕ) (old new : FrameMap) → written_frames part base longer ≡ written_frames part base run → AreSame new old → Lands part base run longer old new
+same_lands : (part : PartData) (base : ℕ) (run longer : List ℕ) (old new : FrameMap) → written_frames part base longer ≡ written_frames part base run → HaveSameFrames new old → Lands part base run longer old new
 unfolding planned
 same_lands part base run longer old new e same = record { added = []; grows = e; memory = same }
 
 -- a word within a frame puts nothing
 pub lands_nothing : (part : PartData) (p : PipelineData) (w : ℕ) (command : Command) (base : ℕ) (run : List ℕ) (source : Option (List ℕ)) (given : ℕ) (old new : FrameMap) → StandsFor part p command base run source given →
-    length p.rest + 1 < p.width → AreSame new old → Lands part base run (w ∷ run) old new
+    length p.rest + 1 < p.width → HaveSameFrames new old → Lands part base run (w ∷ run) old new
 unfolding written_frames
 lands_nothing part p w command base run source given old new s short same =
     let rest = s.rest_is in let width = s.width_is in
     let inside : length (rest_of (frame_words part) run) + 1 ≡ frame_words part → ⊥ = λ same. (let long = ap length rest in absurd (omega arith)) in
-    same_lands part base run (w ∷ run) old new (ap (λ frames. in_slots (slots_from part base) (but_newest frames)) (frames_goes_on (frame_words part) w run inside)) same
+    same_lands part base run (w ∷ run) old new (ap (λ frames. in_slots (slots_from part base) (without_newest frames)) (frames_goes_on (frame_words part) w run inside)) same
 
 pub at_slot_more : (slot : Slot) (words : List ℕ) (pairs : List PlanRow) → at_slot slot words pairs ≡ at_slot slot words [] ++ pairs
 at_slot_more (Frame far) words pairs = refl
@@ -133,13 +133,13 @@ at_slot_more End words pairs = refl
 
 -- the frames now land but the newest, whatever their number
 lands_by : (part : PartData) (base : ℕ) (run longer : List ℕ) (frames : List (List ℕ)) (old new : FrameMap) → frames_of (frame_words part) run ≡ frames →
-    written_frames part base longer ≡ in_slots (slots_from part base) frames → (newest_of frames ≡ None → AreSame new old) →
-    ((frame : List ℕ) → newest_of frames ≡ Some frame → AreSame new (put_over (at_slot (get_or (slots_from part base) (length frames - 1) End) frame []) old)) → Lands part base run longer old new
+    written_frames part base longer ≡ in_slots (slots_from part base) frames → (newest_of frames ≡ None → HaveSameFrames new old) →
+    ((frame : List ℕ) → newest_of frames ≡ Some frame → HaveSameFrames new (put_over (at_slot (get_or (slots_from part base) (length frames - 1) End) frame []) old)) → Lands part base run longer old new
 unfolding written_frames in_slots
 lands_by part base run longer [] old new e now none some =
-    same_lands part base run longer old new (now ∙ ap (λ frames. in_slots (slots_from part base) (but_newest frames)) (sym e)) (none refl)
+    same_lands part base run longer old new (now ∙ ap (λ frames. in_slots (slots_from part base) (without_newest frames)) (sym e)) (none refl)
 lands_by part base run longer (frame ∷ older) old new e now none some =
-    let before : written_frames part base run ≡ in_slots (slots_from part base) older = ap (λ frames. in_slots (slots_from part base) (but_newest frames)) e in
+    let before : written_frames part base run ≡ in_slots (slots_from part base) older = ap (λ frames. in_slots (slots_from part base) (without_newest frames)) e in
     let place : length (frame ∷ older) - 1 ≡ length older = omega arith in
     record {
       added = at_slot (get_or (slots_from part base) (length (frame ∷ older) - 1) End) frame [];
@@ -151,37 +151,37 @@ lands_by part base run longer (frame ∷ older) old new e now none some =
 
 -- a word that completes a frame puts the one before it
 pub lands_frame : (part : PartData) (p : PipelineData) (w : ℕ) (command : Command) (base : ℕ) (run : List ℕ) (source : Option (List ℕ)) (given : ℕ) (old new : FrameMap) → StandsFor part p command base run source given →
-    length p.rest + 1 ≡ p.width → (p.newest ≡ None → AreSame new old) →
-    ((frame : List ℕ) → p.newest ≡ Some frame → AreSame new (put_over (at_slot (get_or (slots_from part p.base) (p.frame_count - 1) End) frame []) old)) → Lands part base run (w ∷ run) old new
+    length p.rest + 1 ≡ p.width → (p.newest ≡ None → HaveSameFrames new old) →
+    ((frame : List ℕ) → p.newest ≡ Some frame → HaveSameFrames new (put_over (at_slot (get_or (slots_from part p.base) (p.frame_count - 1) End) frame []) old)) → Lands part base run (w ∷ run) old new
 unfolding written_frames
 lands_frame part p w command base run source given old new s whole none some =
     let rest = s.rest_is in let width = s.width_is in
     let full : length (rest_of (frame_words part) run) + 1 ≡ frame_words part = (let long = ap length rest in omega arith) in
     lands_by part base run (w ∷ run) (frames_of (frame_words part) run) old new refl
-    (ap (λ frames. in_slots (slots_from part base) (but_newest frames)) (frames_completes (frame_words part) w run full))
+    (ap (λ frames. in_slots (slots_from part base) (without_newest frames)) (frames_completes (frame_words part) w run full))
     (λ e. none (s.newest_is ∙ e))
     (λ frame e. rw (← s.base_is, ← s.count_is) (some frame (s.newest_is ∙ e)))
 
 -- ---- one frame put
 
 -- nothing put leaves the memory
-pub put_nothing : (old new : FrameMap) → AreSame new old → AreSame new (put_over [] old)
+pub put_nothing : (old new : FrameMap) → HaveSameFrames new old → HaveSameFrames new (put_over [] old)
 unfolding planned
 put_nothing old new same = same
 
 -- a frame at an address
-pub put_frame : (slot : Slot) (far : ℕ) (frame : List ℕ) (old new : FrameMap) → Frame far ≡ slot → ((a : ℕ) → new a ≡ (if a == far then Some frame else old a)) → AreSame new (put_over (at_slot slot frame []) old)
+pub put_frame : (slot : Slot) (far : ℕ) (frame : List ℕ) (old new : FrameMap) → Frame far ≡ slot → ((a : ℕ) → new a ≡ (if a == far then Some frame else old a)) → HaveSameFrames new (put_over (at_slot slot frame []) old)
 unfolding planned
 put_frame slot far frame old new e put = rw (← e) (override_one old new far frame put)
 
 -- a slot of no frame
-pub put_no_frame : (slot : Slot) (frame : List ℕ) (old new : FrameMap) → ((far : ℕ) → slot ≡ Frame far → ⊥) → AreSame new old → AreSame new (put_over (at_slot slot frame []) old)
+pub put_no_frame : (slot : Slot) (frame : List ℕ) (old new : FrameMap) → ((far : ℕ) → slot ≡ Frame far → ⊥) → HaveSameFrames new old → HaveSameFrames new (put_over (at_slot slot frame []) old)
 put_no_frame (Frame far) frame old new none same = absurd (none far refl)
 put_no_frame Pad frame old new none same = put_nothing old new same
 put_no_frame End frame old new none same = put_nothing old new same
 
 -- a copy
-pub put_copy : (base at : ℕ) (source : Option (List ℕ)) (frame : List ℕ) (old new : FrameMap) → at ≡ base → source ≡ Some frame → ((a : ℕ) → new a ≡ (if a == at then Some frame else old a)) → AreSame new (put_over (copied_pairs base source) old)
+pub put_copy : (base at : ℕ) (source : Option (List ℕ)) (frame : List ℕ) (old new : FrameMap) → at ≡ base → source ≡ Some frame → ((a : ℕ) → new a ≡ (if a == at then Some frame else old a)) → HaveSameFrames new (put_over (copied_pairs base source) old)
 unfolding planned
 put_copy base at source frame old new b e put = rw (e, ← b) (override_one old new at frame put)
 
@@ -292,7 +292,7 @@ pub read_allowed : (part : PartData) (p : PipelineData) (command : Command) (bas
 unfolding readback_fault
 read_allowed part p command base run source given s first =
     elim (cases_eq given 0) [
-      | inl z ↦ rw (eq-eqb given 0 z) (address_allowed part base (rw (← s.base_is) (first (s.given_is ∙ ap (λ n. min n (read_limit part base)) z ∙ omega arith))))
+      | inl z ↦ rw (eq-eqb given 0 z) (address_allowed part base (rw (← s.base_is) (first (s.given_is ∙ ap (λ n. min n (readback_end part base)) z ∙ omega arith))))
       | inr n ↦ rw (ne_eqb given 0 n) refl
     ]
 
@@ -354,7 +354,7 @@ steps_over part p q command base run source given s n e =
 
 -- the count of a part stays small
 pub few_given : (part : PartData) (p : PipelineData) (command : Command) (base : ℕ) (run : List ℕ) (source : Option (List ℕ)) (given : ℕ) → StandsFor part p command base run source given → IsPart part → p.given + 1 < 2 ^ 64
-unfolding read_limit
+unfolding readback_end
 few_given part p command base run source given s is =
     let few = few_slots part base is in let g = s.given_is in
     let most : frame_words part * (1 + length (slots_from part base)) ≤ most_frame_words * (1 + length (slots_from part base)) = mul-le-mul_right (1 + length (slots_from part base)) is.words.1 in

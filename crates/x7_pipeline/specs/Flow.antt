@@ -4,7 +4,7 @@ use Rattle.x7_part.specs.Part.{PartData, frame_words}
 use Rattle.x7_part.specs.Address.{far_width}
 use Rattle.x7_part.specs.Slot.{slots_from}
 use Rattle.x7_part.specs.declared.slot.Slot.TheVariants.{End}
-use Rattle.x7_memory.specs.FrameMap.{FrameMap, AreSame}
+use Rattle.x7_memory.specs.FrameMap.{FrameMap, HaveSameFrames}
 use Rattle.x7_regs.specs.declared.command.Command.{Command}
 use Rattle.x7_regs.specs.declared.command.Command.TheVariants.{Null}
 use Rattle.x7_pipeline.specs.FarAsRead.{far_of}
@@ -47,12 +47,12 @@ pub record HoldsFlow (part : PartData) (pipeline : PipelineData) (f : Flow) : Ty
   pub slot_is : pipeline.slot ≡ read_slot part f.base (given_stored part f.base f.given)
 
 -- a fact holds of each flow that the pipeline stands for
-abbrev pub OfFlow : PartData → PipelineData → (Flow → Type 0) → Type 0
-OfFlow part p Fact = (f : Flow) → HoldsFlow part p f → Fact f
+abbrev pub ForEachFlow : PartData → PipelineData → (Flow → Type 0) → Type 0
+ForEachFlow part p Fact = (f : Flow) → HoldsFlow part p f → Fact f
 
 -- of each flow that the old pipeline stands for, the new one stands for the next
 abbrev pub FlowGoesOn : PartData → PipelineData → PipelineData → (Flow → Flow) → Type 0
-FlowGoesOn part old new next = OfFlow part old (λ f. HoldsFlow part new (next f))
+FlowGoesOn part old new next = ForEachFlow part old (λ f. HoldsFlow part new (next f))
 
 -- ---- flows that come next
 
@@ -105,17 +105,17 @@ LandsAt part f words old new = Lands part f.base f.run (onto words f.run) old ne
 -- whatever flow the pipeline stands for: the memory, old before and new after, got the frames that land as these words
 -- are written, the oldest first
 abbrev pub FramesLand : PartData → PipelineData → List ℕ → List (List ℕ) → List (List ℕ) → Type 0
-FramesLand part p words old new = OfFlow part p (λ f. LandsAt part f words (frame_at part old) (frame_at part new))
+FramesLand part p words old new = ForEachFlow part p (λ f. LandsAt part f words (frame_at part old) (frame_at part new))
 
 -- whatever flow the pipeline stands for: the memory, old before and new after, got the frames that land as these words
 -- are written up to the first that is refused
 abbrev pub FramesLandUpToFault : PartData → PipelineData → List ℕ → List (List ℕ) → List (List ℕ) → Type 0
 FramesLandUpToFault part p words old new =
-    OfFlow part p (λ f. Lands part f.base f.run (flow_written part f words).run (frame_at part old) (frame_at part new))
+    ForEachFlow part p (λ f. Lands part f.base f.run (flow_written part f words).run (frame_at part old) (frame_at part new))
 
 -- ---- the newest whole frame
 
 -- the newest whole frame, where there is one, was put at its slot
 abbrev pub PutsNewest : PartData → PipelineData → FrameMap → FrameMap → Type 0
 PutsNewest part p old new = (frame : List ℕ) → p.newest ≡ Some frame →
-    AreSame new (put_over (at_slot (slice_index_or (slots_from part p.base) (p.frame_count - 1) End) frame []) old)
+    HaveSameFrames new (put_over (at_slot (slice_index_or (slots_from part p.base) (p.frame_count - 1) End) frame []) old)

@@ -27,9 +27,9 @@ unfoldable pub readback_at : PartData → ℕ → FrameMap → ℕ → ℕ
 readback_at part base memory place = word_at (read_slot part base place) memory (place % frame_words part)
 
 -- the place from which on the endless list has zeros alone
-unfoldable pub read_limit : PartData → ℕ → ℕ
-read_limit part base = frame_words part * (1 + length (slots_from part base))
+unfoldable pub readback_end : PartData → ℕ → ℕ
+readback_end part base = frame_words part * (1 + length (slots_from part base))
 
 -- the count of words that a readback gave, as it is stored: a count above the limit is stored as the limit
 abbrev pub given_stored : PartData → ℕ → ℕ → ℕ
-given_stored part base given = min given (read_limit part base)
+given_stored part base given = min given (readback_end part base)

@@ -5,7 +5,7 @@ use Rattle.x7_part.specs.Part.{PartData, frame_words}
 use Rattle.x7_part.specs.Slot.{slots_from}
 use Rattle.x7_part.specs.declared.slot.Slot.{Slot}
 use Rattle.x7_part.specs.declared.slot.Slot.TheVariants.{Frame, Pad, End}
-use Rattle.x7_memory.specs.FrameMap.{FrameMap, override, AreSame}
+use Rattle.x7_memory.specs.FrameMap.{FrameMap, override, HaveSameFrames}
 use Rattle.x7_memory.specs.Plan.{PlanRow, planned}
 
 -- ---- frames of a run; `width` is how many words a frame has
@@ -41,14 +41,14 @@ in_slots slots [] = []
 in_slots slots (frame ∷ older) = at_slot (slice_index_or slots (length older) End) frame (in_slots slots older)
 
 -- frames without the newest one, which stands first
-abbrev pub but_newest : List (List ℕ) → List (List ℕ)
-but_newest [] = []
-but_newest (frame ∷ older) = older
+abbrev pub without_newest : List (List ℕ) → List (List ℕ)
+without_newest [] = []
+without_newest (frame ∷ older) = older
 
 -- what a run has put from its base, the address at which it begins, the newest pair of address and frame first: each
 -- whole frame but the newest, at its slot
 unfoldable pub written_frames : PartData → ℕ → List ℕ → List PlanRow
-written_frames part base run = in_slots (slots_from part base) (but_newest (frames_of (frame_words part) run))
+written_frames part base run = in_slots (slots_from part base) (without_newest (frames_of (frame_words part) run))
 
 -- ---- what a memory gets
 
@@ -60,4 +60,4 @@ put_over pairs memory = override memory (planned pairs)
 pub record Lands (part : PartData) (base : ℕ) (run longer : List ℕ) (old new : FrameMap) : Type 0 where
   pub added : List PlanRow
   pub grows : written_frames part base longer ≡ added ++ written_frames part base run
-  pub memory : AreSame new (put_over added old)
+  pub memory : HaveSameFrames new (put_over added old)

@@ -5,7 +5,7 @@ use Rattle.x7_part.specs.Part.{PartData, frame_words}
 use Rattle.x7_part.specs.Slot.{slots_from}
 use Rattle.x7_part.specs.declared.slot.Slot.{Slot}
 use Rattle.x7_part.specs.declared.slot.Slot.TheVariants.{Frame, Pad, End}
-use Rattle.x7_memory.specs.FrameMap.{FrameMap, AreSame}
+use Rattle.x7_memory.specs.FrameMap.{FrameMap, HaveSameFrames}
 use Rattle.x7_memory.specs.Plan.{PlanRow}
 use Rattle.x7_pipeline.specs.FarAsRead.{last_address}
 use Rattle.x7_pipeline.specs.Runs.{frames_of, written_frames, onto, put_over, rest_of}
@@ -29,7 +29,7 @@ placed_from part base frames = filter_map pair_of (zip (slots_from part base) fr
 
 -- the memory is another one with what a run has written
 abbrev pub HasRun : PartData → ℕ → List ℕ → FrameMap → FrameMap → Type 0
-HasRun part base run under memory = AreSame memory (put_over (written_frames part base run) under)
+HasRun part base run under memory = HaveSameFrames memory (put_over (written_frames part base run) under)
 
 -- words that were all written
 abbrev pub all_written : List ℕ → List ℕ → RunWritten

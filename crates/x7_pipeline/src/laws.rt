@@ -3,21 +3,21 @@ ghost use Rattle.std.specs.Prelude.{◌≡◌, ◌≢◌, ◌+◌, ◌<◌, ◌�
 ghost use Rattle.x7_part.specs.Part.{PartData, frame_words};
 ghost use Rattle.x7_part.specs.AddressOrder.{addresses_in};
 ghost use Rattle.x7_part.specs.Slot.{slot_after};
-ghost use Rattle.x7_memory.specs.FrameMap.{FrameMap, AreSame};
+ghost use Rattle.x7_memory.specs.FrameMap.{FrameMap, HaveSameFrames};
 ghost use Rattle.x7_memory.specs.PartFrames.{frame_at};
 ghost use Rattle.x7_memory.specs.Plan.{PlanRow};
 ghost use Rattle.x7_regs.specs.declared.command.Command.{Command};
 ghost use Rattle.x7_pipeline.specs.declared.fault.RunFault.{RunFault};
-ghost use Rattle.x7_pipeline.specs.Runs.{rest_of, frames_of, but_newest, written_frames, put_over, Lands};
+ghost use Rattle.x7_pipeline.specs.Runs.{rest_of, frames_of, without_newest, written_frames, put_over, Lands};
 ghost use Rattle.x7_pipeline.specs.RunsInWords.{AreCutFrom, FarStandsAt, HasRun, Overruns, all_written, place_in, placed_from};
 ghost use Rattle.x7_pipeline.specs.FarAsRead.{IsBase, has_frame_at, far_of, last_address};
 ghost use Rattle.x7_pipeline.specs.Copies.{is_wcfg, is_mfw, newest_of, source_after};
-ghost use Rattle.x7_pipeline.specs.Readback.{word_at, readback_at, read_limit, given_stored};
+ghost use Rattle.x7_pipeline.specs.Readback.{word_at, readback_at, readback_end, given_stored};
 ghost use Rattle.x7_pipeline.specs.Fault.{write_fault, copy_fault, readback_fault};
 ghost use Rattle.x7_pipeline.specs.RunWritten.{run_written, HasFirstRefused};
 ghost use Rattle.x7_pipeline.specs.Pipeline.{PipelineData};
 ghost use Rattle.x7_pipeline.specs.Saved.{ChangesNext, HaveChangedAt, pair_at};
-ghost use Rattle.x7_pipeline.specs.Flow.{HoldsFlow, LandsAt, OfFlow, pairs_copied_by, fault_of_copy};
+ghost use Rattle.x7_pipeline.specs.Flow.{HoldsFlow, LandsAt, ForEachFlow, pairs_copied_by, fault_of_copy};
 
 /// A run is its whole frames and a rest. Its frames but the newest land at the slots in order, those at pads nowhere; a
 /// run without words, and one whose base is no address, writes no frame. A memory that stays the same got what no word
@@ -27,12 +27,12 @@ ghost use Rattle.x7_pipeline.specs.Flow.{HoldsFlow, LandsAt, OfFlow, pairs_copie
 pub fn runs_land_in_slot_order()
     ensures frames { (width : ℕ) (run : List ℕ) → 0 < width → AreCutFrom width run (frames_of width run) (rest_of width run) }
     ensures order { (part : PartData) (base : ℕ) (run : List ℕ) →
-        reverse (written_frames part base run) ≡ placed_from part base (reverse (but_newest (frames_of (frame_words part) run))) }
+        reverse (written_frames part base run) ≡ placed_from part base (reverse (without_newest (frames_of (frame_words part) run))) }
     ensures no_run_writes_nothing { (part : PartData) (base : ℕ) → written_frames part base [] ≡ [] }
     ensures no_base_writes_nothing { (part : PartData) (base : ℕ) (run : List ℕ) → has_frame_at part base ≡ false → written_frames part base run ≡ [] }
-    ensures no_word_lands_nothing { (part : PartData) (base : ℕ) (run : List ℕ) (old new : FrameMap) → AreSame new old → Lands part base run run old new }
-    ensures puts_join { (first second : List PlanRow) (old middle new : FrameMap) → AreSame middle (put_over first old) → AreSame new (put_over second middle) →
-        AreSame new (put_over (second ++ first) old) }
+    ensures no_word_lands_nothing { (part : PartData) (base : ℕ) (run : List ℕ) (old new : FrameMap) → HaveSameFrames new old → Lands part base run run old new }
+    ensures puts_join { (first second : List PlanRow) (old middle new : FrameMap) → HaveSameFrames middle (put_over first old) → HaveSameFrames new (put_over second middle) →
+        HaveSameFrames new (put_over (second ++ first) old) }
     ensures words_join { (part : PartData) (base : ℕ) (run longer longest : List ℕ) (m n o : FrameMap) →
         Lands part base run longer m n → Lands part base longer longest n o → Lands part base run longest m o }
     ensures longer_run_over { (part : PartData) (base : ℕ) (run longer : List ℕ) (under m n : FrameMap) →
@@ -65,7 +65,7 @@ pub fn far_is_read_by_slots()
         FarStandsAt part base count (far_of part base run 0) }
     ensures read { (part : PartData) (base count more : ℕ) → IsBase part base → more < frame_words part →
         FarStandsAt part base count (far_of part base [] (place_in part count more)) }
-    ensures last { (part : PartData) (base : ℕ) (run : List ℕ) (given : ℕ) → 0 < frame_words part → IsBase part base → read_limit part base ≤ given →
+    ensures last { (part : PartData) (base : ℕ) (run : List ℕ) (given : ℕ) → 0 < frame_words part → IsBase part base → readback_end part base ≤ given →
         far_of part base run given ≡ last_address part }
 {}
 
@@ -75,8 +75,8 @@ pub fn readbacks_give_frames_along_slots()
     ensures pad { (part : PartData) (base : ℕ) (memory : FrameMap) (i : ℕ) → i < frame_words part → readback_at part base memory i ≡ 0 }
     ensures frames { (part : PartData) (base : ℕ) (memory : FrameMap) (n i : ℕ) → i < frame_words part →
         readback_at part base memory (place_in part n i) ≡ word_at (slot_after part base n) memory i }
-    ensures zeros { (part : PartData) (base : ℕ) (memory : FrameMap) (place : ℕ) → 0 < frame_words part → read_limit part base ≤ place → readback_at part base memory place ≡ 0 }
-    ensures stored { (part : PartData) (base given n : ℕ) → given_stored part base (given + n) ≡ min (given_stored part base given + n) (read_limit part base) }
+    ensures zeros { (part : PartData) (base : ℕ) (memory : FrameMap) (place : ℕ) → 0 < frame_words part → readback_end part base ≤ place → readback_at part base memory place ≡ 0 }
+    ensures stored { (part : PartData) (base given n : ℕ) → given_stored part base (given + n) ≡ min (given_stored part base given + n) (readback_end part base) }
 {}
 
 /// A frame is at an address of the part alone. A word after the first of its run is refused by Overrun exactly where it
@@ -101,16 +101,16 @@ pub fn refused_words_change_nothing()
 
 /// Two pipelines that stand for the same are equal.
 pub fn pipelines_of_the_same_are_equal()
-    ensures equal { (part : PartData) (p q : PipelineData) → OfFlow part p (λ f. HoldsFlow part q f → p ≡ q) }
+    ensures equal { (part : PartData) (p q : PipelineData) → ForEachFlow part p (λ f. HoldsFlow part q f → p ≡ q) }
 {}
 
 /// A saved frame leads back where the memory changed at its address alone. A copy without a fault changes the memory at
 /// most where the next word or copy would put a frame, and so does a word under another command than MFW.
 pub fn a_saved_frame_leads_back()
     ensures back { (part : PartData) (at : Option ℕ) (old new : List (List ℕ)) → HaveChangedAt part at old new →
-        AreSame (put_over (pair_at (frame_at part old) at) (frame_at part new)) (frame_at part old) }
-    ensures copy { (part : PartData) (p : PipelineData) → OfFlow part p (λ f. (old new : FrameMap) → fault_of_copy part f ≡ None
-        → AreSame new (put_over (pairs_copied_by f) old) → ChangesNext part p old new) }
-    ensures word { (part : PartData) (p : PipelineData) → OfFlow part p (λ f. (w : ℕ) (old new : FrameMap) → is_mfw f.command ≡ false
+        HaveSameFrames (put_over (pair_at (frame_at part old) at) (frame_at part new)) (frame_at part old) }
+    ensures copy { (part : PartData) (p : PipelineData) → ForEachFlow part p (λ f. (old new : FrameMap) → fault_of_copy part f ≡ None
+        → HaveSameFrames new (put_over (pairs_copied_by f) old) → ChangesNext part p old new) }
+    ensures word { (part : PartData) (p : PipelineData) → ForEachFlow part p (λ f. (w : ℕ) (old new : FrameMap) → is_mfw f.command ≡ false
         → LandsAt part f (w ∷ []) old new → ChangesNext part p old new) }
 {}

@@ -4,7 +4,7 @@ ghost use Rattle.std.specs.Result.{result_err};
 ghost use Rattle.x7_words.specs.Word.{AreWholeWords, words_of_bytes};
 ghost use Rattle.x7_part.specs.Part.{PartData};
 ghost use Rattle.x7_part.specs.Slot.{slots_from};
-ghost use Rattle.x7_memory.specs.FrameMap.{AreSame};
+ghost use Rattle.x7_memory.specs.FrameMap.{HaveSameFrames};
 ghost use Rattle.x7_memory.specs.PartFrames.{frame_at, AreFramesOf};
 ghost use Rattle.x7_part.specs.declared.slot.Slot.{Slot};
 ghost use Rattle.x7_regs.specs.declared.command.Command.{Command};
@@ -15,7 +15,7 @@ ghost use Rattle.x7_pipeline.specs.Readback.{readback_at, word_at};
 ghost use Rattle.x7_pipeline.specs.Fault.{write_fault, readback_fault, drop_fault};
 ghost use Rattle.x7_pipeline.specs.Place.{StartsAt};
 ghost use Rattle.x7_pipeline.specs.Pipeline.{AreOfPart, PipelineData, IsPipelineOf, with_words_passed};
-ghost use Rattle.x7_pipeline.specs.Flow.{pairs_copied_by, fault_of_copy, FlowGoesOn, FramesLand, FramesLandUpToFault, HoldsFlow, OfFlow, PutsNewest, after_reads, after_words, begun_at, begun_by, first_flow, with_run, flow_written};
+ghost use Rattle.x7_pipeline.specs.Flow.{pairs_copied_by, fault_of_copy, FlowGoesOn, FramesLand, FramesLandUpToFault, HoldsFlow, ForEachFlow, PutsNewest, after_reads, after_words, begun_at, begun_by, first_flow, with_run, flow_written};
 
 mod saved;
 
@@ -151,7 +151,7 @@ impl Pipeline {
         requires part { AreOfPart part.now self.old memory.old }
         ensures stands { OnOk result (FlowGoesOn part.now self.old self.new (after_words (word ∷ []))) }
         ensures lands { OnOk result (FramesLand part.now self.old (word ∷ []) memory.old memory.new) }
-        ensures fault { OfFlow part.now self.old (λ f. result_err result ≡ write_fault part.now f.base f.run) }
+        ensures fault { ForEachFlow part.now self.old (λ f. result_err result ≡ write_fault part.now f.base f.run) }
 
         // Whatever the answer.
         ensures part { AreOfPart part.now self.new memory.new }
@@ -190,10 +190,10 @@ impl Pipeline {
     ) -> (usize, Option<RunFault>)
         requires whole { AreWholeWords bytes.now }
         requires part { AreOfPart part.now self.old memory.old }
-        ensures stands { OfFlow part.now self.old (λ f. HoldsFlow part.now self.new (with_run (flow_written part.now f (words_of_bytes bytes.now)).run f)) }
+        ensures stands { ForEachFlow part.now self.old (λ f. HoldsFlow part.now self.new (with_run (flow_written part.now f (words_of_bytes bytes.now)).run f)) }
         ensures lands { FramesLandUpToFault part.now self.old (words_of_bytes bytes.now) memory.old memory.new }
-        ensures count { OfFlow part.now self.old (λ f. result.0 ≡ (flow_written part.now f (words_of_bytes bytes.now)).count) }
-        ensures fault { OfFlow part.now self.old (λ f. result.1 ≡ (flow_written part.now f (words_of_bytes bytes.now)).fault) }
+        ensures count { ForEachFlow part.now self.old (λ f. result.0 ≡ (flow_written part.now f (words_of_bytes bytes.now)).count) }
+        ensures fault { ForEachFlow part.now self.old (λ f. result.1 ≡ (flow_written part.now f (words_of_bytes bytes.now)).fault) }
         ensures within { result.0 ≤ length bytes.now / 4 }
         ensures part { AreOfPart part.now self.new memory.new }
     {
@@ -221,8 +221,8 @@ impl Pipeline {
         ensures words { IfOk result (λ taken. (1 ≤ taken / 4) × (taken % 4 ≡ 0) × (taken ≤ length bytes.now)) }
         ensures stands { IfOk result (λ taken. FlowGoesOn part.now self.old self.new (after_words (words_of_bytes (take taken bytes.now)))) }
         ensures lands { IfOk result (λ taken. FramesLand part.now self.old (words_of_bytes (take taken bytes.now)) memory.old memory.new) }
-        ensures passes { IfOk result (λ taken. OfFlow part.now self.old (λ f. (flow_written part.now f (words_of_bytes (take taken bytes.now))).fault ≡ None)) }
-        ensures fault { IfErr result (λ fault. OfFlow part.now self.old (λ f. Some fault ≡ write_fault part.now f.base f.run)) }
+        ensures passes { IfOk result (λ taken. ForEachFlow part.now self.old (λ f. (flow_written part.now f (words_of_bytes (take taken bytes.now))).fault ≡ None)) }
+        ensures fault { IfErr result (λ fault. ForEachFlow part.now self.old (λ f. Some fault ≡ write_fault part.now f.base f.run)) }
         ensures part { AreOfPart part.now self.new memory.new }
         ensures unchanged { OnErr result (self.new ≡ self.old) }
         ensures same_memory { OnErr result (memory.new ≡ memory.old) }
@@ -256,7 +256,7 @@ impl Pipeline {
         ensures words { (1 ≤ result / 4) × (result % 4 ≡ 0) × (result ≤ length bytes.now) }
         ensures stands { FlowGoesOn part.now self.old self.new (after_words (words_of_bytes (take result bytes.now))) }
         ensures lands { FramesLand part.now self.old (words_of_bytes (take result bytes.now)) memory.old memory.new }
-        ensures passes { OfFlow part.now self.old (λ f. (flow_written part.now f (words_of_bytes (take result bytes.now))).fault ≡ None) }
+        ensures passes { ForEachFlow part.now self.old (λ f. (flow_written part.now f (words_of_bytes (take result bytes.now))).fault ≡ None) }
         ensures part { AreOfPart part.now self.new memory.new }
     {
         let frame_size = 4 * self.width as usize;
@@ -333,8 +333,8 @@ impl Pipeline {
     /// A word written to MFWR, which is a copy: the source is put at the base.
     pub fn copy(&mut self, part: &Part, memory: &mut Memory) -> Result<(), RunFault>
         requires part { AreOfPart part.now self.old memory.old }
-        ensures put { OnOk result (OfFlow part.now self.old (λ f. AreSame (frame_at part.now memory.new) (put_over (pairs_copied_by f) (frame_at part.now memory.old)))) }
-        ensures fault { OfFlow part.now self.old (λ f. result_err result ≡ fault_of_copy part.now f) }
+        ensures put { OnOk result (ForEachFlow part.now self.old (λ f. HaveSameFrames (frame_at part.now memory.new) (put_over (pairs_copied_by f) (frame_at part.now memory.old)))) }
+        ensures fault { ForEachFlow part.now self.old (λ f. result_err result ≡ fault_of_copy part.now f) }
 
         // Whatever the answer.
         ensures same_pipeline { self.new ≡ self.old }
@@ -366,9 +366,9 @@ impl Pipeline {
     /// The next word of a readback under RCFG.
     pub fn read_word(&mut self, part: &Part, memory: &Memory) -> Result<u32, RunFault>
         requires part { AreOfPart part.now self.old memory.now }
-        ensures word { IfOk result (λ word. OfFlow part.now self.old (λ f. word ≡ readback_at part.now f.base (frame_at part.now memory.now) f.given)) }
+        ensures word { IfOk result (λ word. ForEachFlow part.now self.old (λ f. word ≡ readback_at part.now f.base (frame_at part.now memory.now) f.given)) }
         ensures stands { OnOk result (FlowGoesOn part.now self.old self.new (after_reads 1)) }
-        ensures fault { OfFlow part.now self.old (λ f. result_err result ≡ readback_fault part.now f.base f.given) }
+        ensures fault { ForEachFlow part.now self.old (λ f. result_err result ≡ readback_fault part.now f.base f.given) }
 
         // Whatever the answer.
         ensures part { IsPipelineOf part.now self.new }
@@ -386,7 +386,7 @@ impl Pipeline {
 
     /// The fault that the next word of a readback would have.
     pub fn fault_of_read(&self, part: &Part) -> Option<RunFault>
-        ensures { OfFlow part.now self.now (λ f. result ≡ readback_fault part.now f.base f.given) }
+        ensures { ForEachFlow part.now self.now (λ f. result ≡ readback_fault part.now f.base f.given) }
     {
         if self.reads_nowhere(part) {
             return Some(RunFault::Address(self.base));
@@ -435,7 +435,7 @@ impl Pipeline {
     /// Passes over `count` words of a readback, as `count` calls of `read_word` would.
     pub fn drop_words(&mut self, count: u32, part: &Part) -> Result<(), RunFault>
         ensures stands { OnOk result (FlowGoesOn part.now self.old self.new (after_reads count)) }
-        ensures fault { OfFlow part.now self.old (λ f. result_err result ≡ drop_fault part.now f.base f.given count) }
+        ensures fault { ForEachFlow part.now self.old (λ f. result_err result ≡ drop_fault part.now f.base f.given count) }
 
         // Whatever the answer.
         ensures part { IsPipelineOf part.now self.old → IsPipelineOf part.now self.new }
@@ -464,7 +464,7 @@ impl Pipeline {
 
     /// The frame address register as it is read.
     pub fn far(&self, part: &Part) -> u32
-        ensures { OfFlow part.now self.now (λ f. result ≡ far_of part.now f.base f.run f.given) }
+        ensures { ForEachFlow part.now self.now (λ f. result ≡ far_of part.now f.base f.run f.given) }
     {
         let frames = self.frame_count.max(self.given / u64::from(self.width));
         far_at(part, self.base, frames.saturating_sub(1))

@@ -12,7 +12,7 @@ use Rattle.x7_regs.specs.declared.command.Command.TheVariants.{Mfw, Wcfg}
 use Rattle.x7_regs.specs.declared.register.Reg.TheVariants.{Far}
 use Rattle.x7_packets.specs.PacketWords.{command, frame_data_headers, write_one}
 use Rattle.x7_planner.specs.Content.{AreFirsts, AreFramesByContent, AreStarts, AreTogether, IsFirst, planned_row, planned_rows}
-use Rattle.x7_planner.specs.PartialStream.{Copies, copy_words, groups_led, is_shared, leads_group, rows_not_shared, section_words, with_content}
+use Rattle.x7_planner.specs.PartialStream.{Copies, copy_words, groups_led, is_shared, is_first_of_group, rows_not_shared, section_words, with_content}
 use Rattle.x7_planner.specs.Writer.{bytes_of_words}
 use Rattle.x7_planner.specs.declared.content.PlannedFrame.{PlannedFrame}
 use Rattle.x7_planner.proofs.ContentLemmas.{content_append, content_same, first_of, is_group, no_group, no_group_short, none_before, place_other, place_same, row_at, up_to}
@@ -110,7 +110,7 @@ not_shared_more rows frames old new a n c d b g f l at e h m =
 
 pub groups_append : (all xs ys : List PlanRow) → groups_led all (xs ++ ys) ≡ groups_led all xs ++ groups_led all ys
 groups_append all [] ys = refl
-groups_append all (x ∷ xs) ys = by (leads_group all x) (groups_append all xs ys)
+groups_append all (x ∷ xs) ys = by (is_first_of_group all x) (groups_append all xs ys)
   where
     by : (b : Bool) → groups_led all (xs ++ ys) ≡ groups_led all xs ++ groups_led all ys
         → (if b then Copies x.words (planned_addresses (with_content x.words all)) ∷ groups_led all (xs ++ ys) else groups_led all (xs ++ ys))
@@ -177,9 +177,9 @@ group_written part old one two three new words fars first width w f a b c d =
     ∙ ap (λ (x : ℕ). command Wcfg ++ (write_one Far x ++ (frame_data_headers width ++ (words ++ (command Mfw ++ copies))))) (sym f)
     ∙ ap (λ (x : ℕ). command Wcfg ++ (write_one Far (get_or fars 0 0) ++ (frame_data_headers x ++ (words ++ (command Mfw ++ copies))))) w)
 
-pub led_none : (part : PartData) (old : List ℕ) (all : List PlanRow) (r : PlanRow) (b : Bool) → b ≡ leads_group all r → b ≡ false → old ≡ old ++ bytes_of_words (flat_map (section_words part) (groups_led all (r ∷ [])))
+pub led_none : (part : PartData) (old : List ℕ) (all : List PlanRow) (r : PlanRow) (b : Bool) → b ≡ is_first_of_group all r → b ≡ false → old ≡ old ++ bytes_of_words (flat_map (section_words part) (groups_led all (r ∷ [])))
 led_none part old all r b e y = rw (sym e ∙ y) (sym (append-nil old))
 
-pub led_some : (part : PartData) (old new : List ℕ) (all : List PlanRow) (r : PlanRow) (b : Bool) → b ≡ leads_group all r → b ≡ true
+pub led_some : (part : PartData) (old new : List ℕ) (all : List PlanRow) (r : PlanRow) (b : Bool) → b ≡ is_first_of_group all r → b ≡ true
     → new ≡ old ++ bytes_of_words (section_words part (Copies r.words (planned_addresses (with_content r.words all)))) → new ≡ old ++ bytes_of_words (flat_map (section_words part) (groups_led all (r ∷ [])))
 led_some part old new all r b e y h = rw (sym e ∙ y) (h ∙ ap (λ t. old ++ bytes_of_words t) (sym (append-nil (section_words part (Copies r.words (planned_addresses (with_content r.words all)))))))

@@ -40,14 +40,14 @@ abbrev pub is_shared : List PlanRow → PlanRow → Bool
 is_shared all r = are_shared all r.words
 
 -- a row's content stands at `least_group_size` addresses or more, and the row is the first of them
-abbrev pub leads_group : List PlanRow → PlanRow → Bool
-leads_group all r = is_shared all r && (slice_index (addresses_with r.words all) 0 == r.far)
+abbrev pub is_first_of_group : List PlanRow → PlanRow → Bool
+is_first_of_group all r = is_shared all r && (slice_index (addresses_with r.words all) 0 == r.far)
 
 -- the groups that these rows lead, in order
 abbrev pub groups_led : List PlanRow → List PlanRow → List Section
 groups_led all [] = []
 groups_led all (r ∷ rows) =
-    if leads_group all r then Copies r.words (addresses_with r.words all) ∷ groups_led all rows else groups_led all rows
+    if is_first_of_group all r then Copies r.words (addresses_with r.words all) ∷ groups_led all rows else groups_led all rows
 
 -- the rows whose content stands at fewer than `least_group_size` addresses
 abbrev pub rows_not_shared : List PlanRow → List PlanRow → List PlanRow

@@ -6,13 +6,13 @@ use Rattle.x7_regs.specs.StartupOptions.{done_cycle, done_pipe, gts_cycle, gwe_c
 
 -- COR0 02003FE5: DONE_PIPE; DONE_CYCLE has DONE rise in phase 4, GTS_CYCLE GTS_CFG_B in phase 5, GWE_CYCLE GWE in phase
 -- 6; MATCH_CYCLE and LOCK_CYCLE wait for nothing
-abbrev pub startup_options : ℕ
-startup_options =
+abbrev pub cor0_word : ℕ
+cor0_word =
     2 ^ done_pipe + 3 * 2 ^ done_cycle + 7 * 2 ^ match_cycle + 7 * 2 ^ lock_cycle + 4 * 2 ^ gts_cycle + 5 * 2 ^ gwe_cycle
 
 -- MASK 00000501: the bits of CTL0 that are written
-abbrev pub control_mask : ℕ
-control_mask = 2 ^ config_fallback + 2 ^ glutmask_b + 2 ^ gts_user_b
+abbrev pub ctl0_mask_word : ℕ
+ctl0_mask_word = 2 ^ config_fallback + 2 ^ glutmask_b + 2 ^ gts_user_b
 
 -- CTL0 00000101: GLUTMASK_B, so that readback shows memories in logic, and GTS_USER_B, so that outputs are as startup
 -- says; a failed attempt falls back

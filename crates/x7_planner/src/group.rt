@@ -2,7 +2,7 @@
 ghost use Rattle.std.specs.Prelude.{◌≡◌, ◌++◌, if◌then◌else◌, [], ◌∷◌, IfOk, OnOk};
 ghost use Rattle.std.specs.List.{flat_map};
 ghost use Rattle.x7_planner.specs.Content.{AreByContent, BeginsAt, planned_rows, rows_by_content};
-ghost use Rattle.x7_planner.specs.PartialStream.{addresses_with, are_shared, copy_words, groups_words, leads_group, rows_not_shared, section_words, Copies};
+ghost use Rattle.x7_planner.specs.PartialStream.{addresses_with, are_shared, copy_words, groups_words, is_first_of_group, rows_not_shared, section_words, Copies};
 ghost use Rattle.x7_planner.specs.Writer.{with_piece, Words};
 
 use crate::content::{ByContent, PlannedFrame};
@@ -31,9 +31,9 @@ fn are_shared(by_content: &ByContent<'_>, start: usize, _words: &[u32]) -> bool
 
 /// Whether the row at an address is the first of three or more with its content, which begins at `start`. `_words` is
 /// for the contract alone.
-fn leads_group(by_content: &ByContent<'_>, start: usize, far: u32, _words: &[u32]) -> bool
+fn is_first_of_group(by_content: &ByContent<'_>, start: usize, far: u32, _words: &[u32]) -> bool
     requires { BeginsAt by_content.now _words.now start }
-    ensures { result ≡ leads_group (rows_by_content by_content.now) record { far = far; words = _words.now } }
+    ensures { result ≡ is_first_of_group (rows_by_content by_content.now) record { far = far; words = _words.now } }
 {
     if !are_shared(by_content, start, _words) {
         return false;
@@ -104,7 +104,7 @@ fn put_led_group(
     requires { BeginsAt by_content.now words.now start }
     ensures { OnOk result (out.new.items ≡ with_piece out.old.items (Words (groups_words part.now (rows_by_content by_content.now) (record { far = far; words = words.now } ∷ [])))) }
 {
-    if !leads_group(by_content, start, far, words) {
+    if !is_first_of_group(by_content, start, far, words) {
         return Ok(());
     }
     put_group(out, part, by_content, start, words)

@@ -1,6 +1,6 @@
 //! The stream of a readback.
 ghost use Rattle.std.specs.Prelude.{◌≡◌, ◌⊎◌, ◌<◌, ◌++◌, IfOk, IfErr, OnOk};
-ghost use Rattle.x7_packets.specs.PacketWords.{type2_counts};
+ghost use Rattle.x7_packets.specs.PacketWords.{type2_count_bound};
 ghost use Rattle.x7_planner.specs.ReadStream.{read_stream, read_of_words};
 ghost use Rattle.x7_planner.specs.Fault.{CanRead, IsReadFault};
 ghost use Rattle.x7_planner.specs.declared.fault.PlanFault.{PlanFault};
@@ -18,7 +18,7 @@ const READ_STREAM_WORDS: usize = 25;
 
 /// Appends the stream that reads `word_count` words from an address on.
 fn put_read(out: &mut Vec<u8>, far: u32, word_count: u32) -> Result<(), NoMemory>
-    requires { word_count < type2_counts }
+    requires { word_count < type2_count_bound }
     ensures { OnOk result (out.new.items ≡ out.old.items ++ read_of_words far word_count) }
 {
     put_words(out, &OPENING_WORDS)?;
@@ -38,7 +38,7 @@ fn put_read(out: &mut Vec<u8>, far: u32, word_count: u32) -> Result<(), NoMemory
 
 /// The stream that reads `word_count` words from an address on.
 fn read_of(alloc: Global, far: u32, word_count: u32) -> Result<Vec<u8>, NoMemory>
-    requires { word_count < type2_counts }
+    requires { word_count < type2_count_bound }
     ensures { IfOk result (λ bytes. bytes.items ≡ read_of_words far word_count) }
 {
     let mut out = Vec::with_capacity(alloc, 4 * READ_STREAM_WORDS)?;

@@ -66,7 +66,7 @@ abbrev pub FeedsOn : Bool → PlayState → PlayState → List ℕ → Type 0
 FeedsOn over old new more = (part : PartData) (bytes : List ℕ) → HasPlayedBy false part bytes old → HasPlayedBy over part (bytes ++ more) new
 
 -- there is a prefix of the piece of which `Holds` is true
-pub record OfPrefix (piece : List ℕ) (Holds : List ℕ → Type 0) : Type 0 where
+pub record ForSomePrefix (piece : List ℕ) (Holds : List ℕ → Type 0) : Type 0 where
   pub prefix : List ℕ
   pub left : List ℕ
   pub split : piece ≡ prefix ++ left

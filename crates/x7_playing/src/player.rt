@@ -1,7 +1,7 @@
 //! A device that plays bytes piece by piece, and the words that it reads out.
 ghost use Rattle.std.specs.Prelude.{◌≡◌, ◌++◌, ◌+◌, ◌<◌, ◌≤◌, [], true, false, Ok, Err, length, vec_capacity, vec_len, IfOk, IsOk, OnErr, OnOk};
 ghost use Rattle.x7_forms.specs.Known.{reads_limit};
-ghost use Rattle.x7_playing.specs.Playing.{HasPlayed, MayPlay, MayPlayBy, PlaysOn, empty_buffer, FeedsOn, FeedsPrefix, OfPrefix, PlaysPrefix, play_state, reads_room};
+ghost use Rattle.x7_playing.specs.Playing.{HasPlayed, MayPlay, MayPlayBy, PlaysOn, empty_buffer, FeedsOn, FeedsPrefix, ForSomePrefix, PlaysPrefix, play_state, reads_room};
 
 use std::alloc::Global;
 use x7_engine::{Device, Fed, ReadBuf};
@@ -45,7 +45,7 @@ fn feed(
 ) -> Result<bool, NoMemory>
     requires { MayPlayBy false (play_state device.old buffer.old reads.old.items) (length piece.now) }
     ensures played { IfOk result (λ over. FeedsOn over (play_state device.old buffer.old reads.old.items) (play_state device.new buffer.new reads.new.items) piece.now) }
-    ensures prefix { OnErr result (OfPrefix piece.now (FeedsPrefix (play_state device.old buffer.old reads.old.items) (play_state device.new buffer.new reads.new.items))) }
+    ensures prefix { OnErr result (ForSomePrefix piece.now (FeedsPrefix (play_state device.old buffer.old reads.old.items) (play_state device.new buffer.new reads.new.items))) }
     ensures empties_buffer { OnErr result (buffer.new ≡ empty_buffer) }
 {
     let mut at = 0;
@@ -97,7 +97,7 @@ impl Player {
         requires { MayPlay self.old (length piece.now) }
         ensures played { OnOk result (PlaysOn self.old self.new piece.now) }
         ensures stays_over { self.old.is_over ≡ true → IsOk result × (self.new ≡ self.old) }
-        ensures prefix { OnErr result (OfPrefix piece.now (PlaysPrefix self.old self.new)) }
+        ensures prefix { OnErr result (ForSomePrefix piece.now (PlaysPrefix self.old self.new)) }
         ensures not_over { OnErr result (self.new.is_over ≡ false) }
         ensures empties_buffer { OnErr result (self.new.buffer ≡ empty_buffer) }
     {

@@ -4,7 +4,7 @@ ghost use Rattle.x7_words.specs.Input.{AsksAtMost, AtEnd, InputsStay};
 ghost use Rattle.x7_forms.specs.Event.{event_of, no_memory};
 ghost use Rattle.x7_forms.specs.Known.{stream_limit};
 ghost use Rattle.x7_playing.specs.Playing.{MayPlay, PlaysOn, PlaysRest, PlaysStream, PlaysStreams};
-ghost use Rattle.x7_forms.specs.Turn.{GivesFew, IsLastAsked, ReadsRest, UnreadRest, play_turn_size};
+ghost use Rattle.x7_forms.specs.Turn.{GivesWithinLimit, IsLastAsked, ReadsRest, UnreadRest, play_turn_size};
 ghost use Rattle.x7_forms.specs.ReadingStops.{StopsAmong, limited_together};
 ghost use Rattle.x7_forms.specs.Step.{IsOneUnplayed, IsUnplayed, ReadsStream, ReadsStreams};
 
@@ -35,7 +35,7 @@ fn play_rest<'w, I: Inputs>(
     ensures played { IfOk result (λ left. PlaysRest limit left (PlaysOn player.old player.new) (ReadsRest (I.state inputs.old) (I.state inputs.new))) }
     ensures refused { IfErr result (λ r. (event_of r ≡ no_memory) ⊎ UnreadRest (I.state inputs.old) name.now (I.state inputs.new) limit (event_of r)) }
     ensures length { length piece.new ≡ length piece.old }
-    ensures gives_few { GivesFew (I.state inputs.old) limit (I.state inputs.new) }
+    ensures gives_few { GivesWithinLimit (I.state inputs.old) limit (I.state inputs.new) }
     ensures no_end_read { last ≡ true → (I.state inputs.new).ends ≤ (I.state inputs.old).ends }
     ensures inputs { InputsStay (I.state inputs.old) (I.state inputs.new) }
 {

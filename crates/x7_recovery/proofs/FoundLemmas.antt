@@ -1,7 +1,7 @@
 -- The boot of a flash that was left in an update, where the golden stream is the full stream of a
 -- plan: that is a golden stream that starts.
 use Rattle.std.proofs.Common.{List, ℕ, ap, sym, subst, ◌∙◌}
-use Rattle.x7_memory.specs.FrameMap.{AreSame, FrameMap}
+use Rattle.x7_memory.specs.FrameMap.{HaveSameFrames, FrameMap}
 use Rattle.x7_memory.specs.Plan.{total}
 use Rattle.x7_engine.specs.declared.regs.Regs.{Regs}
 use Rattle.x7_boot.specs.Attempt.{AttemptCourse}
@@ -17,7 +17,7 @@ planned_starts : (u : Updating) (t : AttemptCourse) (c : BootCourse) → StartsA
 planned_starts u t c p s = record {
   attempts_are = s.attempts_are;
   started = s.started;
-  memory = subst (λ (m : FrameMap). AreSame m (total u.part u.golden)) (sym s.memory) p.memory;
+  memory = subst (λ (m : FrameMap). HaveSameFrames m (total u.part u.golden)) (sym s.memory) p.memory;
   bootsts = ap (λ (r : Regs). r.bootsts) s.registers ∙ p.bootsts;
 }
 

@@ -15,7 +15,7 @@ use Rattle.x7_part.specs.Part.{PartData}
 use Rattle.x7_part.specs.Ranges.{IsPart}
 use Rattle.x7_part.specs.Slot.{slots_in}
 use Rattle.x7_regs.specs.BootStatus.{boot_status_of}
-use Rattle.x7_memory.specs.FrameMap.{AreSame, FrameMap}
+use Rattle.x7_memory.specs.FrameMap.{HaveSameFrames, FrameMap}
 use Rattle.x7_memory.specs.Plan.{IsPlanFor, PlanData, total}
 use Rattle.x7_planner.specs.FullStream.{full_stream}
 use Rattle.x7_flow.specs.FrameMemory.{memory_of}
@@ -108,7 +108,7 @@ pub record StartsWith (part : PartData) (kept : Kept) (address : ℕ) (flash : L
   pub kept_is : course.kept ≡ kept
   pub address_is : course.address ≡ address
   pub ending_is : course.ending ≡ Started
-  pub memory : AreSame (memory_in part course.kept course.bytes) (total part plan)
+  pub memory : HaveSameFrames (memory_in part course.kept course.bytes) (total part plan)
   pub bootsts : (end_state part course).bootsts ≡ boot_status_of (record { kind = kept.kind; cause = None; ignored = ignored }) kept.before
 
 pub bootsts_is : (part : PartData) (kept : Kept) (bytes : List ℕ) (ignored : Bool) → first_stop_of_bytes part kept bytes ≡ None → (is_fallback kept.kind && wrote_iprog (history_of bytes)) ≡ ignored

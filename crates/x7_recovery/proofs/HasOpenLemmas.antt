@@ -14,7 +14,7 @@ use Rattle.x7_memory.specs.Plan.{PlanData}
 use Rattle.x7_planner.specs.FullStream.{full_stream}
 use Rattle.x7_boot.specs.Image as image
 use Rattle.x7_boot.specs.Image.{free_slot, free_slots, first_sector, flash_limit, image_of, image_size, open_slot, slot}
-use Rattle.x7_update.specs.After.{IsAfterUpdate, IsBetweenSlots, spends, switched, with_stream}
+use Rattle.x7_update.specs.After.{IsAfterUpdate, IsBetweenSlots, spends, with_switch_word, with_stream}
 use Rattle.x7_update.specs.Layout.{IsUpdatable, IsOpen, first_slot, four_at, open_switch, spent_switch, switch_of, update_place, switch_size}
 use Rattle.x7_update.proofs.CaseLemmas.{between_below, between_spent, outside_switch, stream_keeps}
 use Rattle.x7_update.proofs.LawLemmas.{no_sync}
@@ -152,7 +152,7 @@ module _ (flash now found : List ℕ) (number : ℕ) (l : IsUpdatable flash) (b 
 
 module _ (flash : List ℕ) (number : ℕ) (l : IsUpdatable flash) (within : number < flash_slot_count) (is : IsOpen flash number) where
   abbrev spent : List ℕ
-  spent = switched number spent_switch flash
+  spent = with_switch_word number spent_switch flash
 
   room : flash_slot_size * number + switch_size ≤ length flash
   room = omega (arith, within, l.size.least)

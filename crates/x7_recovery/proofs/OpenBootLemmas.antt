@@ -10,7 +10,7 @@ use Rattle.x7_regs.specs.declared.boot_status.Attempt.{Attempt}
 use Rattle.x7_regs.specs.declared.boot_status.Cause.{Cause}
 use Rattle.x7_regs.specs.declared.boot_status.Kind.{Kind}
 use Rattle.x7_regs.specs.declared.boot_status.Kind.TheVariants.{Power, Iprog, Fallback}
-use Rattle.x7_memory.specs.FrameMap.{AreSame}
+use Rattle.x7_memory.specs.FrameMap.{HaveSameFrames}
 use Rattle.x7_memory.specs.Plan.{PlanData, total}
 use Rattle.x7_planner.specs.FullStream.{full_stream}
 use Rattle.x7_engine.specs.Kept.{AreFallbacks, is_fallback, without_kept}
@@ -103,7 +103,7 @@ module _ (o : OpenFlash) (is : IsOpenFlash o) where
       record {
         attempts_are = a.attempts_are ∙ ap (λ (e : Ending). obeyed ∷ record { kind = Iprog; address = o.place; ending = e } ∷ []) s.ending_is;
         started = a.end_is;
-        memory = subst (λ (u : AttemptCourse). AreSame (memory_in o.part u.kept u.bytes) (total o.part update)) (sym a.last_is) s.memory;
+        memory = subst (λ (u : AttemptCourse). HaveSameFrames (memory_in o.part u.kept u.bytes) (total o.part update)) (sym a.last_is) s.memory;
         bootsts = ap (λ (u : AttemptCourse). (end_state o.part u).bootsts) a.last_is ∙ s.bootsts;
       }
 
@@ -161,7 +161,7 @@ module _ (o : OpenFlash) (is : IsOpenFlash o) where
       record {
         attempts_are = a.attempts_are;
         started = a.started;
-        memory = subst (λ (u : AttemptCourse). AreSame (memory_in o.part u.kept u.bytes) (total o.part golden)) (sym a.last_is) f.memory;
+        memory = subst (λ (u : AttemptCourse). HaveSameFrames (memory_in o.part u.kept u.bytes) (total o.part golden)) (sym a.last_is) f.memory;
         bootsts = ap (λ (u : AttemptCourse). (end_state o.part u).bootsts) a.last_is ∙ f.bootsts
             ∙ ap (λ (a : Attempt). boot_status_of (record { kind = Fallback; cause = None; ignored = true }) (Some a)) (failed_attempt t cause fails);
       }

@@ -21,7 +21,7 @@ use Rattle.x7_part.specs.Slot.{slots, slots_in}
 use Rattle.x7_effects.proofs.FormLemmas.{full_length}
 use Rattle.x7_effects.proofs.PlannerLemmas.{full_same}
 use Rattle.x7_boot.specs.Image.{free_slots, filled_to, first_sector, flash_limit, image_of, image_size, open_slot, slot, place_after_golden}
-use Rattle.x7_update.specs.After.{IsBetweenSlots, MayBeLeft, between, spends, switched}
+use Rattle.x7_update.specs.After.{IsBetweenSlots, MayBeLeft, between, spends, with_switch_word}
 use Rattle.x7_update.specs.Layout.{IsUpdatable, IsOpen, four_at, open_switch, spent_switch, switch_of}
 use Rattle.x7_update.proofs.CaseLemmas.{between_spent}
 use Rattle.x7_recovery.specs.Recovery.{IsPrepared, updating_image}
@@ -147,7 +147,7 @@ left_torn part golden update stream image bytes l =
     let stands : take flash_slot_size (drop 0 flash) ≡ open_slot start =
     ap (take flash_slot_size) begins ∙ ap (λ (n : ℕ). take n (open_slot start ++ (free_slots start ++ (full_stream part golden ++ b.0)))) (sym (slot_long 0xAA995566 start)) ∙ take-append_seam (open_slot start) (free_slots start ++ (full_stream part golden ++ b.0)) in
     let is : IsOpen flash 0 = begins_open flash start stands in
-    let found : List ℕ = switched 0 spent_switch flash in
+    let found : List ℕ = with_switch_word 0 spent_switch flash in
     let left : IsBetweenSlots flash found = between_spent flash found l.slots (spends 0 (omega arith) is refl) in
     let fits : AreBytes flash = image_fits part.start_unit (full_stream part golden) update (full_stream_fits part golden image.is_part image.plan) bytes in
     let spent : AreBytes spent_switch = (omega arith, (omega arith, (omega arith, (omega arith, tt)))) in

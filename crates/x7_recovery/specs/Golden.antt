@@ -5,7 +5,7 @@ use Rattle.x7_words.specs.Flash.{erased_sector}
 use Rattle.x7_words.specs.Word.{AreBytes}
 use Rattle.x7_packets.specs.FlashSlot.{sector_size}
 use Rattle.x7_part.specs.Part.{PartData}
-use Rattle.x7_memory.specs.FrameMap.{AreSame}
+use Rattle.x7_memory.specs.FrameMap.{HaveSameFrames}
 use Rattle.x7_memory.specs.Plan.{total}
 use Rattle.x7_planner.specs.FullStream.{full_stream}
 use Rattle.x7_engine.specs.State.{memory_in}
@@ -60,7 +60,7 @@ pub record StartsAlike (part : PartData) (t : AttemptCourse) (c : BootCourse) : 
 pub record StartsAsPlanned (u : Updating) (t : AttemptCourse) : Type 0 where
   pub golden : GoldenStarts u.part u.flash t
   pub within : length t.bytes ≤ sector_size + length (full_stream u.part u.golden)
-  pub memory : AreSame (memory_in u.part t.kept t.bytes) (total u.part u.golden)
+  pub memory : HaveSameFrames (memory_in u.part t.kept t.bytes) (total u.part u.golden)
   pub bootsts : (end_state u.part t).bootsts ≡ power_status
 
 -- a flash that is being updated with a stream, the part that boots from it, and the

@@ -8,7 +8,7 @@ use Rattle.x7_regs.specs.BootStatus.{boot_status_of}
 use Rattle.x7_regs.specs.declared.boot_status.Attempt.{Attempt}
 use Rattle.x7_regs.specs.declared.boot_status.Cause.{Cause}
 use Rattle.x7_regs.specs.declared.boot_status.Kind.TheVariants.{Power, Iprog, Fallback}
-use Rattle.x7_memory.specs.FrameMap.{AreSame}
+use Rattle.x7_memory.specs.FrameMap.{HaveSameFrames}
 use Rattle.x7_memory.specs.Plan.{IsPlanFor, PlanData, total}
 use Rattle.x7_planner.specs.FullStream.{full_stream}
 use Rattle.x7_engine.specs.State.{attempt_in, memory_in}
@@ -93,7 +93,7 @@ update_bootsts = boot_status_of (iprog_attempt None) (Some power_attempt)
 pub record StartsUpdate (o : OpenFlash) (update : PlanData) (c : BootCourse) : Type 0 where
   pub attempts_are : c.attempts ≡ through_update o.place ending.Started []
   pub started : c.end ≡ boot_end.Started
-  pub memory : AreSame (memory_in o.part c.last.kept c.last.bytes) (total o.part update)
+  pub memory : HaveSameFrames (memory_in o.part c.last.kept c.last.bytes) (total o.part update)
   pub bootsts : (end_state o.part c.last).bootsts ≡ update_bootsts
 
 -- ---- the fallback
@@ -118,7 +118,7 @@ pub record HasFullGolden (o : OpenFlash) (golden : PlanData) : Type 0 where
 pub record FallsBack (o : OpenFlash) (cause : Cause) (golden : PlanData) (c : BootCourse) : Type 0 where
   pub attempts_are : c.attempts ≡ fell_back o.place cause
   pub started : c.end ≡ boot_end.Started
-  pub memory : AreSame (memory_in o.part c.last.kept c.last.bytes) (total o.part golden)
+  pub memory : HaveSameFrames (memory_in o.part c.last.kept c.last.bytes) (total o.part golden)
   pub bootsts : (end_state o.part c.last).bootsts ≡ fallback_status cause
 
 -- The boot falls back and starts as another attempt did: at the same byte, with the same memory, and BOOTSTS shows the

@@ -7,7 +7,7 @@ use Rattle.x7_part.specs.Ranges.{IsPart}
 use Rattle.x7_regs.specs.BootStatus.{boot_status_of}
 use Rattle.x7_regs.specs.declared.boot_status.Attempt.{Attempt}
 use Rattle.x7_regs.specs.declared.boot_status.Kind.TheVariants.{Power}
-use Rattle.x7_memory.specs.FrameMap.{AreSame}
+use Rattle.x7_memory.specs.FrameMap.{HaveSameFrames}
 use Rattle.x7_memory.specs.Plan.{IsPlanFor, PlanData, total}
 use Rattle.x7_planner.specs.FullStream.{full_stream}
 use Rattle.x7_engine.specs.State.{memory_in}
@@ -62,7 +62,7 @@ power_status = boot_status_of power_attempt None
 pub record StartsGolden (part : PartData) (golden : PlanData) (c : BootCourse) : Type 0 where
   pub attempts_are : c.attempts ≡ started_at_power
   pub started : c.end ≡ boot_end.Started
-  pub memory : AreSame (memory_in part c.last.kept c.last.bytes) (total part golden)
+  pub memory : HaveSameFrames (memory_in part c.last.kept c.last.bytes) (total part golden)
   pub bootsts : (end_state part c.last).bootsts ≡ power_status
 
 -- a boot of what was left: that of the flash before the update, or one that starts with the

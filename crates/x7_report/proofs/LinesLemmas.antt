@@ -6,7 +6,7 @@ use Rattle.x7_words.specs.Sink.{appended, PutsPrefix}
 use Rattle.x7_words.proofs.SinkLemmas.{appended_nil, appended_appended, prefix_more}
 use Rattle.x7_part.specs.AddressOrder.{addresses_in}
 use Rattle.x7_part.specs.Part.{PartData}
-use Rattle.x7_memory.specs.FrameMap.{AreSame, FrameMap}
+use Rattle.x7_memory.specs.FrameMap.{HaveSameFrames, FrameMap}
 use Rattle.x7_memory.specs.PartFrames.{frame_at}
 use Rattle.x7_engine.specs.declared.regs.Regs.{Regs}
 use Rattle.x7_report.specs.Frames.{frames_text, frame_text_if, frame_lines_text, addresses_shown}
@@ -65,7 +65,7 @@ head_is name part_name regs state reads old first second third count a b e f g =
     g ∙ ap (λ (t : List ℕ). t ++ codes "frames " ++ decimal count ++ codes "\n") (f ∙ ap (λ (t : List ℕ). t ++ reads_text reads) (e ∙ ap (λ (x : List ℕ). old ++ state_text x regs) a ∙ ap (λ (x : Regs). old ++ state_text part_name x) b))
     ∙ ap (λ (t : List ℕ). t ++ codes "\n") (after old shown (reads_text reads) (codes "frames ") (decimal count)) ∙ append_assoc old (shown ++ reads_text reads ++ codes "frames " ++ decimal count) (codes "\n")
 
-pub play_is : (p q : PartData) (state : Regs) (reads : List ℕ) (frames : List (List ℕ)) (n : FrameMap) (head fars : List ℕ) → p ≡ q → AreSame (frame_at q frames) n → fars ≡ addresses_shown (frame_at p frames) (addresses_in p) →
+pub play_is : (p q : PartData) (state : Regs) (reads : List ℕ) (frames : List (List ℕ)) (n : FrameMap) (head fars : List ℕ) → p ≡ q → HaveSameFrames (frame_at q frames) n → fars ≡ addresses_shown (frame_at p frames) (addresses_in p) →
     head ≡ state_text q.name state ++ reads_text reads ++ codes "frames " ++ decimal (length fars) ++ codes "\n" → head ++ frame_lines_text (frame_at p frames) fars ≡ report_text q state reads n
 unfolding report_text frames_text
 play_is p q state reads frames n head fars d same e h =

@@ -5,32 +5,32 @@ use Rattle.std.proofs.lemmas.Grind.{flat_map-append}
 use Rattle.std.proofs.lemmas.List.{take_all, take_more}
 use Rattle.std.specs.declared.alloc.Global.{Global}
 use Rattle.x7_text.specs.Appends.{Appends}
-use Rattle.x7_memory.specs.FrameMap.{AreSame, FrameMap}
-use Rattle.x7_report.specs.Frames.{frames_text, is_shown, frame_text_if, addresses_shown}
+use Rattle.x7_memory.specs.FrameMap.{HaveSameFrames, FrameMap}
+use Rattle.x7_report.specs.Frames.{frames_text, has_nonzero_word, frame_text_if, addresses_shown}
 
 pub shown_append : (memory : FrameMap) (xs ys : List ℕ) → addresses_shown memory (xs ++ ys) ≡ addresses_shown memory xs ++ addresses_shown memory ys
 shown_append memory [] ys = refl
-shown_append memory (x ∷ xs) ys = by (is_shown (memory x)) (addresses_shown memory xs) (addresses_shown memory (xs ++ ys)) (shown_append memory xs ys)
+shown_append memory (x ∷ xs) ys = by (has_nonzero_word (memory x)) (addresses_shown memory xs) (addresses_shown memory (xs ++ ys)) (shown_append memory xs ys)
   where
     by : (b : Bool) (first all : List ℕ) → all ≡ first ++ addresses_shown memory ys → (if b then x ∷ all else all) ≡ (if b then x ∷ first else first) ++ addresses_shown memory ys
     by true first all e = ap (λ t. x ∷ t) e
     by false first all e = e
 
-pub shown_more : (memory : FrameMap) (fars : List ℕ) (i : ℕ) (b : Bool) → i < length fars → is_shown (memory (get_or fars i 0)) ≡ b → addresses_shown memory (take (i + 1) fars) ≡ addresses_shown memory (take i fars) ++ (if b then get_or fars i 0 ∷ [] else [])
+pub shown_more : (memory : FrameMap) (fars : List ℕ) (i : ℕ) (b : Bool) → i < length fars → has_nonzero_word (memory (get_or fars i 0)) ≡ b → addresses_shown memory (take (i + 1) fars) ≡ addresses_shown memory (take i fars) ++ (if b then get_or fars i 0 ∷ [] else [])
 shown_more memory fars i b l e =
     ap (addresses_shown memory) (take_more fars i 0 l) ∙ shown_append memory (take i fars) (get_or fars i 0 ∷ [])
     ∙ ap (λ (x : Bool). addresses_shown memory (take i fars) ++ (if x then get_or fars i 0 ∷ [] else [])) e
 
-shown_same : (m n : FrameMap) (fars : List ℕ) → AreSame m n → addresses_shown m fars ≡ addresses_shown n fars
+shown_same : (m n : FrameMap) (fars : List ℕ) → HaveSameFrames m n → addresses_shown m fars ≡ addresses_shown n fars
 shown_same m n [] same = refl
-shown_same m n (x ∷ fars) same = ap (λ (o : Option (List ℕ)). if is_shown o then x ∷ addresses_shown m fars else addresses_shown m fars) (same x) ∙ ap (λ t. if is_shown (n x) then x ∷ t else t) (shown_same m n fars same)
+shown_same m n (x ∷ fars) same = ap (λ (o : Option (List ℕ)). if has_nonzero_word o then x ∷ addresses_shown m fars else addresses_shown m fars) (same x) ∙ ap (λ t. if has_nonzero_word (n x) then x ∷ t else t) (shown_same m n fars same)
 
-lines_same : (m n : FrameMap) (fars : List ℕ) → AreSame m n → flat_map (λ far. frame_text_if far (m far)) fars ≡ flat_map (λ far. frame_text_if far (n far)) fars
+lines_same : (m n : FrameMap) (fars : List ℕ) → HaveSameFrames m n → flat_map (λ far. frame_text_if far (m far)) fars ≡ flat_map (λ far. frame_text_if far (n far)) fars
 lines_same m n [] same = refl
 lines_same m n (x ∷ fars) same = ap (λ (o : Option (List ℕ)). frame_text_if x o ++ flat_map (λ far. frame_text_if far (m far)) fars) (same x) ∙ ap (λ t. frame_text_if x (n x) ++ t) (lines_same m n fars same)
 
 -- maps that have the same frames are shown alike
-pub frames_same : (m n : FrameMap) (fars : List ℕ) → AreSame m n → frames_text m fars ≡ frames_text n fars
+pub frames_same : (m n : FrameMap) (fars : List ℕ) → HaveSameFrames m n → frames_text m fars ≡ frames_text n fars
 unfolding frames_text
 frames_same m n fars same =
     ap (λ (xs : List ℕ). codes "frames " ++ decimal (length xs) ++ codes "\n" ++ flat_map (λ far. frame_text_if far (m far)) xs) (shown_same m n fars same)

@@ -29,14 +29,14 @@ unfoldable pub frame_text : ℕ → List ℕ → List ℕ
 frame_text far words = codes "frame " ++ hex_word far ++ space_byte ∷ flat_map hex_word words ++ codes "\n"
 
 -- there is a frame, and it has a word other than 0
-abbrev pub is_shown : Option (List ℕ) → Bool
-is_shown None = false
-is_shown (Some words) = not (are_zeros words)
+abbrev pub has_nonzero_word : Option (List ℕ) → Bool
+has_nonzero_word None = false
+has_nonzero_word (Some words) = not (are_zeros words)
 
 -- of these addresses those whose frames are shown
 abbrev pub addresses_shown : FrameMap → List ℕ → List ℕ
 addresses_shown memory [] = []
-addresses_shown memory (far ∷ fars) = if is_shown (memory far) then far ∷ addresses_shown memory fars else addresses_shown memory fars
+addresses_shown memory (far ∷ fars) = if has_nonzero_word (memory far) then far ∷ addresses_shown memory fars else addresses_shown memory fars
 
 -- the line of the frame at an address, and nothing where there is no frame
 abbrev pub frame_text_if : ℕ → Option (List ℕ) → List ℕ

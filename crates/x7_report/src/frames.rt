@@ -6,7 +6,7 @@ ghost use Rattle.x7_text.specs.Digits.{hex_word};
 ghost use Rattle.x7_words.specs.Word.{bytes_of_word};
 ghost use Rattle.x7_part.specs.AddressOrder.{addresses_in};
 ghost use Rattle.x7_memory.specs.PartFrames.{AreFramesOf, frame_at};
-ghost use Rattle.x7_report.specs.Frames.{frame_line_room, frame_line_size, frame_text, is_shown, frame_lines_text, frame_text_if, addresses_shown};
+ghost use Rattle.x7_report.specs.Frames.{frame_line_room, frame_line_size, frame_text, has_nonzero_word, frame_lines_text, frame_text_if, addresses_shown};
 
 use crate::state::put_named_word;
 use std::alloc::Global;
@@ -119,7 +119,7 @@ pub fn frame_line(out: &mut Vec<u8>, far: u32, words: &[u32]) -> Result<(), NoMe
 fn is_shown_at(_part: &Part, memory: &Memory, rank: u32) -> bool
     requires part { AreFramesOf _part.now memory.now }
     requires rank { rank < length (addresses_in _part.now) }
-    ensures { result ≡ is_shown (frame_at _part.now memory.now (slice_index (addresses_in _part.now) rank)) }
+    ensures { result ≡ has_nonzero_word (frame_at _part.now memory.now (slice_index (addresses_in _part.now) rank)) }
 {
     match memory.frame_at_rank(rank) {
         Some(words) => !are_zeros(words),
@@ -139,7 +139,7 @@ fn push_address(fars: &mut Vec<u32>, part: &Part, rank: u32) -> Result<(), NoMem
 }
 
 /// The addresses of the frames that have a word other than 0, in number order.
-pub(crate) fn shown_frames(
+pub(crate) fn shown_addresses(
     alloc: Global,
     part: &Part,
     memory: &Memory,

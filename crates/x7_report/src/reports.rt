@@ -1,10 +1,10 @@
 //! The report of a device.
 ghost use Rattle.std.specs.Prelude.{◌≡◌, ◌++◌, IfOk, OnOk};
-ghost use Rattle.x7_engine.specs.Past.{OfPast, memory_at, state_at};
+ghost use Rattle.x7_engine.specs.Past.{ForEachPast, memory_at, state_at};
 ghost use Rattle.x7_engine.specs.Standing.{NoWordDue};
 ghost use Rattle.x7_report.specs.Reports.{report_head, report_text, state_reported, text_begun};
 
-use crate::frames::{put_frame_count, put_frame_lines, shown_frames};
+use crate::frames::{put_frame_count, put_frame_lines, shown_addresses};
 use crate::reads::put_reads;
 use crate::state::put_state;
 use std::alloc::Global;
@@ -19,9 +19,9 @@ fn put_head(
     reads: &[u32],
     count: usize,
 ) -> Result<(), NoMemory>
-    ensures value { OnOk result (OfPast device.now (λ p. NoWordDue device.now
+    ensures value { OnOk result (ForEachPast device.now (λ p. NoWordDue device.now
         → text.new.items ≡ text.old.items ++ report_head p.part (state_at p) reads.now count)) }
-    ensures owing { OnOk result (OfPast device.now (λ p.
+    ensures owing { OnOk result (ForEachPast device.now (λ p.
         text.new.items ≡ text.old.items ++ report_head p.part (state_reported device.now p) reads.now count)) }
 {
     put_state(text, device.part().name(), &device.state())?;
@@ -35,12 +35,12 @@ pub(crate) fn head_and_frames(
     device: &Device,
     reads: &[u32],
 ) -> Result<(Vec<u8>, Vec<u32>), NoMemory>
-    ensures value { IfOk result (λ begun. OfPast device.now (λ p. NoWordDue device.now
+    ensures value { IfOk result (λ begun. ForEachPast device.now (λ p. NoWordDue device.now
         → text_begun device.now begun.0.items begun.1.items ≡ report_text p.part (state_at p) reads.now (memory_at p))) }
-    ensures owing { IfOk result (λ begun. OfPast device.now (λ p.
+    ensures owing { IfOk result (λ begun. ForEachPast device.now (λ p.
         text_begun device.now begun.0.items begun.1.items ≡ report_text p.part (state_reported device.now p) reads.now (memory_at p))) }
 {
-    let fars = shown_frames(alloc, device.part(), device.memory())?;
+    let fars = shown_addresses(alloc, device.part(), device.memory())?;
     let mut head = Vec::new(alloc);
     put_head(&mut head, device, reads, fars.len())?;
     Ok((head, fars))
@@ -51,9 +51,9 @@ pub(crate) fn head_and_frames(
 /// the words in `data` lines of eight; `frames N` and the `frame` lines of all frames that have a word other than 0.
 /// While words of frame data are due, FAR is that of the words given so far.
 pub fn report(alloc: Global, device: &Device, reads: &[u32]) -> Result<Vec<u8>, NoMemory>
-    ensures value { IfOk result (λ text. OfPast device.now (λ p. NoWordDue device.now
+    ensures value { IfOk result (λ text. ForEachPast device.now (λ p. NoWordDue device.now
         → text.items ≡ report_text p.part (state_at p) reads.now (memory_at p))) }
-    ensures owing { IfOk result (λ text. OfPast device.now (λ p. text.items ≡ report_text p.part (state_reported device.now p) reads.now (memory_at p))) }
+    ensures owing { IfOk result (λ text. ForEachPast device.now (λ p. text.items ≡ report_text p.part (state_reported device.now p) reads.now (memory_at p))) }
 {
     let (mut text, fars) = head_and_frames(alloc, device, reads)?;
     put_frame_lines(&mut text, device.part(), device.memory(), &fars)?;

@@ -3,7 +3,7 @@ ghost use Rattle.std.specs.Prelude.{◌≡◌, ◌++◌, ◌*◌, ◌≤◌, len
 ghost use Rattle.x7_words.specs.Sink.{SinkFaultsNeverFall, PutsAll, PutsSome, SinkFails};
 ghost use Rattle.x7_text.specs.Appends.{Appends, HasSpareRoom};
 ghost use Rattle.x7_memory.specs.PartFrames.{AreFramesOf, frame_at};
-ghost use Rattle.x7_engine.specs.Past.{OfPast, memory_at, state_at};
+ghost use Rattle.x7_engine.specs.Past.{ForEachPast, memory_at, state_at};
 ghost use Rattle.x7_engine.specs.Standing.{NoWordDue};
 ghost use Rattle.x7_report.specs.Frames.{frame_line_room, room_at_once, frame_lines_text};
 ghost use Rattle.x7_report.specs.Reports.{report_text, state_reported};
@@ -95,9 +95,9 @@ impl PlayText {
         reads: &[u32],
         stopped: bool,
     ) -> Result<PlayText, NoMemory>
-        ensures value { IfOk result (λ text. OfPast device (λ p. NoWordDue device
+        ensures value { IfOk result (λ text. ForEachPast device (λ p. NoWordDue device
             → text ≡ record { stopped = stopped; text = report_text p.part (state_at p) reads.now (memory_at p) })) }
-        ensures owing { IfOk result (λ text. OfPast device (λ p.
+        ensures owing { IfOk result (λ text. ForEachPast device (λ p.
             text ≡ record { stopped = stopped; text = report_text p.part (state_reported device p) reads.now (memory_at p) })) }
     {
         let buffer = Vec::with_capacity(alloc, ROOM_AT_ONCE)?;

@@ -2,7 +2,7 @@
 use Rattle.std.proofs.Common.{◌≡◌, ◌==◌, ℕ, zero, suc, ◌+◌, ◌-◌, ◌*◌, ◌^◌, ◌<◌, ◌≤◌, min, Bool, true, false, not, List, [], ◌∷◌, ◌++◌, if◌then◌else◌, refl, sym, ap, ◌∙◌, arith, add_assoc, IsTrue, ◌↔◌, ◌&&◌, inl, inr, eq-eqb}
 use Rattle.std.proofs.lemmas.Bool.Decides.{eqb_tells}
 use Rattle.std.proofs.Math.Nat.{suc-mul}
-use Rattle.x7_startup.specs.Watchdog.{WatchCall, Load, Reload, Watched, cfg_mon_of, timer_value_of, is_on, timer_after, has_load, since_load, bytes_on, watched_count, full_count, WatchdogState, WatchesFor, FiresNext, bytes_alike}
+use Rattle.x7_startup.specs.Watchdog.{WatchCall, Load, Reload, Watched, cfg_mon_of, timer_value_of, is_on, timer_after, has_load, since_load, bytes_on, watched_count, firing_count, WatchdogState, WatchesFor, FiresNext, bytes_alike}
 
 pub timer_watched : (t : ℕ) (calls : List WatchCall) (e : Bool) → timer_after t (calls ++ Watched e ∷ []) ≡ timer_after t calls
 timer_watched t [] e = refl
@@ -86,7 +86,7 @@ value_small : (timer : ℕ) → timer_value_of timer < 2 ^ 30
 value_small timer = omega arith
 
 -- where a byte counts, the full count is four times the value
-pub full_on : (off : Bool) (timer : ℕ) (eos : Bool) → IsTrue (is_on off timer eos) → full_count off timer ≡ timer_value_of timer * 4
+pub full_on : (off : Bool) (timer : ℕ) (eos : Bool) → IsTrue (is_on off timer eos) → firing_count off timer ≡ timer_value_of timer * 4
 full_on off timer eos h = full_if (cfg_mon_of timer == 1) (timer_value_of timer == 0) off eos (timer_value_of timer * 4) h
 
 four_times : (v : ℕ) → (v * 4 == 0) ≡ (v == 0)
@@ -105,7 +105,7 @@ on_if true false false true v h = rw h refl
 on_if true false false false v h = rw h refl
 
 -- a byte counts where the full count isn't 0 and the phase isn't 7
-pub on_by_full : (off : Bool) (timer : ℕ) (eos : Bool) → is_on off timer eos ≡ (not (full_count off timer == 0) && not eos)
+pub on_by_full : (off : Bool) (timer : ℕ) (eos : Bool) → is_on off timer eos ≡ (not (firing_count off timer == 0) && not eos)
 on_by_full off timer eos = on_if (cfg_mon_of timer == 1) (timer_value_of timer == 0) off eos (timer_value_of timer) (four_times (timer_value_of timer))
 
 pub on_kept : (off : Bool) (first : ℕ) (w : WatchdogState) (calls : List WatchCall) (eos on : Bool) → WatchesFor off first w calls →
@@ -115,11 +115,11 @@ on_kept off first w calls eos on k h =
 
 -- ---- what a call leaves
 
-pub load_watches : (off : Bool) (first : ℕ) (w : WatchdogState) (calls : List WatchCall) (next limit : ℕ) → limit ≡ full_count w.off next → WatchesFor off first w calls →
+pub load_watches : (off : Bool) (first : ℕ) (w : WatchdogState) (calls : List WatchCall) (next limit : ℕ) → limit ≡ firing_count w.off next → WatchesFor off first w calls →
     WatchesFor off first (record w { limit = limit; count = 0 }) (calls ++ Load next ∷ [])
 load_watches off first w calls next limit e h = record {
   off_is = h.off_is;
-  limit_is = e ∙ ap (λ (b : Bool). full_count b next) h.off_is ∙ ap (full_count off) (sym (timer_load first calls next));
+  limit_is = e ∙ ap (λ (b : Bool). firing_count b next) h.off_is ∙ ap (firing_count off) (sym (timer_load first calls next));
   count_is = sym (ap (λ x. min x (2 ^ 32 - 1)) (count_loaded off first calls (Load next) refl));
 }
 
@@ -127,7 +127,7 @@ pub reload_watches : (off : Bool) (first : ℕ) (w : WatchdogState) (calls : Lis
     WatchesFor off first (record w { count = 0 }) (calls ++ Reload ∷ [])
 reload_watches off first w calls h = record {
   off_is = h.off_is;
-  limit_is = h.limit_is ∙ ap (full_count off) (sym (timer_reload first calls));
+  limit_is = h.limit_is ∙ ap (firing_count off) (sym (timer_reload first calls));
   count_is = sym (ap (λ x. min x (2 ^ 32 - 1)) (count_loaded off first calls Reload refl));
 }
 
@@ -168,7 +168,7 @@ alike_watches off first w calls e on n count k o h =
     let old : w.count ≡ min (watched_count off first calls) (2 ^ 32 - 1) = k.count_is in
     record {
       off_is = k.off_is;
-      limit_is = k.limit_is ∙ ap (full_count off) (sym (timer_alike first n calls e));
+      limit_is = k.limit_is ∙ ap (firing_count off) (sym (timer_alike first n calls e));
       count_is = omega arith;
     }
 

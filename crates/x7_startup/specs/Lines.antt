@@ -8,12 +8,12 @@ use Rattle.std.specs.Prelude.{◌≡◌, ◌==◌, ℕ, ◌+◌, Bool, false, no
 use Rattle.x7_startup.specs.Options.{done_cycle_of, gts_cycle_of, gwe_cycle_of}
 
 -- DONE's phase by its code
-abbrev pub done_rise : ℕ → ℕ
-done_rise code = if nat_lt code 6 then code + 1 else 6
+abbrev pub done_phase : ℕ → ℕ
+done_phase code = if nat_lt code 6 then code + 1 else 6
 
 -- the phase of GTS_CFG_B or GWE by its code, and by DONE's phase; none for a line that never rises
-abbrev pub line_rise : ℕ → ℕ → Option ℕ
-line_rise done code = if nat_lt code 6 then Some (code + 1) else if code == 6 then Some done else None
+abbrev pub line_phase : ℕ → ℕ → Option ℕ
+line_phase done code = if nat_lt code 6 then Some (code + 1) else if code == 6 then Some done else None
 
 -- whether a line is 1 in a phase: from the phase on in which it rises, if it rises
 abbrev pub has_risen : Option ℕ → ℕ → Bool
@@ -23,17 +23,17 @@ has_risen (Some rise) phase = not (nat_lt phase rise)
 -- DONE by the COR0 that startup began with, if it has begun, and the phase
 abbrev pub done_line : Option ℕ → ℕ → Bool
 done_line None phase = false
-done_line (Some cor0) phase = has_risen (Some (done_rise (done_cycle_of cor0))) phase
+done_line (Some cor0) phase = has_risen (Some (done_phase (done_cycle_of cor0))) phase
 
 -- GTS_CFG_B by the COR0 that startup began with, if it has begun, and the phase
 abbrev pub gts_line : Option ℕ → ℕ → Bool
 gts_line None phase = false
-gts_line (Some cor0) phase = has_risen (line_rise (done_rise (done_cycle_of cor0)) (gts_cycle_of cor0)) phase
+gts_line (Some cor0) phase = has_risen (line_phase (done_phase (done_cycle_of cor0)) (gts_cycle_of cor0)) phase
 
 -- GWE by the COR0 that startup began with, if it has begun, and the phase
 abbrev pub gwe_line : Option ℕ → ℕ → Bool
 gwe_line None phase = false
-gwe_line (Some cor0) phase = has_risen (line_rise (done_rise (done_cycle_of cor0)) (gwe_cycle_of cor0)) phase
+gwe_line (Some cor0) phase = has_risen (line_phase (done_phase (done_cycle_of cor0)) (gwe_cycle_of cor0)) phase
 
 -- these are DONE, GTS_CFG_B and GWE in a phase, by the COR0 that startup began with, if it has begun
 pub record AreLines (begun_with : Option ℕ) (phase : ℕ) (done gts gwe : Bool) : Type 0 where

@@ -22,12 +22,12 @@ abbrev pub last_phase : ℕ
 last_phase = 7
 
 -- the ticks since startup began at which a phase begins, by the ticks for which each phase waits
-unfoldable pub arrival : (ℕ → ℕ) → ℕ → ℕ
-arrival wait zero = 0
-arrival wait (suc p) = 1 + max (arrival wait p) (wait p)
+unfoldable pub first_tick_of : (ℕ → ℕ) → ℕ → ℕ
+first_tick_of wait zero = 0
+first_tick_of wait (suc p) = 1 + max (first_tick_of wait p) (wait p)
 
 -- the phase after `ticks` ticks, by the ticks for which each phase waits: the greatest, up to the last, that has begun
 pub record IsPhase (wait : ℕ → ℕ) (ticks phase : ℕ) : Type 0 where
   pub most : phase ≤ last_phase
-  pub begun : arrival wait phase ≤ ticks
-  pub greatest : (p : ℕ) → p ≤ last_phase → arrival wait p ≤ ticks → p ≤ phase
+  pub begun : first_tick_of wait phase ≤ ticks
+  pub greatest : (p : ℕ) → p ≤ last_phase → first_tick_of wait p ≤ ticks → p ≤ phase

@@ -74,8 +74,8 @@ NoneFires off first calls count eos = (k : ℕ) → k < count → ¬ FiresAfter 
 
 -- the count of bytes at which the watchdog fires: `timer_step` times TIMER's value, and 0 where TIMER or the attempt
 -- has it off
-abbrev pub full_count : Bool → ℕ → ℕ
-full_count off timer = if (cfg_mon_of timer == 1) && not off then timer_value_of timer * timer_step else 0
+abbrev pub firing_count : Bool → ℕ → ℕ
+firing_count off timer = if (cfg_mon_of timer == 1) && not off then timer_value_of timer * timer_step else 0
 
 -- what a watchdog keeps: whether its attempt has none, the count at which it fires, and its count up to 2^32 - 1
 pub record WatchdogState : Type 0 where
@@ -86,12 +86,12 @@ pub record WatchdogState : Type 0 where
 -- what is stored stands for the calls of a watchdog that was made with `first` in TIMER
 pub record WatchesFor (off : Bool) (first : ℕ) (w : WatchdogState) (calls : List WatchCall) : Type 0 where
   pub off_is : w.off ≡ off
-  pub limit_is : w.limit ≡ full_count off (timer_after first calls)
+  pub limit_is : w.limit ≡ firing_count off (timer_after first calls)
   pub count_is : w.count ≡ min (watched_count off first calls) (2 ^ 32 - 1)
 
 -- `Fact` holds of each word of TIMER at first, and each list of calls, that the watchdog stands for
-abbrev pub OfCalls : WatchdogState → (Bool → ℕ → List WatchCall → Type 0) → Type 0
-OfCalls w Fact = (off : Bool) (first : ℕ) (calls : List WatchCall) → WatchesFor off first w calls → Fact off first calls
+abbrev pub ForEachCalls : WatchdogState → (Bool → ℕ → List WatchCall → Type 0) → Type 0
+ForEachCalls w Fact = (off : Bool) (first : ℕ) (calls : List WatchCall) → WatchesFor off first w calls → Fact off first calls
 
 -- an attempt, TIMER at first, the calls since then, and whether the bytes after these are taken in phase 7
 module _ (off : Bool) (first : ℕ) (calls : List WatchCall) (eos : Bool) where

@@ -1,6 +1,6 @@
 //! The lines DONE, GTS_CFG_B and GWE (UG470, startup).
 ghost use Rattle.std.specs.Prelude.{◌≡◌, ◌<◌, Some};
-ghost use Rattle.x7_startup.specs.Lines.{done_rise, line_rise, has_risen, done_line, gts_line, gwe_line};
+ghost use Rattle.x7_startup.specs.Lines.{done_phase, line_phase, has_risen, done_line, gts_line, gwe_line};
 
 use x7_regs::{DONE_CYCLE, GTS_CYCLE, GWE_CYCLE};
 
@@ -17,9 +17,9 @@ pub struct Lines {
 
 /// The phase in which DONE rises, by its code (codes 6 and 7 are this project's choice).
 #[rattlefmt::skip]
-fn done_rise(code: u32) -> u8
+fn done_phase(code: u32) -> u8
     requires code { code < 8 }
-    ensures { result ≡ done_rise code }
+    ensures { result ≡ done_phase code }
 {
     match code {
         0 => 1,
@@ -35,9 +35,9 @@ fn done_rise(code: u32) -> u8
 /// The phase in which GTS_CFG_B or GWE rises, by its code and by DONE's phase; none for a line that never rises (codes
 /// 6 and 7 are this project's choice).
 #[rattlefmt::skip]
-fn line_rise(code: u32, done: u8) -> Option<u8>
+fn line_phase(code: u32, done: u8) -> Option<u8>
     requires code { code < 8 }
-    ensures { result ≡ line_rise done code }
+    ensures { result ≡ line_phase done code }
 {
     match code {
         0 => Some(1),
@@ -67,9 +67,9 @@ pub(crate) fn lines_in(cor0: u32, phase: u8) -> Lines
     ensures gts { result.gts ≡ gts_line (Some cor0) phase }
     ensures gwe { result.gwe ≡ gwe_line (Some cor0) phase }
 {
-    let done = done_rise(cor0 >> DONE_CYCLE & 7);
-    let gts = line_rise(cor0 >> GTS_CYCLE & 7, done);
-    let gwe = line_rise(cor0 >> GWE_CYCLE & 7, done);
+    let done = done_phase(cor0 >> DONE_CYCLE & 7);
+    let gts = line_phase(cor0 >> GTS_CYCLE & 7, done);
+    let gwe = line_phase(cor0 >> GWE_CYCLE & 7, done);
     Lines {
         done: is_up(Some(done), phase),
         gts: is_up(gts, phase),

@@ -1,6 +1,6 @@
 //! The configuration watchdog (UG470, watchdog): it counts the bytes at which it is on.
 ghost use Rattle.std.specs.Prelude.{◌≡◌, ◌<◌, ◌≤◌, ◌^◌, ◌+◌, ◌-◌, ◌*◌, ◌==◌, ◌&&◌, ◌↔◌, ◌∷◌, ◌++◌, not, min, ℕ, IsTrue, [], IfSome, IfNone, if◌then◌else◌};
-ghost use Rattle.x7_startup.specs.Watchdog.{FiredAt, NoneFired, OfCalls, Load, Reload, Watched, WatchdogState, WatchesFor, FiresNext, full_count};
+ghost use Rattle.x7_startup.specs.Watchdog.{FiredAt, NoneFired, ForEachCalls, Load, Reload, Watched, WatchdogState, WatchesFor, FiresNext, firing_count};
 
 use std::marker::Model;
 
@@ -49,7 +49,7 @@ impl Watchdog {
 
     /// A word was written to TIMER.
     pub fn load(&mut self, timer: u32)
-        ensures stands { OfCalls self.old (λ off first calls. WatchesFor off first self.new (calls ++ Load timer ∷ [])) }
+        ensures stands { ForEachCalls self.old (λ off first calls. WatchesFor off first self.new (calls ++ Load timer ∷ [])) }
     {
         *self = Watchdog {
             off: self.off,
@@ -60,7 +60,7 @@ impl Watchdog {
 
     /// LTIMER: the count begins anew.
     pub fn reload(&mut self)
-        ensures stands { OfCalls self.old (λ off first calls. WatchesFor off first self.new (calls ++ Reload ∷ [])) }
+        ensures stands { ForEachCalls self.old (λ off first calls. WatchesFor off first self.new (calls ++ Reload ∷ [])) }
     {
         self.count = 0;
     }
@@ -75,8 +75,8 @@ impl Watchdog {
 
     /// One byte more was taken, with EOS (end of startup, phase 7) as `eos` says: whether the watchdog fires at it.
     pub fn byte(&mut self, eos: bool) -> bool
-        ensures stands { OfCalls self.old (λ off first calls. WatchesFor off first self.new (calls ++ Watched eos ∷ [])) }
-        ensures fires { OfCalls self.old (λ off first calls. (IsTrue result ↔ FiresNext off first calls eos)) }
+        ensures stands { ForEachCalls self.old (λ off first calls. WatchesFor off first self.new (calls ++ Watched eos ∷ [])) }
+        ensures fires { ForEachCalls self.old (λ off first calls. (IsTrue result ↔ FiresNext off first calls eos)) }
     {
         if !is_on(self.limit, eos) {
             return false;
@@ -89,9 +89,9 @@ impl Watchdog {
     /// watchdog fires: the number of that byte, from 1, or none where it doesn't fire.
     pub fn bytes(&mut self, count: u64, eos: bool) -> Option<u64>
         ensures within { IfSome result (λ n. (0 < n) × (n ≤ count)) }
-        ensures fires { OfCalls self.old (λ off first calls.
+        ensures fires { ForEachCalls self.old (λ off first calls.
             IfSome result (λ n. FiredAt off first calls eos count n self.new)) }
-        ensures none_fires { OfCalls self.old (λ off first calls.
+        ensures none_fires { ForEachCalls self.old (λ off first calls.
             IfNone result (NoneFired off first calls eos count self.new)) }
     {
         let on = is_on(self.limit, eos);
@@ -107,7 +107,7 @@ impl Watchdog {
 /// The count at which the watchdog fires: `TIMER_STEP` times TIMER's value, and 0 where TIMER or the attempt has it
 /// off.
 fn limit_of(off: bool, timer: u32) -> u32
-    ensures { result ≡ full_count off timer }
+    ensures { result ≡ firing_count off timer }
 {
     if timer >> CFG_MON & 1 == 1 && !off {
         (timer & TIMER_VALUE) * TIMER_STEP

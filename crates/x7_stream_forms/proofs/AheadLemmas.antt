@@ -9,7 +9,7 @@ use Rattle.x7_listing.proofs.BoundLemmas.{few_held, listing_held}
 use Rattle.x7_listing.specs.Listing.{listing_of}
 use Rattle.x7_listing.specs.StreamListing.{stream_listing}
 use Rattle.x7_forms.specs.declared.bad_input.InputFault.TheVariants as input
-use Rattle.x7_outcome.specs.Ahead.{GivesNear, HasWritten, ExtendsOutput, ReadsNear, StaysNear, StaysNearBy, most_ahead}
+use Rattle.x7_outcome.specs.Ahead.{GivesNear, HasWritten, ExtendsOutput, ReadsNear, StaysNear, StaysNearBy, most_bytes_ahead}
 use Rattle.x7_outcome.specs.Outside.{Outside}
 use Rattle.x7_forms.specs.declared.status.Status.{Status}
 use Rattle.x7_forms.specs.declared.status.Status.TheVariants as status
@@ -110,8 +110,8 @@ turn_written taken line content l old mid new e t m before after o n =
 
 -- ---- what the sink's failure finds
 
-near_by : (contents : Option (List ℕ → Option (List ℕ))) (stream early late : List ℕ) (rest old new : Option (List ℕ)) → RestIsWhole contents stream (preceded (early ++ late) rest) → length late ≤ most_ahead
-    → ((before after : List ℕ) → old ≡ Some before → new ≡ Some after → HasWritten early before after × (length (early ++ late) + length before ≤ length after + most_ahead)) → NearBy contents stream rest old new
+near_by : (contents : Option (List ℕ → Option (List ℕ))) (stream early late : List ℕ) (rest old new : Option (List ℕ)) → RestIsWhole contents stream (preceded (early ++ late) rest) → length late ≤ most_bytes_ahead
+    → ((before after : List ℕ) → old ≡ Some before → new ≡ Some after → HasWritten early before after × (length (early ++ late) + length before ≤ length after + most_bytes_ahead)) → NearBy contents stream rest old new
 near_by contents stream early late rest old new s few h inputs bytes left before after c b r o n =
     let t = known_all inputs stream (early ++ late) rest (subst (λ (k : Option (List ℕ → Option (List ℕ))). RestIsWhole k stream (preceded (early ++ late) rest)) c s) in
     let tail : left ≡ t.0 = let e = t.1.0 in cc in
@@ -132,7 +132,7 @@ prefix_near contents stream taken rest old new s few l =
     (λ before after o n.
     let w = nothing_written old new l before after o n in
     let all : after ≡ before ++ l.0 = let e = l.1 in let f : appended old l.0 ≡ Some (before ++ l.0) = ap (λ (k : Option (List ℕ)). appended k l.0) o in cc in
-    let near : length taken + length before ≤ length after + most_ahead = omega (arith, few, ap length all, length-append before l.0) in
+    let near : length taken + length before ≤ length after + most_bytes_ahead = omega (arith, few, ap length all, length-append before l.0) in
     (w, near))
 
 pub turn_near : (contents : Option (List ℕ → Option (List ℕ))) (stream taken piece line content : List ℕ) (l : ListerState) (rest old mid new : Option (List ℕ)) → RestIsWhole contents stream (preceded (taken ++ piece) rest)

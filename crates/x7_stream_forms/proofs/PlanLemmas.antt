@@ -6,7 +6,7 @@ use Rattle.x7_part.specs.AddressOrder.{addresses_in}
 use Rattle.x7_part.specs.Part.{PartData}
 use Rattle.x7_memory.specs.Plan.{AreAddressed, PlanData, PlanRow}
 use Rattle.x7_frames.specs.FramesText.{IsPlanOf}
-use Rattle.x7_frames.specs.FrameLines.{AreRefused, ComeTo}
+use Rattle.x7_frames.specs.FrameLines.{HasFramesFault, ComeTo}
 use Rattle.x7_text.specs.Lines.{split}
 use Rattle.x7_frames.specs.declared.fault.FramesFault.{FramesFault}
 use Rattle.x7_frames.specs.declared.fault.FramesFault.TheVariants as fault
@@ -36,22 +36,22 @@ plan_addressed part text plan p = All-permutation (λ (row : PlanRow). Contains 
 -- ---- a text that is read
 
 module _ (old new : InputsState) (part first : PartData) (name text : List ℕ) (whole : ReadsWhole old new text_limit name (Ok text)) (same : first ≡ part) where
-  refused_by : (f : FramesFault) (event : Event) → (f ≡ fault.NoMemory → ⊥) → event ≡ frames_event name f → AreRefused first f (split text) → ReadsPlan old new part name (Err event)
+  refused_by : (f : FramesFault) (event : Event) → (f ≡ fault.NoMemory → ⊥) → event ≡ frames_event name f → HasFramesFault first f (split text) → ReadsPlan old new part name (Err event)
   refused_by f event other e (inl none) = absurd (other none)
   refused_by f event other e (inr k) = inr (text, whole, (f, subst (λ p. IsPlanOf p text (Err f)) same (k text refl), sym e))
 
-  refused_as : (f : FramesFault) (event : Event) → event ≡ frames_event name f → AreRefused first f (split text) → ReadsPlan old new part name (Err event)
+  refused_as : (f : FramesFault) (event : Event) → event ≡ frames_event name f → HasFramesFault first f (split text) → ReadsPlan old new part name (Err event)
   refused_as fault.NoMemory event e h = inl (λ flash. inl (inl e))
   refused_as (fault.Line n) event e h = refused_by (fault.Line n) event (λ x. absurd cc) e h
   refused_as (fault.Address n) event e h = refused_by (fault.Address n) event (λ x. absurd cc) e h
   refused_as (fault.Twice n) event e h = refused_by (fault.Twice n) event (λ x. absurd cc) e h
 
-  module _ (read : Result PlanData FramesFault) (h : LinesGive (λ plan. ComeTo first (Ok plan)) (AreRefused first) read text) where
+  module _ (read : Result PlanData FramesFault) (h : LinesGive (λ plan. ComeTo first (Ok plan)) (HasFramesFault first) read text) where
     pub frames_given : (plan : PlanData) → read ≡ Ok plan → ReadsPlan old new part name (Ok plan)
-    frames_given plan r = (text, whole, subst (λ p. IsPlanOf p text (Ok plan)) same (subst (λ o. LinesGive (λ q. ComeTo first (Ok q)) (AreRefused first) o text) r h text refl))
+    frames_given plan r = (text, whole, subst (λ p. IsPlanOf p text (Ok plan)) same (subst (λ o. LinesGive (λ q. ComeTo first (Ok q)) (HasFramesFault first) o text) r h text refl))
 
     pub frames_refused : (f : FramesFault) (event : Event) → read ≡ Err f → event ≡ frames_event name f → ReadsPlan old new part name (Err event)
-    frames_refused f event r e = refused_as f event e (subst (λ o. LinesGive (λ q. ComeTo first (Ok q)) (AreRefused first) o text) r h)
+    frames_refused f event r e = refused_as f event e (subst (λ o. LinesGive (λ q. ComeTo first (Ok q)) (HasFramesFault first) o text) r h)
 
 -- ---- a plan without a stream
 

@@ -111,8 +111,8 @@ scan_by register n None = None
 scan_by register n (Some f) = if all_fit n f then with_tdi register n f f.tdi else None
 
 -- the most bits of a scan
-abbrev pub most_bits : ℕ
-most_bits = 2 ^ 29
+abbrev pub most_scan_bits : ℕ
+most_scan_bits = 2 ^ 29
 
 -- a number that is not 0: how many bits a scan has
 abbrev pub positive_count : Option ℕ → Option ℕ
@@ -127,7 +127,7 @@ scan_if register (Some n) ts = scan_by register n (scan_fields ts)
 -- the scan of the tokens after SIR or SDR
 abbrev pub scan_of : ScannedRegister → List Token → Option Statement
 scan_of register [] = None
-scan_of register (Word n ∷ ts) = scan_if register (positive_count (number_within most_bits n)) ts
+scan_of register (Word n ∷ ts) = scan_if register (positive_count (number_within most_scan_bits n)) ts
 scan_of register (Open ∷ ts) = None
 scan_of register (Close ∷ ts) = None
 scan_of register (End ∷ ts) = None

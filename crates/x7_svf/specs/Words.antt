@@ -17,8 +17,8 @@ abbrev pub number_within : ℕ → List ℕ → Option ℕ
 number_within limit word = if nat_lt 0 (length word) && list_all is_decimal_digit word && nat_le (digits_value 10 word) limit then Some (digits_value 10 word) else None
 
 -- the most clocks of a run: 2^24
-abbrev pub most_clocks : ℕ
-most_clocks = 16777216
+abbrev pub most_run_clocks : ℕ
+most_run_clocks = 16777216
 
 -- a byte that may stand in a time: a digit, `.`, `E`, `+` or `-`
 abbrev pub is_time_byte : ℕ → Bool
@@ -60,7 +60,7 @@ run_by (Some count) = Some (statement.Run count)
 
 -- a run of as many clocks as the digits say, where the condition is met
 abbrev pub run_if : Bool → List ℕ → Option Statement
-run_if is_met digits = if is_met then run_by (number_within most_clocks digits) else None
+run_if is_met digits = if is_met then run_by (number_within most_run_clocks digits) else None
 
 -- the statement of the words after STATE
 abbrev pub state_statement : List (List ℕ) → Option Statement
@@ -70,7 +70,7 @@ state_statement _ = None
 -- the statement of the words after RUNTEST
 abbrev pub runtest_statement : List (List ℕ) → Option Statement
 runtest_statement (count ∷ unit ∷ []) =
-    if is_keyword unit (codes "TCK") then run_by (number_within most_clocks count) else some_if (is_keyword unit (codes "SEC") && is_time count) statement.Nothing
+    if is_keyword unit (codes "TCK") then run_by (number_within most_run_clocks count) else some_if (is_keyword unit (codes "SEC") && is_time count) statement.Nothing
 runtest_statement (state ∷ count ∷ unit ∷ []) = run_if (is_keyword state (codes "IDLE") && is_keyword unit (codes "TCK")) count
 runtest_statement (count ∷ unit ∷ time ∷ second ∷ []) = run_if (is_keyword unit (codes "TCK") && is_time time && is_keyword second (codes "SEC")) count
 runtest_statement _ = None

@@ -1,7 +1,7 @@
 //! Statements of words alone.
 ghost use Rattle.std.specs.Prelude.{◌≡◌, ◌<◌, ◌&&◌, ◌||◌, ◌≤◌, ◌∷◌, ◌++◌, ℕ, [], List, false, length, codes, IfSome, IfNone, Option, Some, None};
 ghost use Rattle.x7_words.specs.Characters.{is_decimal_digit};
-ghost use Rattle.x7_svf.specs.Words.{is_free_byte, is_free_word, is_keyword, is_time, is_time_byte, most_clocks, number_within, run_by, run_if, runtest_statement, some_if, state_statement, statement_of_words};
+ghost use Rattle.x7_svf.specs.Words.{is_free_byte, is_free_word, is_keyword, is_time, is_time_byte, most_run_clocks, number_within, run_by, run_if, runtest_statement, some_if, state_statement, statement_of_words};
 ghost use Rattle.x7_svf.specs.declared.statement.Statement.{Statement as StatementData};
 ghost use Rattle.x7_svf.specs.Span.{AreWordsWithin, bytes_in, span_end, words_kept};
 ghost use Rattle.x7_svf.specs.Stored.{IsStored};
@@ -89,7 +89,7 @@ pub(crate) fn is_free_word(word: &[u8]) -> bool
 
 /// The run of as many clocks as the digits say.
 fn run_for(digits: &[u8]) -> Option<StoredStatement>
-    ensures { IsStored [] result (run_by (number_within most_clocks digits.now)) }
+    ensures { IsStored [] result (run_by (number_within most_run_clocks digits.now)) }
 {
     let count = number_within(digits, MOST_CLOCKS)?;
     Some(StoredStatement::Run(count))

@@ -1,6 +1,6 @@
 -- A flash that a form doesn't use, or reads at most.
 use Rattle.std.proofs.Common.{◌≡◌, ◌∙◌, ap, arith, ℕ, List, Option, None, Some, refl, subst, sym, inl}
-use Rattle.x7_words.specs.Flash.{FlashState, Unwritten}
+use Rattle.x7_words.specs.Flash.{FlashState, WritesNothing}
 use Rattle.x7_words.specs.Input.{InputsState}
 use Rattle.x7_update.proofs.KnownLemmas.{moments_none, only_read}
 use Rattle.x7_forms.specs.Form.{AskedForm, FlashUse, Read, Unused, Updated, flash_use, updated_by}
@@ -29,7 +29,7 @@ uses_same form inputs s since =
 
 -- a form that reads its flash
 pub uses_read : (form : Option AskedForm) (asks : AskedForm) (name : List ℕ) (inputs : InputsState) (old new : FlashState) (past since : ℕ → List ℕ → Type 0) → form ≡ Some asks → flash_use (Some asks) ≡ Read name
-    → ReadsFlash name old new → Unwritten old new past since → UsesFlash form (sources inputs old) new past since
+    → ReadsFlash name old new → WritesNothing old new past since → UsesFlash form (sources inputs old) new past since
 uses_read form asks name inputs old new past since e n r u =
     let known = known_from (sources inputs old) in
     record {

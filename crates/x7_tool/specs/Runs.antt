@@ -77,7 +77,7 @@ pub record Runs (form : Option AskedForm) (old new : Outside) (s : Status) : Typ
   pub outcome : (known : Known) → known_in old ≡ Some known → IsQuiet form old new → (s ≡ status.NoMemory) ⊎ IsOutcome known form end
   -- words without a form are a wrong usage
   pub no_form : form ≡ None → s ≡ status.Usage
-  -- what `list` or `mcs` wrote gives back the stream or the image
+  -- a text that equals the listing of a stream, or the Intel HEX of an image, leads back to that: of `asm`, of `unmcs`
   pub back : TextsLeadBack form old new s end
   -- a whole text over known contents keeps the promise of its form: a planned stream does on a device at rest what was
   -- planned, a report shows no startup without its checks, a device boots from an image or a flash as is said

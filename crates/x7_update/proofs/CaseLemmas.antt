@@ -5,7 +5,7 @@ use Rattle.x7_words.specs.Word.{AreBytes}
 use Rattle.x7_words.specs.Flash.{FlashState, IfKnown}
 use Rattle.x7_packets.specs.FlashSlot.{flash_slot_size, flash_slot_count}
 use Rattle.x7_update.specs.Layout.{IsUpdatable, HasSlots, IsOpen, IsFree, IsNextFreeSlot, switch_of, open_switch, free_switch, spent_switch, update_place, switch_size}
-use Rattle.x7_update.specs.After.{SpendsOpen, already, spends, IsAfterUpdate, IsBetweenSlots, MayBeLeft, untouched, between, after, switched, with_stream}
+use Rattle.x7_update.specs.After.{SpendsOpenSlot, already, spends, IsAfterUpdate, IsBetweenSlots, MayBeLeft, untouched, between, after, with_switch_word, with_stream}
 use Rattle.x7_update.specs.Writing.{AtAnyMoment, SpendingSlot, HasWanted, KeepsBelow, OnlySwitch, OpeningSlot, UpdateReplaced, ReplacingUpdate}
 use Rattle.x7_update.specs.Slots.{IsTargetIn}
 use Rattle.x7_update.specs.declared.slots.UpdateTarget.{UpdateTarget}
@@ -63,17 +63,17 @@ between_spending size slot all found has h is only = record {
     ]
 
 -- the slot is spent
-pub only_spent : (slot : ℕ) (all : List ℕ) → flash_slot_size * slot + switch_size ≤ length all → OnlySwitch slot all (switched slot spent_switch all)
+pub only_spent : (slot : ℕ) (all : List ℕ) → flash_slot_size * slot + switch_size ≤ length all → OnlySwitch slot all (with_switch_word slot spent_switch all)
 only_spent slot all within = record {
   size = length_switched slot spent_switch all refl within;
   others = switched_others slot spent_switch all refl within;
   not_open = λ o. open_not_spent (sym (switch_switched slot 0 0 0 0 all within) ∙ o);
 }
 
-pub between_spent : (all spent : List ℕ) → HasSlots (length all) all → SpendsOpen all spent → IsBetweenSlots all spent
+pub between_spent : (all spent : List ℕ) → HasSlots (length all) all → SpendsOpenSlot all spent → IsBetweenSlots all spent
 between_spent all spent has (already none same) = subst (λ l. IsBetweenSlots all l) (sym same) (record { size = refl; slots = λ i h k. refl; none_open = none; switches = λ slot h o n. refl; golden = λ i h k. refl })
 between_spent all spent has (spends slot h is same) =
-    subst (λ l. IsBetweenSlots all l) (sym same) (between_spending (length all) slot all (switched slot spent_switch all) has h is (only_spent slot all (omega (arith, has.place.least, has.place.most, h))))
+    subst (λ l. IsBetweenSlots all l) (sym same) (between_spending (length all) slot all (with_switch_word slot spent_switch all) has h is (only_spent slot all (omega (arith, has.place.least, has.place.most, h))))
 
 -- ---- from what is between
 
@@ -110,16 +110,16 @@ pub opening_none : (slot : ℕ) (all : List ℕ) → IsFree all slot → Opening
 opening_none slot all free = inr (record { size = refl; others = λ i h. refl; not_open = λ o. open_not_free all slot o free })
 
 -- known bytes whose free slot was opened have an open slot
-pub opened_is_open : (known new : Option (List ℕ)) (slot : ℕ) → new ≡ option_map (switched slot open_switch) known → IfKnown known (λ all. flash_slot_size * slot + switch_size ≤ length all) → IfKnown new (λ all. IsOpen all slot)
+pub opened_is_open : (known new : Option (List ℕ)) (slot : ℕ) → new ≡ option_map (with_switch_word slot open_switch) known → IfKnown known (λ all. flash_slot_size * slot + switch_size ≤ length all) → IfKnown new (λ all. IsOpen all slot)
 opened_is_open None new slot is within = subst (λ (o : Option (List ℕ)). IfKnown o (λ all. IsOpen all slot)) (sym is) tt
 opened_is_open (Some all) new slot is within = subst (λ (o : Option (List ℕ)). IfKnown o (λ all. IsOpen all slot)) (sym is) (switch_switched slot 0xAA 0x99 0x55 0x66 all within)
 
 -- the next slot is free still when the stream is written
-pub next_free : (next : ℕ) (all spent found : List ℕ) → HasSlots (length all) all → IsNextFreeSlot all next → SpendsOpen all spent → KeepsBelow (update_place all) spent found → IsFree found next
+pub next_free : (next : ℕ) (all spent found : List ℕ) → HasSlots (length all) all → IsNextFreeSlot all next → SpendsOpenSlot all spent → KeepsBelow (update_place all) spent found → IsFree found next
 next_free next all spent found has n is_spent keeps =
     same_switch spent found next (λ i h k. keeps.below i (omega (arith, has.place.least, n.within, k))) ∙ free is_spent
   where
-    free : SpendsOpen all spent → IsFree spent next
+    free : SpendsOpenSlot all spent → IsFree spent next
     free (already none same) = ap (λ l. switch_of l next) same ∙ n.free next (omega arith) n.within
     free (spends slot h is same) =
         ap (λ l. switch_of l next) same
@@ -138,7 +138,7 @@ module _ (all : List ℕ) (target : UpdateTarget) (finds : IsTargetIn (length al
   spending_replaces slot found h is (inr only) = inr (between_spending (length all) slot all found finds.has h is only)
 
   -- while the stream is written after spent slots
-  pub writing_replaces : (spent found : List ℕ) → SpendsOpen all spent → KeepsBelow target.place spent found → ReplacingUpdate all found
+  pub writing_replaces : (spent found : List ℕ) → SpendsOpenSlot all spent → KeepsBelow target.place spent found → ReplacingUpdate all found
   writing_replaces spent found is_spent keeps =
       inr (between_below (length all) all spent found finds.has (between_spent all spent finds.has is_spent) (subst (λ u. KeepsBelow u spent found) finds.update keeps))
 
@@ -170,14 +170,14 @@ module _ (all : List ℕ) (target : UpdateTarget) (finds : IsTargetIn (length al
     replaced_between = subst (λ l. IsBetweenSlots all l) (sym r.stands) (between_below (length all) all r.spent (with_stream target.place stream r.spent) finds.has is_between keeps)
 
     -- the slot is open: the flash is updated
-    pub opened_after : IsAfterUpdate stream all (switched target.slots.next open_switch now)
+    pub opened_after : IsAfterUpdate stream all (with_switch_word target.slots.next open_switch now)
     opened_after = record {
       spent = r.spent;
       is_spent = r.is_spent;
       next = target.slots.next;
       is_next = finds.next;
       fits = omega (arith, fits, finds.update);
-      is = ap (λ l. switched target.slots.next open_switch l) r.stands ∙ ap (λ u. switched target.slots.next open_switch (with_stream u stream r.spent)) finds.update;
+      is = ap (λ l. with_switch_word target.slots.next open_switch l) r.stands ∙ ap (λ u. with_switch_word target.slots.next open_switch (with_stream u stream r.spent)) finds.update;
     }
 
     -- while the next slot is opened

@@ -1,6 +1,6 @@
 -- Lemmas on bytes that may be known, and on what calls leave of them one after the other.
 use Rattle.std.proofs.Common.{◌≡◌, ℕ, ◌+◌, ◌≤◌, List, length, Option, None, Some, option_map, Result, Ok, Err, IfErr, OnOk, OnErr, refl, sym, subst, ◌∙◌, arith}
-use Rattle.x7_words.specs.Flash.{TimeElapses, FlashState, IsTorn, OnlyWrites, TornFrom, Unwritten, IfKnown, WithinWrite, replaced}
+use Rattle.x7_words.specs.Flash.{TimeElapses, FlashState, IsTorn, OnlyWrites, TornFrom, WritesNothing, IfKnown, WithinWrite, replaced}
 use Rattle.x7_words.proofs.FlashLemmas.{elapses_none, elapses_on, elapses_unwritten, elapses_weaker, target_is_torn}
 use Rattle.x7_update.specs.Writing.{AtAnyMoment, Becomes, BecomesBytes, StaysKnown}
 
@@ -119,21 +119,21 @@ moments_on a b c past mids since P Q R f m l n = record {
 }
 
 -- an attach or a read after them, which leaves the bytes and writes nothing
-pub moments_read : (a b c : FlashState) (past mids since : ℕ → List ℕ → Type 0) (P : List ℕ → List ℕ → Type 0) → AtAnyMoment a b past mids P → c.bytes ≡ b.bytes → Unwritten b c mids since → AtAnyMoment a c past since P
+pub moments_read : (a b c : FlashState) (past mids since : ℕ → List ℕ → Type 0) (P : List ℕ → List ℕ → Type 0) → AtAnyMoment a b past mids P → c.bytes ≡ b.bytes → WritesNothing b c mids since → AtAnyMoment a c past since P
 moments_read a b c past mids since P m same u = record {
   leaves = known_map a.bytes (λ all. (now : List ℕ) × (b.bytes ≡ Some now) × P all now) (λ all. (now : List ℕ) × (c.bytes ≡ Some now) × P all now) (λ all e p. (p.0, same ∙ p.1, p.2)) m.leaves;
   elapses = elapses_unwritten a.moments b c past mids since (λ found. IfKnown a.bytes (λ all. P all found)) m.elapses u;
 }
 
 -- an attach or a read before them
-pub read_moments : (a b c : FlashState) (past mids since : ℕ → List ℕ → Type 0) (P : List ℕ → List ℕ → Type 0) → ((all : List ℕ) → a.bytes ≡ Some all → P all all) → b.bytes ≡ a.bytes → Unwritten a b past mids → AtAnyMoment b c mids since P → AtAnyMoment a c past since P
+pub read_moments : (a b c : FlashState) (past mids since : ℕ → List ℕ → Type 0) (P : List ℕ → List ℕ → Type 0) → ((all : List ℕ) → a.bytes ≡ Some all → P all all) → b.bytes ≡ a.bytes → WritesNothing a b past mids → AtAnyMoment b c mids since P → AtAnyMoment a c past since P
 read_moments a b c past mids since P h kept u n =
     moments_on a b c past mids since (λ all mid. mid ≡ all) P P (λ all mid found e same p. subst (λ x. P x found) same p)
     (moments_read a a b past past mids P (moments_none a past P h) kept u)
     (known_all a.bytes (λ all. (mid : List ℕ) × (b.bytes ≡ Some mid) × (mid ≡ all)) (λ all e. (all, kept ∙ e, refl))) n
 
 -- only these
-pub only_read : (a b : FlashState) (past since : ℕ → List ℕ → Type 0) (P : List ℕ → List ℕ → Type 0) → ((all : List ℕ) → a.bytes ≡ Some all → P all all) → b.bytes ≡ a.bytes → Unwritten a b past since → AtAnyMoment a b past since P
+pub only_read : (a b : FlashState) (past since : ℕ → List ℕ → Type 0) (P : List ℕ → List ℕ → Type 0) → ((all : List ℕ) → a.bytes ≡ Some all → P all all) → b.bytes ≡ a.bytes → WritesNothing a b past since → AtAnyMoment a b past since P
 only_read a b past since P h kept u = moments_read a a b past past since P (moments_none a past P h) kept u
 
 -- what is found within a write, and what it leaves, is torn

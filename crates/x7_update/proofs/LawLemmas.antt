@@ -6,7 +6,7 @@ use Rattle.x7_words.specs.Flash.{sector_size}
 use Rattle.x7_words.specs.Word.{word_of_bytes}
 use Rattle.x7_packets.specs.FlashSlot.{flash_slot, flash_slot_size, flash_slot_count}
 use Rattle.x7_update.specs.Layout.{CanStandAt, IsUpdatable, IsUpdatableSize, IsFree, IsNextFreeSlot, IsOpen, first_slot, four_at, open_switch, switch_of, switch_size}
-use Rattle.x7_update.specs.After.{SpendsOpen, already, spends, IsAfterUpdate, IsBetweenSlots, MayBeLeft, after, between, untouched, switched, with_stream}
+use Rattle.x7_update.specs.After.{SpendsOpenSlot, already, spends, IsAfterUpdate, IsBetweenSlots, MayBeLeft, after, between, untouched, with_switch_word, with_stream}
 use Rattle.x7_update.specs.Layout.{spent_switch, update_place}
 use Rattle.x7_update.proofs.CaseLemmas.{between_below, between_spent, open_not_free, outside_switch, stream_keeps, true_or_false}
 use Rattle.x7_update.proofs.SwitchLemmas.{length_switched, switch_other, switched_others}
@@ -177,17 +177,17 @@ one_next flash one other a b = elim (cases_order one other) [
   ]
 ]
 
-pub one_spent : (flash one other : List ℕ) → IsUpdatable flash → SpendsOpen flash one → SpendsOpen flash other → one ≡ other
+pub one_spent : (flash one other : List ℕ) → IsUpdatable flash → SpendsOpenSlot flash one → SpendsOpenSlot flash other → one ≡ other
 one_spent flash one other l (already s e) (already t f) = e ∙ sym f
 one_spent flash one other l (already s e) (spends slot h is f) = absurd (s slot h is)
 one_spent flash one other l (spends slot h is e) (already t f) = absurd (t slot h is)
 one_spent flash one other l (spends slot h is e) (spends slot_2 h_2 is_2 f) =
     let same : slot ≡ slot_2 = l.slots.one_open slot slot_2 h h_2 is is_2 in
-    e ∙ ap (λ k. switched k spent_switch flash) same ∙ sym f
+    e ∙ ap (λ k. with_switch_word k spent_switch flash) same ∙ sym f
 
 pub one_after : (stream flash one other : List ℕ) → IsUpdatable flash → IsAfterUpdate stream flash one → IsAfterUpdate stream flash other → one ≡ other
 one_after stream flash one other l a b =
     a.is
-    ∙ ap (λ k. switched k open_switch (with_stream (update_place flash) stream a.spent)) (one_next flash a.next b.next a.is_next b.is_next)
-    ∙ ap (λ c. switched b.next open_switch (with_stream (update_place flash) stream c)) (one_spent flash a.spent b.spent l a.is_spent b.is_spent)
+    ∙ ap (λ k. with_switch_word k open_switch (with_stream (update_place flash) stream a.spent)) (one_next flash a.next b.next a.is_next b.is_next)
+    ∙ ap (λ c. with_switch_word b.next open_switch (with_stream (update_place flash) stream c)) (one_spent flash a.spent b.spent l a.is_spent b.is_spent)
     ∙ sym b.is

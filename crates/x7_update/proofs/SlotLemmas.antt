@@ -3,7 +3,7 @@ use Rattle.std.proofs.Common.{◌≡◌, ℕ, suc, ◌+◌, ◌-◌, ◌*◌, �
 use Rattle.std.proofs.lemmas.Bool.{cases_eq, cases_order}
 use Rattle.x7_packets.specs.FlashSlot.{flash_slot_size, flash_slot_count}
 use Rattle.x7_update.specs.Layout.{CanStandAt, IsUpdatableSize, IsFree, IsOpen, LeadsToUpdate, update_place}
-use Rattle.x7_update.specs.Fault.{BeginsWell, IsGoodSlot, NoLayoutAt, OpensAgain, last_taken}
+use Rattle.x7_update.specs.Fault.{HasGoodBeginning, IsGoodSlot, NoLayoutAt, OpensAgain, last_taken}
 use Rattle.x7_update.specs.Slots.{IsTargetIn, OpenAmong, SlotsAmong, TargetFits, WithinSlots}
 use Rattle.x7_update.specs.declared.slots.Slots.{Slots}
 use Rattle.x7_update.specs.declared.slots.UpdateTarget.{UpdateTarget}
@@ -68,7 +68,7 @@ all_found size first target sized place so some is = record {
     ]
 
 -- all slots are good, but none is free
-pub none_free : (size : ℕ) (first : List ℕ) (slots : Slots) (place : ℕ) → BeginsWell size first → SlotsAmong first flash_slot_count slots → flash_slot_count ≤ slots.next → place ≡ flash_slot_size * (flash_slot_count - 1) → NoLayoutAt size first place
+pub none_free : (size : ℕ) (first : List ℕ) (slots : Slots) (place : ℕ) → HasGoodBeginning size first → SlotsAmong first flash_slot_count slots → flash_slot_count ≤ slots.next → place ≡ flash_slot_size * (flash_slot_count - 1) → NoLayoutAt size first place
 none_free size first slots place begins so all is =
     let last : suc (flash_slot_count - 1) ≡ slots.next = omega (arith, so.within) in
     last_taken begins (so_far_good first flash_slot_count slots so) (so.first (flash_slot_count - 1) last) is

@@ -4,7 +4,7 @@ use Rattle.x7_words.specs.Flash.{sector_size}
 use Rattle.x7_words.specs.Word.{word_of_bytes}
 use Rattle.x7_packets.specs.FlashSlot.{flash_slot, flash_slot_size, flash_slot_count}
 use Rattle.x7_update.specs.Layout.{CanStandAt, LeadsToUpdate, IsOpen, IsFree, four_at, switch_of, first_slot, update_place, open_switch}
-use Rattle.x7_update.specs.Fault.{BeginsWell, DiffersAt, IsBadSlotAt, IsGoodSlot, NoLayoutAt, OpensAgain, bad_first, bad_place, bad_size, bad_slot, last_taken}
+use Rattle.x7_update.specs.Fault.{HasGoodBeginning, DiffersAt, IsBadSlotAt, IsGoodSlot, NoLayoutAt, OpensAgain, bad_first, bad_place, bad_size, bad_slot, last_taken}
 use Rattle.x7_update.specs.Slots.{OpenAmong, IsTargetIn}
 use Rattle.x7_update.specs.declared.slots.UpdateTarget.{UpdateTarget}
 
@@ -81,7 +81,7 @@ module _ (first all : List ℕ) (same : (i : ℕ) → i < sector_size → get_or
   stands_back : (size : ℕ) → (CanStandAt size (update_place first) → ⊥) → CanStandAt size (update_place all) → ⊥
   stands_back size n stands = n (stands_same all first back size stands)
 
-  begins_same : (size : ℕ) → BeginsWell size first → BeginsWell size all
+  begins_same : (size : ℕ) → HasGoodBeginning size first → HasGoodBeginning size all
   begins_same size b = record { sized = b.sized; leads = leads_same first all same 0 (omega arith) b.leads; place = stands_same first all same size b.place }
 
   bad_same : (slot place : ℕ) → slot < flash_slot_count → IsBadSlotAt first slot place → IsBadSlotAt all slot place

@@ -6,27 +6,27 @@ use Rattle.x7_packets.specs.FlashSlot.{sector_size, flash_slot_size, flash_slot_
 use Rattle.x7_update.specs.Layout.{IsUpdatable, HasNoOpenSlot, IsNextFreeSlot, IsOpen, open_switch, spent_switch, switch_size, switch_of, update_place}
 
 -- the flash with this switch word, four bytes, in a slot
-abbrev pub switched : ℕ → List ℕ → List ℕ → List ℕ
-switched slot word flash = replaced (flash_slot_size * slot) word flash
+abbrev pub with_switch_word : ℕ → List ℕ → List ℕ → List ℕ
+with_switch_word slot word flash = replaced (flash_slot_size * slot) word flash
 
 -- the flash with this stream at its place, and FF from the stream's end to the flash's end
 abbrev pub with_stream : ℕ → List ℕ → List ℕ → List ℕ
 with_stream place stream flash = take place flash ++ (stream ++ replicate (length flash - (place + length stream)) erased_byte)
 
 -- the flash with its open slot spent, if it has one
-pub data SpendsOpen (flash spent : List ℕ) : Type 0 where
-  already : HasNoOpenSlot flash → spent ≡ flash → SpendsOpen flash spent
-  spends : (slot : ℕ) → slot < flash_slot_count → IsOpen flash slot → spent ≡ switched slot spent_switch flash → SpendsOpen flash spent
+pub data SpendsOpenSlot (flash spent : List ℕ) : Type 0 where
+  already : HasNoOpenSlot flash → spent ≡ flash → SpendsOpenSlot flash spent
+  spends : (slot : ℕ) → slot < flash_slot_count → IsOpen flash slot → spent ≡ with_switch_word slot spent_switch flash → SpendsOpenSlot flash spent
 
 -- The flash after an update with a stream: its open slot is spent, the stream stands at U with FF after it, and the
 -- first slot from which on all are free is open.
 pub record IsAfterUpdate (stream flash after : List ℕ) : Type 0 where
   pub spent : List ℕ
-  pub is_spent : SpendsOpen flash spent
+  pub is_spent : SpendsOpenSlot flash spent
   pub next : ℕ
   pub is_next : IsNextFreeSlot flash next
   pub fits : update_place flash + length stream ≤ length flash
-  pub is : after ≡ switched next open_switch (with_stream (update_place flash) stream spent)
+  pub is : after ≡ with_switch_word next open_switch (with_stream (update_place flash) stream spent)
 
 -- A flash that was left in an update, after its open slot was spent and before the next is opened: no slot is open, all
 -- slots lead to U still, each switch word but the open slot's and the next one's stays, the golden stream stands, and

@@ -2,7 +2,7 @@
 use Rattle.std.specs.Prelude.{◌≡◌, ◌≢◌, ℕ, ◌+◌, ◌-◌, ◌*◌, ◌<◌, ◌≤◌, ◌⊎◌, true, false, List, length, get_or, None, Some}
 use Rattle.x7_words.specs.Flash.{FlashFails, FlashState, IfKnown, WriteFails}
 use Rattle.x7_packets.specs.FlashSlot.{flash_slot_size, flash_slot_count}
-use Rattle.x7_update.specs.Layout.{CanStandAt, IsUpdatable, IsUpdatableSize, IsFree, IsOpen, LeadsToUpdate, first_slot, start_place, switch_size, update_place}
+use Rattle.x7_update.specs.Layout.{CanStandAt, IsUpdatable, IsUpdatableSize, IsFree, IsOpen, LeadsToUpdate, first_slot, start_word_offset, switch_size, update_place}
 use Rattle.x7_update.specs.Writing.{IsFirstRead, IsReadWrong}
 use Rattle.x7_update.specs.declared.fault.UpdateFault.{UpdateFault}
 use Rattle.x7_update.specs.declared.fault.UpdateFault.TheVariants.{Differs, Failed, NoLayout, NoMemory, TooLong}
@@ -33,7 +33,7 @@ abbrev pub IsBadSlotAt : List ℕ → ℕ → ℕ → Type 0
 IsBadSlotAt flash slot place = DiffersAt flash slot place ⊎ (LeadsToUpdate flash slot × OpensAgain flash slot × (place ≡ flash_slot_size * slot))
 
 -- a flash can be updated by its size and its first slot: the slot leads to a place at which an update can stand
-pub record BeginsWell (size : ℕ) (flash : List ℕ) : Type 0 where
+pub record HasGoodBeginning (size : ℕ) (flash : List ℕ) : Type 0 where
   pub sized : IsUpdatableSize size
   pub leads : LeadsToUpdate flash 0
   pub place : CanStandAt size (update_place flash)
@@ -44,10 +44,10 @@ pub record BeginsWell (size : ℕ) (flash : List ℕ) : Type 0 where
 pub data NoLayoutAt (size : ℕ) (flash : List ℕ) (place : ℕ) : Type 0 where
   bad_size : (IsUpdatableSize size → ⊥) → place ≡ size → NoLayoutAt size flash place
   bad_first : IsUpdatableSize size → DiffersAt flash 0 place → NoLayoutAt size flash place
-  bad_place : IsUpdatableSize size → LeadsToUpdate flash 0 → (CanStandAt size (update_place flash) → ⊥) → place ≡ start_place → NoLayoutAt size flash place
-  bad_slot : BeginsWell size flash → (slot : ℕ) → slot < flash_slot_count → ((earlier : ℕ) → earlier < slot → IsGoodSlot flash earlier)
+  bad_place : IsUpdatableSize size → LeadsToUpdate flash 0 → (CanStandAt size (update_place flash) → ⊥) → place ≡ start_word_offset → NoLayoutAt size flash place
+  bad_slot : HasGoodBeginning size flash → (slot : ℕ) → slot < flash_slot_count → ((earlier : ℕ) → earlier < slot → IsGoodSlot flash earlier)
       → IsBadSlotAt flash slot place → NoLayoutAt size flash place
-  last_taken : BeginsWell size flash → ((slot : ℕ) → slot < flash_slot_count → IsGoodSlot flash slot) → (IsFree flash (flash_slot_count - 1) → ⊥) → place ≡ flash_slot_size * (flash_slot_count - 1)
+  last_taken : HasGoodBeginning size flash → ((slot : ℕ) → slot < flash_slot_count → IsGoodSlot flash slot) → (IsFree flash (flash_slot_count - 1) → ⊥) → place ≡ flash_slot_size * (flash_slot_count - 1)
       → NoLayoutAt size flash place
 
 -- the stream passes the end of a flash that can be updated
@@ -56,7 +56,7 @@ pub record IsTooLong (stream flash : List ℕ) : Type 0 where
   pub passes : length flash < update_place flash + length stream
 
 -- a flash can be updated, and the stream fits in it
-pub record CanTake (stream flash : List ℕ) : Type 0 where
+pub record StreamFits (stream flash : List ℕ) : Type 0 where
   pub updatable : IsUpdatable flash
   pub fits : update_place flash + length stream ≤ length flash
 
@@ -64,7 +64,7 @@ pub record CanTake (stream flash : List ℕ) : Type 0 where
 abbrev pub HasCause : List ℕ → FlashState → FlashState → UpdateFault → Type 0
 -- a write failed: its count has risen, the flash's size is good, and known bytes were written only where the flash can
 -- be updated and the stream fits
-HasCause stream old new (Failed true) = WriteFails old new × IsUpdatableSize new.extent × IfKnown old.bytes (CanTake stream)
+HasCause stream old new (Failed true) = WriteFails old new × IsUpdatableSize new.extent × IfKnown old.bytes (StreamFits stream)
 -- a read failed: its count has risen, and the flash's size is good
 HasCause stream old new (Failed false) = FlashFails old new × IsUpdatableSize new.extent
 -- a flash whose bytes are known can be updated, and the stream doesn't fit in it

@@ -38,16 +38,16 @@ abbrev pub spent_switch : List ℕ
 spent_switch = 0 ∷ 0 ∷ 0 ∷ 0 ∷ []
 
 -- where in a slot its start address stands, in bytes from the slot's first
-abbrev pub start_place : ℕ
-start_place = 12
+abbrev pub start_word_offset : ℕ
+start_word_offset = 12
 
 -- U, the update's place in bytes, which is the start address of the first slot
 abbrev pub update_place : List ℕ → ℕ
-update_place flash = word_of_bytes (four_at flash start_place)
+update_place flash = word_of_bytes (four_at flash start_word_offset)
 
 -- the bytes of an open slot that leads to U: the first slot has to have them, and each other one after its switch word
 abbrev pub first_slot : List ℕ → List ℕ
-first_slot flash = flash_slot open_switch (four_at flash start_place)
+first_slot flash = flash_slot open_switch (four_at flash start_word_offset)
 
 -- a flash of this size, in bytes, can be updated: it is whole sectors, two at least, and not too large
 pub record IsUpdatableSize (size : ℕ) : Type 0 where

@@ -4,7 +4,7 @@ use Rattle.x7_words.specs.Flash.{erased_byte, TimeElapses, FlashFails, FlashStat
 use Rattle.x7_words.specs.FlashCalls.{FlashModel}
 use Rattle.x7_words.specs.Word.{AreBytes}
 use Rattle.x7_packets.specs.FlashSlot.{sector_size, flash_slot_size, flash_slot_count}
-use Rattle.x7_update.specs.After.{SpendsOpen, IsBetweenSlots, switched, with_stream}
+use Rattle.x7_update.specs.After.{SpendsOpenSlot, IsBetweenSlots, with_switch_word, with_stream}
 use Rattle.x7_update.specs.Layout.{CanStandAt, IsUpdatableSize, open_switch, switch_size, switch_of}
 use Rattle.x7_update.specs.declared.fault.UpdateFault.{UpdateFault}
 use Rattle.x7_update.specs.declared.fault.UpdateFault.TheVariants.{Differs, Failed, NoLayout, NoMemory, TooLong}
@@ -91,7 +91,7 @@ SpendingSlot slot old found = (found ≡ old) ⊎ OnlySwitch slot old found
 
 -- while a free slot is opened the slot is open, and nothing else has changed, or it isn't open yet
 abbrev pub OpeningSlot : ℕ → List ℕ → List ℕ → Type 0
-OpeningSlot slot old found = (found ≡ switched slot open_switch old) ⊎ OnlySwitch slot old found
+OpeningSlot slot old found = (found ≡ with_switch_word slot open_switch old) ⊎ OnlySwitch slot old found
 
 -- while the update is replaced nothing has changed, or no slot is open
 abbrev pub ReplacingUpdate : List ℕ → List ℕ → Type 0
@@ -104,7 +104,7 @@ StreamStands place stream old now = now ≡ with_stream place stream old
 -- the flash is as it was, but that its open slot is spent, and the stream stands at its place with FF after it
 pub record UpdateReplaced (place : ℕ) (stream old now : List ℕ) : Type 0 where
   pub spent : List ℕ
-  pub is_spent : SpendsOpen old spent
+  pub is_spent : SpendsOpenSlot old spent
   pub stands : StreamStands place stream spent now
 
 -- the byte that is wanted at a place, where the stream stands at `stream_place`: the stream's, or FF after it

@@ -1,6 +1,6 @@
 //! The layout of a flash that can be updated: its size, the update's place, and the words of a slot.
 ghost use Rattle.std.specs.Prelude.{◌≡◌, ◌↔◌, ◌+◌, ◌≤◌, true, length};
-ghost use Rattle.x7_update.specs.Layout.{CanStandAt, IsUpdatableSize, first_slot, four_at, start_place};
+ghost use Rattle.x7_update.specs.Layout.{CanStandAt, IsUpdatableSize, first_slot, four_at, start_word_offset};
 
 use x7_packets::{SYNC_BYTES, flash_slot};
 use x7_words::{FLASH_LIMIT, SECTOR_SIZE};
@@ -36,7 +36,7 @@ pub(crate) fn four_at(first_sector: &[u8], place: usize) -> [u8; 4]
 /// The 32 bytes of a right first slot, by the start address that the first sector has. Every later slot has the same
 /// bytes after its switch word.
 pub(crate) fn first_slot(first_sector: &[u8]) -> [u8; 32]
-    requires { start_place + 4 ≤ length first_sector.now }
+    requires { start_word_offset + 4 ≤ length first_sector.now }
     ensures { result ≡ first_slot first_sector.now }
 {
     flash_slot(OPEN_SWITCH, four_at(first_sector, START_PLACE))

@@ -1,6 +1,6 @@
 //! A look at the first sector: where the update goes, which slot is open, and which is the next.
 ghost use Rattle.std.specs.Prelude.{◌≡◌, ◌+◌, ◌<◌, ℕ, List, true, length, IfErr, IfOk, IfNone, IfSome};
-ghost use Rattle.x7_words.specs.Flash.{KnowsBytes};
+ghost use Rattle.x7_words.specs.Flash.{KnownAreBytes};
 ghost use Rattle.x7_words.specs.FlashCalls.{CallOnlyReads};
 ghost use Rattle.x7_packets.specs.FlashSlot.{sector_size, flash_slot_count};
 ghost use Rattle.x7_update.specs.Layout.{IsUpdatableSize, LeadsToUpdate};
@@ -136,7 +136,7 @@ pub(crate) fn find_target<F: Flash>(
     ensures refused { (stream : List ℕ) → IfErr result (HasCause stream (F.state flash.old) (F.state flash.new)) }
     ensures memory { IfErr result (λ fault. fault ≡ NoMemory → ⊥) }
     ensures bad_size { UntouchedUnlessSized (F.state flash.old) (F.state flash.new) }
-    ensures bytes { KnowsBytes (F.state flash.old) }
+    ensures bytes { KnownAreBytes (F.state flash.old) }
     ensures only_reads { CallOnlyReads F.Flash flash.old flash.new }
 {
     let size = flash.size();

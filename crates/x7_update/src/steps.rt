@@ -3,7 +3,7 @@ ghost use Rattle.std.specs.Prelude.{◌≡◌, ◌+◌, ◌*◌, ◌<◌, ◌≤
 ghost use Rattle.x7_words.specs.Flash.{IfKnown, SeesBytes, WriteFails};
 ghost use Rattle.x7_words.specs.FlashCalls.{CallOnlyReads};
 ghost use Rattle.x7_packets.specs.FlashSlot.{flash_slot_size, flash_slot_count};
-ghost use Rattle.x7_update.specs.After.{SpendsOpen, IsAfterUpdate, MayBeLeft, switched};
+ghost use Rattle.x7_update.specs.After.{SpendsOpenSlot, IsAfterUpdate, MayBeLeft, with_switch_word};
 ghost use Rattle.x7_update.specs.Layout.{IsUpdatable, HasNoOpenSlot, IsFree, open_switch};
 ghost use Rattle.x7_update.specs.Verified.{AllVerified, OpensVerified, WasReady};
 ghost use Rattle.x7_update.specs.Fault.{HasNoCause, HasCause, IsEarly, UntouchedForWant, UntouchedUnlessSized};
@@ -22,7 +22,7 @@ use x7_words::{Failed, Flash, SECTOR_SIZE};
 /// Spends the open slot, if there is one.
 fn spend_open_slot<F: Flash>(flash: &mut F, target: UpdateTarget) -> Result<(), Failed>
     requires { HasTarget (F.state flash.old) target }
-    ensures spent { OnOk result (Becomes (F.state flash.old) (F.state flash.new) SpendsOpen) }
+    ensures spent { OnOk result (Becomes (F.state flash.old) (F.state flash.new) SpendsOpenSlot) }
     ensures writes { CallWrites F.Flash flash.old flash.new ReplacingUpdate }
     ensures failed { OnErr result (WriteFails (F.state flash.old) (F.state flash.new)) }
 {
@@ -55,7 +55,7 @@ fn verify_and_open<F: Flash>(
     requires next { target.slots.next < flash_slot_count }
     requires free { IfKnown (F.state flash.old).bytes (λ all. IsFree all target.slots.next) }
     requires none_open { IfKnown (F.state flash.old).bytes HasNoOpenSlot }
-    ensures opened { OnOk result ((F.state flash.new).bytes ≡ option_map (switched target.slots.next open_switch) (F.state flash.old).bytes) }
+    ensures opened { OnOk result ((F.state flash.new).bytes ≡ option_map (with_switch_word target.slots.next open_switch) (F.state flash.old).bytes) }
     ensures any_moment { CallAtAnyMoment F.Flash flash.old flash.new (OpeningSlot target.slots.next) }
     ensures stays_bytes { CallAtAnyMoment F.Flash flash.old flash.new StaysBytes }
     ensures was_ready { OnOk result (WasReady F.state target.place stream.now (F.state flash.new)) }

@@ -1,7 +1,7 @@
 //! The switch words of slots: the open slot is spent, and the next is opened.
 ghost use Rattle.std.specs.Prelude.{◌≡◌, ◌+◌, ◌≤◌, OnOk, OnErr, option_map};
 ghost use Rattle.x7_words.specs.Flash.{IfKnown, WriteFails};
-ghost use Rattle.x7_update.specs.After.{switched};
+ghost use Rattle.x7_update.specs.After.{with_switch_word};
 ghost use Rattle.x7_update.specs.Layout.{IsFree, IsOpen, open_switch, spent_switch};
 ghost use Rattle.x7_update.specs.Writing.{CanSwitch, SpendingSlot, OpeningSlot, CallWrites};
 
@@ -13,7 +13,7 @@ use x7_words::{Failed, Flash};
 pub(crate) fn spend_slot<F: Flash>(flash: &mut F, slot: u64) -> Result<(), Failed>
     requires slot { CanSwitch (F.state flash.old) slot }
     requires opened { IfKnown (F.state flash.old).bytes (λ all. IsOpen all slot) }
-    ensures spent { OnOk result ((F.state flash.new).bytes ≡ option_map (switched slot spent_switch) (F.state flash.old).bytes) }
+    ensures spent { OnOk result ((F.state flash.new).bytes ≡ option_map (with_switch_word slot spent_switch) (F.state flash.old).bytes) }
     ensures writes { CallWrites F.Flash flash.old flash.new (SpendingSlot slot) }
     ensures failed { OnErr result (WriteFails (F.state flash.old) (F.state flash.new)) }
 {
@@ -24,7 +24,7 @@ pub(crate) fn spend_slot<F: Flash>(flash: &mut F, slot: u64) -> Result<(), Faile
 pub(crate) fn open_slot<F: Flash>(flash: &mut F, slot: u64) -> Result<(), Failed>
     requires slot { CanSwitch (F.state flash.old) slot }
     requires free { IfKnown (F.state flash.old).bytes (λ all. IsFree all slot) }
-    ensures opened { OnOk result ((F.state flash.new).bytes ≡ option_map (switched slot open_switch) (F.state flash.old).bytes) }
+    ensures opened { OnOk result ((F.state flash.new).bytes ≡ option_map (with_switch_word slot open_switch) (F.state flash.old).bytes) }
     ensures writes { CallWrites F.Flash flash.old flash.new (OpeningSlot slot) }
     ensures moment { (F.state flash.new).moments ≤ (F.state flash.old).moments + 1 }
     ensures failed { OnErr result (WriteFails (F.state flash.old) (F.state flash.new)) }

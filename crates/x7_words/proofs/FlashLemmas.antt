@@ -5,7 +5,7 @@ use Rattle.std.proofs.lemmas.Bool.{cases_lt}
 use Rattle.std.proofs.lemmas.List.{length-take-le, length-replicate, get_or_append_left, get_or-append_right, get_or-take, get_or-drop, get_or-replicate, ext_get_or}
 use Rattle.std.proofs.lemmas.Nat.{and_mask}
 use Rattle.std.proofs.lemmas.Nat.Bits.{bit_at_above, bit_at_and, bit_at_ones, bit_at_ones_above, bit_at-lt, same_from_bits}
-use Rattle.x7_words.specs.Flash.{FlashState, OnlyReads, Unwritten, folded_sector_size, erased_sector, replaced, cleared, zip_with, IsTorn, TimeElapses}
+use Rattle.x7_words.specs.Flash.{FlashState, OnlyReads, WritesNothing, folded_sector_size, erased_sector, replaced, cleared, zip_with, IsTorn, TimeElapses}
 use Rattle.x7_words.specs.Word.{AreBytes}
 use Rattle.x7_words.proofs.ListLemmas.{all_append, all_back, all_from_places, all_take}
 use Rattle.x7_words.proofs.ZipLemmas.{length_zip_with}
@@ -193,7 +193,7 @@ elapses_weaker first last past since within wider a weaker = record {
 }
 
 -- a call that writes nothing
-pub elapses_unwritten : (first : ℕ) (mid last : FlashState) (past mids since : ℕ → List ℕ → Type 0) (within : List ℕ → Type 0) → TimeElapses first mid.moments past mids within → Unwritten mid last mids since → TimeElapses first last.moments past since within
+pub elapses_unwritten : (first : ℕ) (mid last : FlashState) (past mids since : ℕ → List ℕ → Type 0) (within : List ℕ → Type 0) → TimeElapses first mid.moments past mids within → WritesNothing mid last mids since → TimeElapses first last.moments past since within
 elapses_unwritten first mid last past mids since within a b = record {
   later = omega (arith, a.later, b.moments);
   nothing_else = λ moment found le had. a.nothing_else moment found le (b.nothing_else moment found had);
@@ -203,11 +203,11 @@ elapses_unwritten first mid last past mids since within a b = record {
 -- ---- calls that write nothing
 
 -- before the first call
-pub unwritten_at : (s : FlashState) (since : ℕ → List ℕ → Type 0) → Unwritten s s since since
+pub unwritten_at : (s : FlashState) (since : ℕ → List ℕ → Type 0) → WritesNothing s s since since
 unwritten_at s since = record { write_faults = refl; moments = refl; nothing_else = λ moment found had. had; keeps = λ moment found had. had }
 
 -- one call and then another
-pub unwritten_on : (a b c : FlashState) (past mids since : ℕ → List ℕ → Type 0) → Unwritten a b past mids → Unwritten b c mids since → Unwritten a c past since
+pub unwritten_on : (a b c : FlashState) (past mids since : ℕ → List ℕ → Type 0) → WritesNothing a b past mids → WritesNothing b c mids since → WritesNothing a c past since
 unwritten_on a b c past mids since p q = record {
   write_faults = q.write_faults ∙ p.write_faults;
   moments = q.moments ∙ p.moments;

@@ -55,12 +55,12 @@ IfKnown None P = Unit {0}
 IfKnown (Some bytes) P = P bytes
 
 -- the extent is the number of bytes, where they are known
-abbrev pub IsSized : FlashState → Type 0
-IsSized state = IfKnown state.bytes (λ all. state.extent ≡ length all)
+abbrev pub ExtentIsLength : FlashState → Type 0
+ExtentIsLength state = IfKnown state.bytes (λ all. state.extent ≡ length all)
 
 -- each byte that is known is a byte
-abbrev pub KnowsBytes : FlashState → Type 0
-KnowsBytes state = IfKnown state.bytes AreBytes
+abbrev pub KnownAreBytes : FlashState → Type 0
+KnownAreBytes state = IfKnown state.bytes AreBytes
 
 -- ---- attaching and reading
 
@@ -70,18 +70,18 @@ SeesBytes state place read = (i : ℕ) → i < length read → IsTrue (state.see
 
 -- No time passed and nothing was written: after a power loss since any moment the same bytes may be found after a call
 -- as before it.
-pub record Unwritten (old new : FlashState) (found_before found_after : ℕ → List ℕ → Type 0) : Type 0 where
+pub record WritesNothing (old new : FlashState) (found_before found_after : ℕ → List ℕ → Type 0) : Type 0 where
   pub write_faults : new.write_faults ≡ old.write_faults
   pub moments : new.moments ≡ old.moments
   pub nothing_else : (moment : ℕ) (found : List ℕ) → found_after moment found → found_before moment found
   pub keeps : (moment : ℕ) (found : List ℕ) → found_before moment found → found_after moment found
 
 -- the bytes stay, nothing was written, and the counts of faults and of absences do not fall
-pub record FlashStays (old new : FlashState) (found_before found_after : ℕ → List ℕ → Type 0) : Type 0 where
+pub record KeepsBytes (old new : FlashState) (found_before found_after : ℕ → List ℕ → Type 0) : Type 0 where
   pub bytes : new.bytes ≡ old.bytes
   pub faults : old.faults ≤ new.faults
   pub absences : old.absences ≤ new.absences
-  pub unwritten : Unwritten old new found_before found_after
+  pub unwritten : WritesNothing old new found_before found_after
 
 -- nothing was written, what was seen stays so and more may be, and nothing else changed but the count of faults, which
 -- does not fall
@@ -93,7 +93,7 @@ pub record OnlyReads (old new : FlashState) (found_before found_after : ℕ → 
   pub seen : (place byte : ℕ) → IsTrue (old.seen place byte) → IsTrue (new.seen place byte)
   pub faults : old.faults ≤ new.faults
   pub absences : new.absences ≡ old.absences
-  pub unwritten : Unwritten old new found_before found_after
+  pub unwritten : WritesNothing old new found_before found_after
 
 -- the flash was asked for this name, and for no other one since
 pub record FlashIsAskedFor (old : FlashState) (name : List ℕ) (new : FlashState) : Type 0 where

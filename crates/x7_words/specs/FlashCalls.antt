@@ -1,6 +1,6 @@
 -- What a call did to a flash, whichever type of flash that is (this project's choice). Each definition but `FlashModel`
 -- takes the model of the type, in a clause `F.Flash`, and the flash before and after the call.
-use Rattle.x7_words.specs.Flash.{FlashStays, OnlyReads, Unwritten}
+use Rattle.x7_words.specs.Flash.{KeepsBytes, OnlyReads, WritesNothing}
 use Rattle.x7_words.specs.declared.flash.Flash.{Ghosts}
 
 -- the model of a type of flashes: what a flash has come to, and what may be found of it after a power loss
@@ -14,8 +14,8 @@ CallOnlyReads f old new = OnlyReads (f.state old) (f.state new) (f.found_since o
 
 -- the call wrote nothing: after a power loss since any moment the same bytes may be found after the call as before it
 abbrev pub CallWritesNothing : {F : Type 0} → FlashModel F → F → F → Type 0
-CallWritesNothing f old new = Unwritten (f.state old) (f.state new) (f.found_since old) (f.found_since new)
+CallWritesNothing f old new = WritesNothing (f.state old) (f.state new) (f.found_since old) (f.found_since new)
 
 -- after the call the flash's bytes are as before, nothing was written, and no count has fallen
 abbrev pub CallKeepsBytes : {F : Type 0} → FlashModel F → F → F → Type 0
-CallKeepsBytes f old new = FlashStays (f.state old) (f.state new) (f.found_since old) (f.found_since new)
+CallKeepsBytes f old new = KeepsBytes (f.state old) (f.state new) (f.found_since old) (f.found_since new)

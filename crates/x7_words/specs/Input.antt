@@ -79,7 +79,7 @@ pub record AsksForName (name : List ℕ) (new : InputsState) : Type 0 where
   pub given : new.given ≡ 0
 
 -- no input was asked for, and at most one end of an input was read
-pub record AsksForNone (old new : InputsState) : Type 0 where
+pub record AsksForNoInput (old new : InputsState) : Type 0 where
   pub asked : new.asked ≡ old.asked
   pub selects : new.selects ≡ old.selects
   pub ends : new.ends ≤ old.ends + 1

@@ -1,6 +1,6 @@
 //! A flash that is read, erased and programmed at places.
 ghost use Rattle.std.specs.Prelude.{◌≡◌, ℕ, List, ◌+◌, ◌<◌, ◌≤◌, ◌^◌, length, Some, true, false, IfErr, OnOk, OnErr, slice_range, option_map};
-ghost use Rattle.x7_words.specs.Flash.{FlashIsAskedFor, TimeElapses, FlashFails, FlashCountsFit, FlashState, FlashStays, IsSized, KnowsBytes, OnlyReads, OnlyWrites, SeesBytes, TornFrom, FlashRefuses, IfKnown, WithinWrite, WriteFails, cleared, erased, erased_sector, programmed, sector_size, sector_place};
+ghost use Rattle.x7_words.specs.Flash.{FlashIsAskedFor, TimeElapses, FlashFails, FlashCountsFit, FlashState, KeepsBytes, ExtentIsLength, KnownAreBytes, OnlyReads, OnlyWrites, SeesBytes, TornFrom, FlashRefuses, IfKnown, WithinWrite, WriteFails, cleared, erased, erased_sector, programmed, sector_size, sector_place};
 
 use crate::input::{Failed, SelectFault};
 
@@ -35,17 +35,17 @@ pub trait Flash {
         ensures refused { IfErr result (FlashRefuses (state self.old) (state self.new)) }
         ensures not_attached { OnErr result ((state self.new).attached ≡ false) }
         ensures asks { FlashIsAskedFor (state self.old) name.now (state self.new) }
-        ensures stays { FlashStays (state self.old) (state self.new) (found_since self.old) (found_since self.new) }
-        ensures known_length { IsSized (state self.new) }
-        ensures bytes { KnowsBytes (state self.new) }
+        ensures stays { KeepsBytes (state self.old) (state self.new) (found_since self.old) (found_since self.new) }
+        ensures known_length { ExtentIsLength (state self.new) }
+        ensures bytes { KnownAreBytes (state self.new) }
         ensures fits { FlashCountsFit (state self.new) };
 
     /// The number of the attached flash's bytes.
     fn size(&self) -> u64
         requires { (state self.now).attached ≡ true }
         ensures extent { result ≡ (state self.now).extent }
-        ensures known_length { IsSized (state self.now) }
-        ensures bytes { KnowsBytes (state self.now) };
+        ensures known_length { ExtentIsLength (state self.now) }
+        ensures bytes { KnownAreBytes (state self.now) };
 
     /// Fills the buffer with the bytes from the place on, and counts no fault. After an error it may hold anything, as
     /// after a failed read of a file.
@@ -59,7 +59,7 @@ pub trait Flash {
         ensures no_fault { OnOk result ((state self.new).faults ≡ (state self.old).faults) }
         ensures failed { OnErr result (FlashFails (state self.old) (state self.new)) }
         ensures only { OnlyReads (state self.old) (state self.new) (found_since self.old) (found_since self.new) }
-        ensures known_length { IsSized (state self.new) }
+        ensures known_length { ExtentIsLength (state self.new) }
         ensures fits { (state self.new).faults < 2 ^ 64 };
 
     /// Sets each bit of the sector of this number, counted from 0, to 1. After an error each bit of the sector is
@@ -75,7 +75,7 @@ pub trait Flash {
         ensures moment { (state self.new).moments ≤ (state self.old).moments + 1 }
         ensures failed { OnErr result (WriteFails (state self.old) (state self.new)) }
         ensures only { OnlyWrites (state self.old) (state self.new) }
-        ensures known_length { IsSized (state self.new) }
+        ensures known_length { ExtentIsLength (state self.new) }
         ensures fits { (state self.new).write_faults < 2 ^ 64 };
 
     /// Makes each byte from the place on the old byte AND the given one. After an error each bit of the range is
@@ -92,11 +92,11 @@ pub trait Flash {
         ensures moment { (state self.new).moments ≤ (state self.old).moments + 1 }
         ensures failed { OnErr result (WriteFails (state self.old) (state self.new)) }
         ensures only { OnlyWrites (state self.old) (state self.new) }
-        ensures known_length { IsSized (state self.new) }
+        ensures known_length { ExtentIsLength (state self.new) }
         ensures fits { (state self.new).write_faults < 2 ^ 64 };
 
     /// Where the bytes are known, the size is their number.
-    ghost counted: { (flash : Self) → IsSized (state flash) };
+    ghost counted: { (flash : Self) → ExtentIsLength (state flash) };
 
     /// After a power loss since any moment up to the present one, the bytes that the flash has now may be found.
     ghost found_now: { (flash : Self) (moment : ℕ) (all : List ℕ) → moment ≤ (state flash).moments

@@ -1,6 +1,6 @@
 //! Inputs that are read by name, and what can go wrong with the outside.
 ghost use Rattle.std.specs.Prelude.{◌≡◌, ◌<◌, ◌≤◌, length, take, true, false, IfErr, IfOk, OnOk, OnErr};
-ghost use Rattle.x7_words.specs.Input.{InputsState, AsksForName, AsksForNone, AsksOnce, AtEnd, InputCountsFit, OpensInput, ReadFails, InputsRefuse, InputsStay, TakesInput};
+ghost use Rattle.x7_words.specs.Input.{InputsState, AsksForName, AsksForNoInput, AsksOnce, AtEnd, InputCountsFit, OpensInput, ReadFails, InputsRefuse, InputsStay, TakesInput};
 
 use std::alloc::{AllocError, AllocFailed};
 
@@ -63,7 +63,7 @@ pub trait Inputs {
         ensures no_end { IfOk result (λ n. 0 < n → (state self.new).ends ≤ (state self.old).ends) }
         ensures length { length buf.new ≡ length buf.old }
         ensures failed { OnErr result (ReadFails (state self.old) (state self.new)) }
-        ensures asks { AsksForNone (state self.old) (state self.new) }
+        ensures asks { AsksForNoInput (state self.old) (state self.new) }
         ensures stays { InputsStay (state self.old) (state self.new) }
         ensures fits { InputCountsFit (state self.new) };
 }

@@ -7,7 +7,7 @@ ghost use Rattle.x7_engine.specs.Standing.{CanBeGiven, HasBegun, HasStopped, NoW
 ghost use Rattle.x7_engine.specs.Turns.{MayTakePiece, TurnAnswers};
 ghost use Rattle.x7_engine.specs.UntilStarted.{HasNotBegun, NoneBegun, NoneStarted, says_started, taken_until};
 ghost use Rattle.x7_engine.specs.declared.until_started.UntilStarted.TheVariants as until;
-ghost use Rattle.x7_engine.specs.Past.{AnswersUntilFor, OfPast, TakesJust, TakesNothing, GivesWordsNext, later, prefix_taken_until, started_at, state_at, stop_at, reads_given_at};
+ghost use Rattle.x7_engine.specs.Past.{AnswersUntilFor, ForEachPast, TakesJust, TakesNothing, GivesWordsNext, later, prefix_taken_until, started_at, state_at, stop_at, reads_given_at};
 
 use super::{Device, answer_at_stop};
 use crate::fed::Fed;
@@ -41,7 +41,7 @@ impl Device {
         ensures within { result ≤ length }
         ensures ends_or_advances { (result ≡ length) ⊎ (at < result) }
         ensures forward { at ≤ result }
-        ensures soonest { OfPast self.now (λ p. HasNotBegun p.part p.kept p.bytes ⊎ (result ≤ at + soonest_end (state_at p).phase)) }
+        ensures soonest { ForEachPast self.now (λ p. HasNotBegun p.part p.kept p.bytes ⊎ (result ≤ at + soonest_end (state_at p).phase)) }
     {
         if self.has_begun() {
             return at + soonest_end(self.phase()).min(length - at);
@@ -54,7 +54,7 @@ impl Device {
     fn turn_until_started(&mut self, piece: &[u8], at: &mut usize) -> bool
         requires { MayTakePiece self.old piece.now at.old }
         ensures took { TurnAnswers self.old self.new piece.now at.old at.new result }
-        ensures first { OfPast self.old (λ p. started_at p ≡ false → NoneStarted p.part p.kept p.bytes (between piece.now at.old at.new) (at.new - at.old)) }
+        ensures first { ForEachPast self.old (λ p. started_at p ≡ false → NoneStarted p.part p.kept p.bytes (between piece.now at.old at.new) (at.new - at.old)) }
     {
         let end = self.turn_end(*at, piece.len());
         if self.turn(&piece[..end], at) {
@@ -72,12 +72,12 @@ impl Device {
         ensures taken { self.new.taken ≡ self.old.taken + taken_until (length piece.now) result }
         ensures fed { fed_of self.new ≡ fed_more self.old (taken_until (length piece.now) result) }
         ensures takes { TakesJust self.old self.new (prefix_taken_until piece.now result) }
-        ensures first { OfPast self.old (λ p. NoneStarted p.part p.kept p.bytes piece.now (taken_until (length piece.now) result)) }
-        ensures started { OfPast self.old (λ p. NoWordDue self.new → says_started result ≡ started_at (later p (prefix_taken_until piece.now result))) }
+        ensures first { ForEachPast self.old (λ p. NoneStarted p.part p.kept p.bytes piece.now (taken_until (length piece.now) result)) }
+        ensures started { ForEachPast self.old (λ p. NoWordDue self.new → says_started result ≡ started_at (later p (prefix_taken_until piece.now result))) }
         ensures answer { AnswersUntilFor self.old self.new (prefix_taken_until piece.now result) read.new result }
         ensures reads { GivesWordsNext self.old self.new (prefix_taken_until piece.now result) read.old read.new }
-        ensures room { OfPast self.old (λ p. RoomBefore p piece.now (taken_until (length piece.now) result) (reads_given_at self.old p) read.old) }
-        ensures stopped { OfPast self.old (λ p. IsSome (stop_at p) → TakesNothing self.old self.new read.old read.new (taken_until (length piece.now) result)) }
+        ensures room { ForEachPast self.old (λ p. RoomBefore p piece.now (taken_until (length piece.now) result) (reads_given_at self.old p) read.old) }
+        ensures stopped { ForEachPast self.old (λ p. IsSome (stop_at p) → TakesNothing self.old self.new read.old read.new (taken_until (length piece.now) result)) }
     {
         let mut at = 0;
         'runs: loop {
@@ -99,7 +99,7 @@ impl Device {
     /// Whether startup has begun since the last shutdown taken.
     fn has_begun(&self) -> bool
         ensures value { result ≡ is_some self.now.registers.clock.startup.begun_with }
-        ensures not_begun { OfPast self.now (λ p. result ≡ false → HasNotBegun p.part p.kept p.bytes) }
+        ensures not_begun { ForEachPast self.now (λ p. result ≡ false → HasNotBegun p.part p.kept p.bytes) }
     {
         self.registers.clock.startup.has_begun()
     }
@@ -113,9 +113,9 @@ impl Device {
         ensures taken { self.new.taken ≡ self.old.taken + result }
         ensures fed { fed_of self.new ≡ fed_more self.old result }
         ensures takes { TakesJust self.old self.new (take result piece.now) }
-        ensures no_word_due { OfPast self.old (λ p. NoWordDue self.new) }
-        ensures first { OfPast self.old (λ p. NoneBegun p.part p.kept p.bytes piece.now result) }
-        ensures ends { OfPast self.old (λ p. result < length piece.now → HasStopped self.new ⊎ HasBegun self.new) }
+        ensures no_word_due { ForEachPast self.old (λ p. NoWordDue self.new) }
+        ensures first { ForEachPast self.old (λ p. NoneBegun p.part p.kept p.bytes piece.now result) }
+        ensures ends { ForEachPast self.old (λ p. result < length piece.now → HasStopped self.new ⊎ HasBegun self.new) }
     {
         let mut read = ReadBuf::dropping();
         let mut at = 0;

@@ -5,8 +5,8 @@ ghost use Rattle.x7_engine.specs.Kept.{on_the_bench};
 ghost use Rattle.x7_engine.specs.ReadBuffer.{dropping};
 ghost use Rattle.x7_engine.specs.declared.stop.StopCause.{StopCause};
 ghost use Rattle.x7_engine.specs.Standing.{CanBeGiven, DeviceState, DeviceStandsFor, NoWordDue, answer_at_stop, fed_more, fed_of, taken_in};
-ghost use Rattle.x7_engine.specs.Undo.{AreEqual, IsUndoOf, SavesDevice, TookFewSince, UndoLeadsBack, device_saved, undo_reach};
-ghost use Rattle.x7_engine.specs.Past.{AnswersFor, OfPast, TakesJust, TakesNothing, prefix_taken, stop_at, HasPast, Past, later};
+ghost use Rattle.x7_engine.specs.Undo.{AreEqualButForFed, IsUndoOf, SavesDevice, TookFewSince, UndoLeadsBack, device_saved, undo_reach};
+ghost use Rattle.x7_engine.specs.Past.{AnswersFor, ForEachPast, TakesJust, TakesNothing, prefix_taken, stop_at, HasPast, Past, later};
 
 use super::Device;
 use crate::fed::Fed;
@@ -99,10 +99,10 @@ impl Device {
         ensures part { self.new.part ≡ self.old.part }
         ensures taken { self.new.taken ≡ self.old.taken + taken_in (length piece.now) result }
         ensures fed { fed_of self.new ≡ fed_more self.old (taken_in (length piece.now) result) }
-        ensures stopped { OfPast self.old (λ p. IsSome (stop_at p) → TakesNothing self.old self.new dropping dropping (taken_in (length piece.now) result)) }
+        ensures stopped { ForEachPast self.old (λ p. IsSome (stop_at p) → TakesNothing self.old self.new dropping dropping (taken_in (length piece.now) result)) }
         ensures answers_stop { (why : StopCause) → self.old.registers.stop ≡ Some why → result ≡ answer_at_stop why 0 }
         ensures saves { SavesDevice undo.new self.old }
-        ensures back { OfPast self.old (λ p. UndoLeadsBack undo.new self.new self.old) }
+        ensures back { ForEachPast self.old (λ p. UndoLeadsBack undo.new self.new self.old) }
         ensures undo { IsUndoOf self.old.part undo.new }
     {
         self.save(undo);
@@ -125,9 +125,9 @@ impl Device {
     pub fn undo(&mut self, undo: &Undo)
         requires undo { IsUndoOf self.old.part undo.now }
         requires back { TookFewSince undo.now self.old }
-        ensures back { (old : DeviceState) → UndoLeadsBack undo.now self.old old → AreEqual self.new old }
+        ensures back { (old : DeviceState) → UndoLeadsBack undo.now self.old old → AreEqualButForFed self.new old }
         ensures after_more { (p : Past) (more : List ℕ) (old : DeviceState) → SavesDevice undo.now old → NoWordDue old → length more ≤ undo_reach
-            → HasPast old p → HasPast self.old (later p more) → AreEqual self.new old }
+            → HasPast old p → HasPast self.old (later p more) → AreEqualButForFed self.new old }
         ensures part { self.new.part ≡ self.old.part }
         ensures fed { fed_of self.new ≡ fed_of self.old }
     {

@@ -17,7 +17,7 @@ use Rattle.x7_text.specs.Row.{spaced}
 use Rattle.x7_text.proofs.PieceLemmas.{free_both, free_more, hex_free, word_free}
 use Rattle.x7_listing.specs.Line.{Line, Empty, Comment, Bytes, Sync, Nop, Write, Read, Write2, Read2, Word, Data, Cmd, Check, cmd_line, ended_text, line_bytes, FitsLine, IsNeitherCommentNorCheck, text_of}
 use Rattle.x7_listing.proofs.GuessLemmas.{own, each_name, each_holds}
-use Rattle.x7_packets.specs.PacketWords.{type1_counts}
+use Rattle.x7_packets.specs.PacketWords.{type1_count_bound}
 
 -- texts that hold no line end
 words_free : (ws : List ℕ) → has_no_end (flat_map spaced ws) ≡ true
@@ -66,7 +66,7 @@ command_free command.Ltimer = refl
 command_free command.BspiRead = refl
 command_free command.FallEdge = refl
 
-type1_free : (n c : ℕ) → n < reg_number_count → c < type1_counts → has_no_end (reg_name n ++ 32 ∷ decimal c) ≡ true
+type1_free : (n c : ℕ) → n < reg_number_count → c < type1_count_bound → has_no_end (reg_name n ++ 32 ∷ decimal c) ≡ true
 type1_free n c h k = free_both (reg_name n) (32 ∷ decimal c) (name_free n h) (decimal_free c (omega arith))
 
 pub line_free : (l : Line) → FitsLine l → IsNeitherCommentNorCheck l → has_no_end (text_of l) ≡ true

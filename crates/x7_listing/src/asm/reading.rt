@@ -4,7 +4,7 @@ ghost use Rattle.x7_words.specs.Word.{bytes_of_word};
 ghost use Rattle.x7_regs.specs.Command.{code_of, command_name_of};
 ghost use Rattle.x7_regs.specs.Register.{reg_name, reg_number_count};
 ghost use Rattle.x7_regs.specs.declared.command.Command.{Command};
-ghost use Rattle.x7_packets.specs.PacketWords.{type1_read_header, type1_write_header, type2_counts, type2_read_header, type2_write_header};
+ghost use Rattle.x7_packets.specs.PacketWords.{type1_read_header, type1_write_header, type2_count_bound, type2_read_header, type2_write_header};
 ghost use Rattle.x7_text.specs.Appends.{Appends, HasSpareRoom};
 ghost use Rattle.x7_text.specs.Digits.{hex_word};
 ghost use Rattle.x7_listing.specs.Line.{type1_text, line_bytes, FitsLine, FitsWordLine, IsType1, text_of, word_of_line};
@@ -109,7 +109,7 @@ fn command_word(name: &[u8]) -> Option<u32>
 
 /// The header of a type 2 write, by the digits of its word count; `None` for any other text.
 fn write2_of(digits: &[u8]) -> Option<u32>
-    ensures { IsWordOf (λ n. n < type2_counts) decimal type2_write_header digits.now result }
+    ensures { IsWordOf (λ n. n < type2_count_bound) decimal type2_write_header digits.now result }
 {
     let Some(count) = decimal_below(digits, TYPE2_COUNTS) else {
         return None;
@@ -119,7 +119,7 @@ fn write2_of(digits: &[u8]) -> Option<u32>
 
 /// The header of a type 2 read, by the digits of its word count; `None` for any other text.
 fn read2_of(digits: &[u8]) -> Option<u32>
-    ensures { IsWordOf (λ n. n < type2_counts) decimal type2_read_header digits.now result }
+    ensures { IsWordOf (λ n. n < type2_count_bound) decimal type2_read_header digits.now result }
 {
     let Some(count) = decimal_below(digits, TYPE2_COUNTS) else {
         return None;

@@ -2,7 +2,7 @@
 ghost use Rattle.std.specs.Prelude.{◌≡◌, ◌≤◌, [], true, length, vec_len, vec_capacity, Contains, IfOk, IfSome};
 ghost use Rattle.std.specs.List.{AllByRecursion};
 ghost use Rattle.x7_part.specs.AddressOrder.{addresses_in};
-ghost use Rattle.x7_memory.specs.FrameMap.{AreSame};
+ghost use Rattle.x7_memory.specs.FrameMap.{HaveSameFrames};
 ghost use Rattle.x7_memory.specs.PartFrames.{AreFramesOf, frame_at};
 ghost use Rattle.x7_pipeline.specs.Flow.{HoldsFlow, first_flow};
 ghost use Rattle.x7_pipeline.specs.Pipeline.{AreOfPart, IsPipelineOf};
@@ -120,7 +120,7 @@ impl Saved {
     fn put_frame(&self, part: &Part, memory: &mut Memory)
         requires memory { AreFramesOf part.now memory.old }
         requires fits { AllByRecursion (IsPairOf part.now) self.now.pair }
-        ensures put { AreSame (frame_at part.now memory.new) (put_over self.now.pair (frame_at part.now memory.old)) }
+        ensures put { HaveSameFrames (frame_at part.now memory.new) (put_over self.now.pair (frame_at part.now memory.old)) }
         ensures memory { AreFramesOf part.now memory.new }
     {
         if self.has_frame {
@@ -202,7 +202,7 @@ impl Pipeline {
         requires part { AreOfPart part.now self.old memory.old }
         requires saved { IsSavedOf part.now from.now }
         ensures pipeline { self.new ≡ from.now.pipeline }
-        ensures put { AreSame (frame_at part.now memory.new) (put_over from.now.pair (frame_at part.now memory.old)) }
+        ensures put { HaveSameFrames (frame_at part.now memory.new) (put_over from.now.pair (frame_at part.now memory.old)) }
         ensures memory { AreFramesOf part.now memory.new }
     {
         self.copy_from(&from.pipeline);

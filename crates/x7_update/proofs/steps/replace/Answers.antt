@@ -1,5 +1,5 @@
 use Rattle.std.proofs.Common.{length, ◌∙◌, arith}
-use Rattle.x7_update.specs.After.{SpendsOpen}
+use Rattle.x7_update.specs.After.{SpendsOpenSlot}
 use Rattle.x7_update.specs.Slots.{IsTargetIn}
 use Rattle.x7_update.specs.Writing.{Becomes, KeepsBelow, UpdateReplaced, ReplacingUpdate, StreamStands}
 use Rattle.x7_update.proofs.ByteLemmas.{bytes_on}
@@ -15,7 +15,7 @@ returns-clause-replaced g c =
     let place = c.args.target.place in
     let stream = c.args.stream.now in
     on_ok_map (Becomes mid last (StreamStands place stream)) (Becomes first last (UpdateReplaced place stream)) c.write_stream.result c.write_stream.ensures.written
-    (λ written. becomes_on first mid last SpendsOpen (StreamStands place stream) (UpdateReplaced place stream) (λ all spent now e is_spent stands. record { spent = spent; is_spent = is_spent; stands = stands })
+    (λ written. becomes_on first mid last SpendsOpenSlot (StreamStands place stream) (UpdateReplaced place stream) (λ all spent now e is_spent stands. record { spent = spent; is_spent = is_spent; stands = stands })
     c.in_ok-spend_open_slot.ensures.spent written)
 
 pub returns-clause-writes : goal.returns-clause-writes
@@ -26,10 +26,10 @@ returns-clause-writes g c =
     let spends = c.spend_open_slot.ensures.writes in
     let writes = c.write_stream.ensures.writes in
     record {
-      any_moment = moments_on first mid last _ _ _ SpendsOpen (KeepsBelow c.args.target.place) ReplacingUpdate
+      any_moment = moments_on first mid last _ _ _ SpendsOpenSlot (KeepsBelow c.args.target.place) ReplacingUpdate
           (λ all spent found e is_spent keeps.
           writing_replaces all c.args.target (known_at first.bytes (λ all. IsTargetIn (length all) all c.args.target) c.requires.found.finds all e) spent found is_spent keeps)
-          spends.any_moment (becomes_leaves first mid SpendsOpen c.in_ok-spend_open_slot.ensures.spent) writes.any_moment;
+          spends.any_moment (becomes_leaves first mid SpendsOpenSlot c.in_ok-spend_open_slot.ensures.spent) writes.any_moment;
       bytes = bytes_on first mid last _ _ _ spends.bytes writes.bytes;
       only = writes_on first mid last spends.only writes.only;
     }

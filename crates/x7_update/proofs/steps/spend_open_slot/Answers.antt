@@ -1,6 +1,6 @@
 use Rattle.std.proofs.Common.{◌≡◌, ℕ, ◌<◌, inl, Option, length, option_map, refl, subst, arith}
 use Rattle.x7_packets.specs.FlashSlot.{flash_slot_count}
-use Rattle.x7_update.specs.After.{SpendsOpen, already, spends, switched}
+use Rattle.x7_update.specs.After.{SpendsOpenSlot, already, spends, with_switch_word}
 use Rattle.x7_update.specs.Layout.{IsOpen, spent_switch}
 use Rattle.x7_update.specs.Slots.{IsTargetIn, OpenAmong, WithinSlots}
 use Rattle.x7_update.specs.Writing.{Becomes, SpendingSlot, ReplacingUpdate, StaysBytes}
@@ -11,7 +11,7 @@ use Rattle.x7_update.proofs.steps.spend_open_slot.Goals as goal
 pub returns-in-None-clause-spent : goal.returns-in-None-clause-spent
 returns-in-None-clause-spent g c =
     let first = g.F.Flash.state c.args.flash.now in
-    becomes_same first SpendsOpen
+    becomes_same first SpendsOpenSlot
     (λ all e.
     let finds = known_at first.bytes (λ all. IsTargetIn (length all) all c.args.target) c.requires.finds all e in
     let P : Option ℕ → Type 0 = λ o. OpenAmong all flash_slot_count o in
@@ -23,8 +23,8 @@ returns-in-Some-clause-spent g c =
     let first = g.F.Flash.state c.args.flash.now in
     let last = g.F.Flash.state c.spend_slot.new.flash in
     let slot = c.in-Some.slot in
-    on_ok_map (last.bytes ≡ option_map (switched slot spent_switch) first.bytes) (Becomes first last SpendsOpen) c.spend_slot.result c.spend_slot.ensures.spent
-    (λ is. becomes_of first last (switched slot spent_switch) SpendsOpen is
+    on_ok_map (last.bytes ≡ option_map (with_switch_word slot spent_switch) first.bytes) (Becomes first last SpendsOpenSlot) c.spend_slot.result c.spend_slot.ensures.spent
+    (λ is. becomes_of first last (with_switch_word slot spent_switch) SpendsOpenSlot is
     (λ all e.
     let finds = known_at first.bytes (λ all. IsTargetIn (length all) all c.args.target) c.requires.finds all e in
     let P : Option ℕ → Type 0 = λ o. OpenAmong all flash_slot_count o in

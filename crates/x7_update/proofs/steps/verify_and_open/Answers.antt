@@ -1,6 +1,6 @@
 use Rattle.std.proofs.Common.{◌≡◌, ◌+◌, ◌*◌, ◌≤◌, ◌⊎◌, inl, inr, length, ap, option_map, refl, sym, ◌∙◌, arith}
 use Rattle.x7_packets.specs.FlashSlot.{flash_slot_size}
-use Rattle.x7_update.specs.After.{switched}
+use Rattle.x7_update.specs.After.{with_switch_word}
 use Rattle.x7_update.specs.Layout.{IsFree, open_switch, switch_size}
 use Rattle.x7_update.specs.Verified.{WasReady}
 use Rattle.x7_update.specs.Writing.{OpeningSlot, StaysBytes}
@@ -17,7 +17,7 @@ returns-clause-fault g c =
     let last = g.F.Flash.state c.verify_switch.new.flash in
     let read = c.verify_stream.ensures.only_reads in
     let wrote = c.open_slot.ensures.writes.only in
-    let change = switched c.args.target.slots.next open_switch in
+    let change = with_switch_word c.args.target.slots.next open_switch in
     let is : mid.bytes ≡ option_map change old.bytes = c.in-Ok.ensures.opened ∙ ap (option_map change) read.bytes in
     fails_since c.args.stream.now old mid last c.verify_switch.result (omega (arith, read.faults, wrote.faults)) (omega (arith, read.unwritten.write_faults, wrote.write_faults)) (λ none. was_unknown change old.bytes (sym is ∙ none))
     (c.verify_switch.ensures.fault c.args.stream.now)
@@ -119,7 +119,7 @@ pub returns-clause-opened : goal.returns-clause-opened
 returns-clause-opened g c =
     let old = g.F.Flash.state c.args.flash.now in
     let last = g.F.Flash.state c.verify_switch.new.flash in
-    let change = switched c.args.target.slots.next open_switch in
+    let change = with_switch_word c.args.target.slots.next open_switch in
     on_ok (last.bytes ≡ option_map change old.bytes) c.verify_switch.result (c.verify_switch.ensures.only_reads.bytes ∙ c.in-Ok.ensures.opened ∙ ap (option_map change) c.verify_stream.ensures.only_reads.bytes)
 
 -- ---- what the steps ask

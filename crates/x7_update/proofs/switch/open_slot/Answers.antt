@@ -3,7 +3,7 @@ use Rattle.x7_words.specs.Flash.{IsTorn, cleared, programmed}
 use Rattle.x7_words.proofs.FlashLemmas.{bytes_cleared, length_cleared}
 use Rattle.x7_words.specs.Word.{AreBytes}
 use Rattle.x7_packets.specs.FlashSlot.{flash_slot_size}
-use Rattle.x7_update.specs.After.{switched}
+use Rattle.x7_update.specs.After.{with_switch_word}
 use Rattle.x7_update.specs.Layout.{IsFree, open_switch}
 use Rattle.x7_update.specs.Writing.{OpeningSlot}
 use Rattle.x7_update.proofs.ByteLemmas.{bytes_write}
@@ -33,7 +33,7 @@ returns-clause-opened g c =
     let s = g.F.Flash.state c.args.flash.now in
     let n = g.F.Flash.state c.program.new.self in
     let slot = c.args.slot in
-    on_ok_map (n.bytes ≡ option_map (programmed (flash_slot_size * slot) open_switch) s.bytes) (n.bytes ≡ option_map (switched slot open_switch) s.bytes) c.program.result c.program.ensures.programmed
+    on_ok_map (n.bytes ≡ option_map (programmed (flash_slot_size * slot) open_switch) s.bytes) (n.bytes ≡ option_map (with_switch_word slot open_switch) s.bytes) c.program.result c.program.ensures.programmed
     (programs_switch slot open_switch s.bytes n.bytes
     (known_all s.bytes (λ all. cleared (flash_slot_size * slot) open_switch all ≡ open_switch)
     (λ all e. clears_to_open slot all (omega (arith, known_at s.bytes (λ all. s.extent ≡ length all) (g.met.F.Flash.counted c.args.flash.now) all e, c.requires.slot.within)) (known_at s.bytes (λ all. IsFree all slot) c.requires.free all e))))

@@ -3,7 +3,7 @@ use Rattle.x7_words.specs.Flash.{IsTorn, cleared, programmed}
 use Rattle.x7_words.proofs.FlashLemmas.{bytes_cleared, length_cleared}
 use Rattle.x7_words.specs.Word.{AreBytes}
 use Rattle.x7_packets.specs.FlashSlot.{flash_slot_size}
-use Rattle.x7_update.specs.After.{switched}
+use Rattle.x7_update.specs.After.{with_switch_word}
 use Rattle.x7_update.specs.Layout.{IsOpen, spent_switch}
 use Rattle.x7_update.specs.Writing.{SpendingSlot}
 use Rattle.x7_update.proofs.ByteLemmas.{bytes_write}
@@ -33,7 +33,7 @@ returns-clause-spent g c =
     let s = g.F.Flash.state c.args.flash.now in
     let n = g.F.Flash.state c.program.new.self in
     let slot = c.args.slot in
-    on_ok_map (n.bytes ≡ option_map (programmed (flash_slot_size * slot) spent_switch) s.bytes) (n.bytes ≡ option_map (switched slot spent_switch) s.bytes) c.program.result c.program.ensures.programmed
+    on_ok_map (n.bytes ≡ option_map (programmed (flash_slot_size * slot) spent_switch) s.bytes) (n.bytes ≡ option_map (with_switch_word slot spent_switch) s.bytes) c.program.result c.program.ensures.programmed
     (programs_switch slot spent_switch s.bytes n.bytes
     (known_all s.bytes (λ all. cleared (flash_slot_size * slot) spent_switch all ≡ spent_switch)
     (λ all e. clears_to_spent slot all (omega (arith, known_at s.bytes (λ all. s.extent ≡ length all) (g.met.F.Flash.counted c.args.flash.now) all e, c.requires.slot.within)))))

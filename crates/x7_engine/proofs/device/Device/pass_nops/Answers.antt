@@ -7,7 +7,7 @@ use Rattle.x7_part.specs.Part.{PartData}
 use Rattle.x7_flow.specs.Standing.{FramesFit}
 use Rattle.x7_engine.specs.declared.kept.Kept.{Kept}
 use Rattle.x7_engine.specs.Standing.{DeviceStandsFor, DeviceState, due_count, registers_in}
-use Rattle.x7_engine.specs.Past.{GivesNoWord, HasSomePast, OfPast, TakesJust}
+use Rattle.x7_engine.specs.Past.{GivesNoWord, HasSomePast, ForEachPast, TakesJust}
 use Rattle.x7_engine.specs.State.{reads_of}
 use Rattle.x7_engine.proofs.DeviceLemmas.{between_prefix, length_between}
 use Rattle.x7_engine.proofs.PassLemmas.{passed, given_same}
@@ -75,7 +75,7 @@ silent_after c = λ part kept wrapped bytes s.
     (subst (λ (p : PartData). reads_of p kept (bytes ++ more) ≡ reads_of p kept bytes) here
     (passed_here c kept wrapped bytes (subst (λ (p : PartData). DeviceStandsFor p kept wrapped c.args.self.now bytes) (sym here) s)).1)
 
-quiet_after : (c : goal.After-self-2-1) → OfPast c.args.self.now (λ p. history_of (p.bytes ++ between c.args.piece.now c.args.at.now (c.args.at.now + ((4 * c.nop_count-count.result) - c.take_bytes-left.result))) ≡ history_of p.bytes)
+quiet_after : (c : goal.After-self-2-1) → ForEachPast c.args.self.now (λ p. history_of (p.bytes ++ between c.args.piece.now c.args.at.now (c.args.at.now + ((4 * c.nop_count-count.result) - c.take_bytes-left.result))) ≡ history_of p.bytes)
 quiet_after c = λ part kept wrapped bytes s.
     let here : c.self.inside.part ≡ part = ap (λ (d : DeviceState). d.part) c.self.view_is ∙ s.part_is in
     (passed_here c kept wrapped bytes (subst (λ (p : PartData). DeviceStandsFor p kept wrapped c.args.self.now bytes) (sym here) s)).2

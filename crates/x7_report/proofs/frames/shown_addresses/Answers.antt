@@ -1,10 +1,10 @@
 use Rattle.std.proofs.Common.{◌≡◌, ◌∷◌, [], ◌++◌, ◌<◌, ℕ, Bool, List, length, take, true, false, append-nil, get_or, sym, ap, ◌∙◌, arith}
 use Rattle.x7_part.specs.AddressOrder.{addresses_in}
 use Rattle.x7_memory.specs.PartFrames.{frame_at}
-use Rattle.x7_report.specs.Frames.{is_shown, addresses_shown}
+use Rattle.x7_report.specs.Frames.{has_nonzero_word, addresses_shown}
 use Rattle.x7_report.proofs.ReportLemmas.{shown_more}
-use Rattle.x7_report.proofs.frames.shown_frames.Goals.{then-is_shown_at+in_ok-push_address, else-is_shown_at}
-use Rattle.x7_report.proofs.frames.shown_frames.Goals as goal
+use Rattle.x7_report.proofs.frames.shown_addresses.Goals.{then-is_shown_at+in_ok-push_address, else-is_shown_at}
+use Rattle.x7_report.proofs.frames.shown_addresses.Goals as goal
 
 pub loop-rank-preserved : goal.loop-rank-preserved
 loop-rank-preserved c =
@@ -12,7 +12,7 @@ loop-rank-preserved c =
     let fars : List ℕ = addresses_in part in
     let memory = frame_at part c.args.memory.now in
     let few : c.loop-rank.rank < length fars = let count = c.frames-rank-end.ensures.value in omega arith in
-    let test : (b : Bool) → c.is_shown_at.result ≡ b → is_shown (memory (get_or fars c.loop-rank.rank 0)) ≡ b = λ b e. sym c.is_shown_at.ensures ∙ e in
+    let test : (b : Bool) → c.is_shown_at.result ≡ b → has_nonzero_word (memory (get_or fars c.loop-rank.rank 0)) ≡ b = λ b e. sym c.is_shown_at.ensures ∙ e in
     record {
       within = omega (arith, few);
       items = elim c.if-is_shown_at.branch [
