@@ -6,7 +6,7 @@ ghost use Rattle.x7_boot.specs.Image.{flash_limit};
 ghost use Rattle.x7_boot.specs.Pages.{ArePages, FaultsCounted, HasPage, HoldsFrom, IsLoaded, IsRestOfPage, KeepsPages, BlockReaches, most_pages_at_once, page_size};
 
 use crate::fault::BootFault;
-use crate::pages::{BLOCK_PAGES, PAGE_SIZE, read_block};
+use crate::pages::{MOST_PAGES_AT_ONCE, PAGE_SIZE, read_block};
 use lru::LruCache;
 use std::alloc::{AllocError, Global};
 use std::mem;
@@ -42,7 +42,7 @@ impl PageCache {
         ensures { IfOk result (λ cache. cache.pages.entries ≡ []) }
     {
         let pages = LruCache::new(alloc, NonZeroUsize::new(KEPT_PAGES).unwrap())?;
-        let block = Vec::with_capacity(alloc, (BLOCK_PAGES * PAGE_SIZE) as usize)?;
+        let block = Vec::with_capacity(alloc, (MOST_PAGES_AT_ONCE * PAGE_SIZE) as usize)?;
         Ok(PageCache {
             pages,
             block,
@@ -85,12 +85,12 @@ impl PageCache {
         ensures within { (page : ℕ) → page < number + result → page * page_size < size }
         ensures absent { (page : ℕ) → number < page → page < number + result → lookup (nat_eq page) self.now.pages.entries ≡ None }
     {
-        for page in number + 1..number + BLOCK_PAGES {
+        for page in number + 1..number + MOST_PAGES_AT_ONCE {
             if page * PAGE_SIZE >= size || self.pages.contains(&page) {
                 return page - number;
             }
         }
-        BLOCK_PAGES
+        MOST_PAGES_AT_ONCE
     }
 
     /// Puts the `count` pages of the block into the cache, the first of them, page `number`, as the one used last.

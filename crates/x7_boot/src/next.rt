@@ -19,13 +19,13 @@ use x7_regs::{Kind, forbids_fallback};
 const MOST_IPROGS: u32 = 16;
 
 /// How many bits of WBSTAR, from bit 0 up, are a start address that counts bytes.
-const START_BITS: u32 = 29;
+const START_ADDRESS_BITS: u32 = 29;
 
 /// How many bytes one step of a start address stands for where the flash's addresses have 32 bits.
 const LARGE_UNIT: u32 = 256;
 
 /// How many bits of WBSTAR, from bit 0 up, are a start address that counts steps of `LARGE_UNIT` bytes.
-const LARGE_START_BITS: u32 = 24;
+const LARGE_START_ADDRESS_BITS: u32 = 24;
 
 /// What comes after an attempt of a boot.
 #[derive(Clone, Copy)]
@@ -46,9 +46,9 @@ fn start_address(unit: u32, wbstar: u32) -> u32
     ensures { result ≡ start_address unit wbstar }
 {
     if unit == LARGE_UNIT {
-        LARGE_UNIT * (wbstar % (1 << LARGE_START_BITS))
+        LARGE_UNIT * (wbstar % (1 << LARGE_START_ADDRESS_BITS))
     } else {
-        wbstar % (1 << START_BITS)
+        wbstar % (1 << START_ADDRESS_BITS)
     }
 }
 

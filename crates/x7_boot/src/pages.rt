@@ -11,7 +11,7 @@ use x7_words::Flash;
 pub(crate) const PAGE_SIZE: u64 = 4_096;
 
 /// How many pages are read at once at most.
-pub(crate) const BLOCK_PAGES: u64 = 16;
+pub(crate) const MOST_PAGES_AT_ONCE: u64 = 16;
 
 /// Reads `count` pages of a flash, from page `number` on, up to the flash's end where that comes first.
 pub(crate) fn read_block<F: Flash>(

@@ -12,7 +12,7 @@ use Rattle.x7_words.proofs.SinkLemmas.{appended_nil}
 use Rattle.x7_boot.specs.Image.{flash_limit}
 use Rattle.x7_update.specs.After.{IsAfterUpdate, MayBeLeft}
 use Rattle.x7_update.specs.Layout.{IsUpdatable}
-use Rattle.x7_update.specs.Fault.{StreamFits, HasCause, IsEarly, IsTooLong, NoLayoutAt}
+use Rattle.x7_update.specs.Fault.{CanBeUpdatedWith, HasCause, IsEarly, IsTooLong, NoLayoutAt}
 use Rattle.x7_update.specs.Writing.{AtAnyMoment, Becomes, BecomesBytes, OnlyUses}
 use Rattle.x7_update.specs.declared.fault.UpdateFault.{UpdateFault}
 use Rattle.x7_update.specs.declared.fault.UpdateFault.TheVariants.{Differs, Failed, NoLayout, NoMemory, TooLong}
@@ -209,7 +209,7 @@ fault_known n known read bytes fault within e h = inr (within, subst (λ (r : Re
 
 -- a refusal's cause since before the attach
 pub cause_from : (bytes : List ℕ) (a b c : FlashState) (fault : UpdateFault) → b.bytes ≡ a.bytes → b.write_faults ≡ a.write_faults → a.faults ≤ b.faults → HasCause bytes b c fault → HasCause bytes a c fault
-cause_from bytes a b c (Failed true) e w f h = (subst (λ (n : ℕ). HasRisen n c.write_faults) w h.0, h.1, subst (λ (o : Option (List ℕ)). IfKnown o (StreamFits bytes)) e h.2)
+cause_from bytes a b c (Failed true) e w f h = (subst (λ (n : ℕ). HasRisen n c.write_faults) w h.0, h.1, subst (λ (o : Option (List ℕ)). IfKnown o (CanBeUpdatedWith bytes)) e h.2)
 cause_from bytes a b c (Failed false) e w f h = (risen_from a.faults b.faults c.faults f h.0, h.1)
 cause_from bytes a b c TooLong e w f h = subst (λ (o : Option (List ℕ)). IfKnown o (IsTooLong bytes)) e h
 cause_from bytes a b c (NoLayout place) e w f h = subst (λ (o : Option (List ℕ)). IfKnown o (λ flash. NoLayoutAt (length flash) flash place)) e h
@@ -217,7 +217,7 @@ cause_from bytes a b c (Differs place wrote read) e w f h = (h.0, sym e ∙ h.1,
 cause_from bytes a b c NoMemory e w f h = tt
 
 -- the flash can take the stream's data
-could_end : (flash stream bytes : List ℕ) (old : Outside) → IsWithin old.flash.bytes → HasData (known_in old) stream bytes → IfKnown old.flash.bytes (StreamFits bytes) → GivesIfKnown (known_in old) (UpdatingFlash flash stream) (Ok no_text)
+could_end : (flash stream bytes : List ℕ) (old : Outside) → IsWithin old.flash.bytes → HasData (known_in old) stream bytes → IfKnown old.flash.bytes (CanBeUpdatedWith bytes) → GivesIfKnown (known_in old) (UpdatingFlash flash stream) (Ok no_text)
 could_end flash stream bytes old within has can =
     let known = old.flash.bytes in
     let n = names flash stream in
@@ -279,7 +279,7 @@ fault_ends flash stream bytes old new (Differs place wrote read) out asked withi
 fault_ends flash stream bytes old new NoMemory out asked within has reads size h early = refused_ends flash stream old new no_memory out
     (fault_measured (Some (UpdatingFlash flash stream)) (names flash stream) new.flash NoMemory) (fault_last flash stream bytes old.inputs new.flash NoMemory reads size) (inl (inl refl)) (early tt)
 
-can_take : (known now : Option (List ℕ)) (bytes : List ℕ) → IfKnown known IsUpdatable → BecomesBytes (IsAfterUpdate bytes) known now → IfKnown known (StreamFits bytes)
+can_take : (known now : Option (List ℕ)) (bytes : List ℕ) → IfKnown known IsUpdatable → BecomesBytes (IsAfterUpdate bytes) known now → IfKnown known (CanBeUpdatedWith bytes)
 can_take None now bytes l b = tt
 can_take (Some all) now bytes l b = record { updatable = l; fits = b.2.fits }
 

@@ -8,7 +8,7 @@ ghost use Rattle.x7_forms.specs.Form.{Booting};
 ghost use Rattle.x7_boot.specs.Image.{flash_limit};
 ghost use Rattle.x7_forms.specs.Event.{event_of, no_memory, reading_failed};
 ghost use Rattle.x7_outcome.specs.Outcome.{IsBootText, boot_event, has_failed};
-ghost use Rattle.x7_outcome.specs.Boot.{ForEachBoot, boot_text};
+ghost use Rattle.x7_outcome.specs.Boot.{ForLastAttemptOf, boot_text};
 ghost use Rattle.x7_forms.specs.Step.{result_by};
 ghost use Rattle.x7_outcome.specs.Outside.{ReadsFlash, sources};
 ghost use Rattle.x7_outcome.specs.Play.{play_answer};
@@ -26,7 +26,7 @@ use x7_words::{Flash, Inputs, NoMemory};
 /// The text of a boot (this project's choice): `boot NAME`; for each attempt `attempt N KIND ADDRESS ENDING`; `end` and
 /// how the boot ended; and the report of the device, as the last attempt left it.
 pub fn boot_text(alloc: Global, booted: &Booted) -> Result<Vec<u8>, NoMemory>
-    ensures { IfOk result (λ text. ForEachBoot booted.now (λ part last. text.items ≡ boot_text part booted.now.attempts booted.now.end last)) }
+    ensures { IfOk result (λ text. ForLastAttemptOf booted.now (λ part last. text.items ≡ boot_text part booted.now.attempts booted.now.end last)) }
 {
     let device = booted.device();
     let mut text = Vec::new(alloc);
@@ -53,7 +53,7 @@ fn has_failed(end: BootEnd) -> bool
 
 /// The text of a boot, as `boot_text`, ready to be written, and whether it ended without a start.
 fn ready_text(alloc: Global, booted: Booted) -> Result<PlayText, NoMemory>
-    ensures { IfOk result (λ text. ForEachBoot booted (λ part last. text ≡ record { stopped = has_failed booted.end; text = boot_text part booted.attempts booted.end last })) }
+    ensures { IfOk result (λ text. ForLastAttemptOf booted (λ part last. text ≡ record { stopped = has_failed booted.end; text = boot_text part booted.attempts booted.end last })) }
 {
     let mut head = Vec::new(alloc);
     boot_lines(

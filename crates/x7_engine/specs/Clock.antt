@@ -32,13 +32,13 @@ newest_place [] = 0
 newest_place (e ∷ h) = e.place
 
 -- `Fact` holds of each part, history and number of bytes taken whose startup this is
-abbrev pub ForEachStartup : StartupState → (PartData → History → ℕ → Type 0) → Type 0
-ForEachStartup s Fact = (part : PartData) (h : History) (n : ℕ) → StandsForCalls part.lock part.matched s (startup_calls h n) → Fact part h n
+abbrev pub ForEachHistoryOfStartup : StartupState → (PartData → History → ℕ → Type 0) → Type 0
+ForEachHistoryOfStartup s Fact = (part : PartData) (h : History) (n : ℕ) → StandsForCalls part.lock part.matched s (startup_calls h n) → Fact part h n
 
 -- `Fact` holds of all that the clock of a part's device is a clock of: what the reset kept, the history, and the number
 -- of bytes taken, among which each access of the history ends
-abbrev pub ForEachClock : PartData → ClockState → (Kept → History → ℕ → Type 0) → Type 0
-ForEachClock part c Fact = (kept : Kept) (h : History) (n : ℕ) → newest_place h ≤ n → IsClock part kept c h n → Fact kept h n
+abbrev pub ForEachCourseOfClock : PartData → ClockState → (Kept → History → ℕ → Type 0) → Type 0
+ForEachCourseOfClock part c Fact = (kept : Kept) (h : History) (n : ℕ) → newest_place h ≤ n → IsClock part kept c h n → Fact kept h n
 
 -- The clock takes `count` bytes more: the watchdog fires at none of them; or it fires first at byte k of them, and the
 -- bytes up to that one are taken.
@@ -56,7 +56,7 @@ ClockTakes c clock count (Some k) =
 -- up to byte k, at which the watchdog fires.
 pub record ClockTakesInAny (part : PartData) (old new : ClockState) (count : ℕ) (result : Option ℕ) : Type 0 where
   pub within : IfSome result (λ k. (0 < k) × (k ≤ count))
-  pub takes : ForEachClock part old (λ kept h n. ClockTakes (course_at part kept h n) new count result)
+  pub takes : ForEachCourseOfClock part old (λ kept h n. ClockTakes (course_at part kept h n) new count result)
 
 -- at each of `count` bytes more startup has ended, or at none, and `clock` is the clock before them
 pub record AreEndedAlike (c : Course) (clock : ClockState) (count : ℕ) (ended : Bool) : Type 0 where

@@ -6,7 +6,7 @@ ghost use Rattle.x7_flow.specs.Standing.{word_to, written_to};
 ghost use Rattle.x7_startup.specs.Phases.{last_phase};
 ghost use Rattle.x7_startup.specs.Startup.{AddsCalls, ticks_of};
 ghost use Rattle.x7_startup.specs.Watchdog.{ForEachCalls, WatchesFor};
-ghost use Rattle.x7_engine.specs.Clock.{AreEndedAlike, HasEndedBy, TakesEntry, ClockTakes, ClockTakesInAny, ForEachClock, ForEachStartup};
+ghost use Rattle.x7_engine.specs.Clock.{AreEndedAlike, HasEndedBy, TakesEntry, ClockTakes, ClockTakesInAny, ForEachCourseOfClock, ForEachHistoryOfStartup};
 ghost use Rattle.x7_engine.specs.Course.{course_at};
 ghost use Rattle.x7_engine.specs.Registers.{AreFactsOfWrite};
 ghost use Rattle.x7_engine.specs.Startup.{has_ended, phase_of, startup_progress, startup_call_by};
@@ -92,7 +92,7 @@ impl Clock {
     pub(crate) fn phase(&self) -> u8
         ensures stored { result ≡ self.now.startup.phase }
         ensures most { result ≤ last_phase }
-        ensures value { ForEachStartup self.now.startup (λ part h n. result ≡ phase_of part h n) }
+        ensures value { ForEachHistoryOfStartup self.now.startup (λ part h n. result ≡ phase_of part h n) }
     {
         self.startup.phase()
     }
@@ -100,29 +100,29 @@ impl Clock {
     /// Whether startup has ended.
     pub(crate) fn has_ended(&self) -> bool
         ensures stored { result ≡ (self.now.startup.phase == last_phase) }
-        ensures value { ForEachStartup self.now.startup (λ part h n. result ≡ has_ended part h n) }
+        ensures value { ForEachHistoryOfStartup self.now.startup (λ part h n. result ≡ has_ended part h n) }
     {
         self.phase() == LAST_PHASE
     }
 
     /// Whether `ticks` ticks have passed since startup began.
     pub(crate) fn have_passed(&self, ticks: u16) -> bool
-        ensures { ForEachStartup self.now.startup (λ part h n. result ≡ nat_le ticks (ticks_of (startup_progress h n))) }
+        ensures { ForEachHistoryOfStartup self.now.startup (λ part h n. result ≡ nat_le ticks (ticks_of (startup_progress h n))) }
     {
         ticks <= self.startup.ticks()
     }
 
     /// The lines DONE, GTS_CFG_B and GWE.
     pub(crate) fn lines(&self) -> Lines
-        ensures { ForEachStartup self.now.startup (λ part h n. result ≡ lines_by part (startup_progress h n)) }
+        ensures { ForEachHistoryOfStartup self.now.startup (λ part h n. result ≡ lines_by part (startup_progress h n)) }
     {
         self.startup.lines()
     }
 
     /// Takes a byte: whether the watchdog fires at it.
     fn byte(&mut self, part: &Part) -> bool
-        ensures stands { ForEachClock part.now (clock_in self.old) (λ kept h n. IsClock part.now kept (clock_in self.new) h (n + 1)) }
-        ensures fires { ForEachClock part.now (clock_in self.old) (λ kept h n. result ≡ watchdog_fires part.now kept h (n + 1)) }
+        ensures stands { ForEachCourseOfClock part.now (clock_in self.old) (λ kept h n. IsClock part.now kept (clock_in self.new) h (n + 1)) }
+        ensures fires { ForEachCourseOfClock part.now (clock_in self.old) (λ kept h n. result ≡ watchdog_fires part.now kept h (n + 1)) }
     {
         self.startup.byte(part.lock(), part.matched());
         let eos = self.has_ended();
@@ -179,7 +179,7 @@ impl Clock {
 
     /// Whether startup would have ended after `count` bytes more.
     fn ends_within(&self, part: &Part, count: usize) -> bool
-        ensures { ForEachClock part.now (clock_in self.now) (λ kept h n. result ≡ has_ended part.now h (n + count)) }
+        ensures { ForEachCourseOfClock part.now (clock_in self.now) (λ kept h n. result ≡ has_ended part.now h (n + count)) }
     {
         let mut then = *self;
         then.startup
@@ -215,7 +215,7 @@ impl Clock {
     #[inline(always)]
     pub(crate) fn before_firing(&self, part: &Part, count: usize) -> usize
         ensures within { result ≤ count }
-        ensures none_fires { ForEachClock part.now (clock_in self.now) (λ kept h n. first_firing part.now kept h n result ≡ None) }
+        ensures none_fires { ForEachCourseOfClock part.now (clock_in self.now) (λ kept h n. first_firing part.now kept h n result ≡ None) }
     {
         let mut then = *self;
         match then.bytes(part, count) {

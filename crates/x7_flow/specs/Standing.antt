@@ -92,8 +92,8 @@ abbrev pub frames_map : PartData → FramesState → FrameMap
 frames_map part f = frame_at part f.memory
 
 -- a fact holds of each history that the frames stand for with no word due, and that leaves these settings
-abbrev pub ForEachFrames : PartData → FrameSettings → FramesState → (History → Type 0) → Type 0
-ForEachFrames part settings f Fact = (h : History) → AreSettingsAfter part.idcode settings h → FramesStandFor part f h 0 → Fact h
+abbrev pub ForEachHistoryOfFrames : PartData → FrameSettings → FramesState → (History → Type 0) → Type 0
+ForEachHistoryOfFrames part settings f Fact = (h : History) → AreSettingsAfter part.idcode settings h → FramesStandFor part f h 0 → Fact h
 
 -- frames before and after they did what an access after a history asks
 abbrev pub FramesHaveDone : PartData → FramesState → FramesState → History → Entry → Type 0

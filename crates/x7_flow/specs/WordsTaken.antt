@@ -72,8 +72,8 @@ pub record WordsTaken (part : PartData) (f : FramesState) (h : History) (x : Wor
 
 -- a fact holds of each history whose settings take the words, and that the pipeline and the memory's frames stand for
 -- with no word due
-abbrev pub ForEachTaking : PartData → (Settings → Bool) → PipelineData → List (List ℕ) → (History → Type 0) → Type 0
-ForEachTaking part takes p frames Fact = (h : History) → takes (settings_of part.idcode h) ≡ true → AreFramesAfter part p frames h 0 → Fact h
+abbrev pub ForEachHistoryThatTakes : PartData → (Settings → Bool) → PipelineData → List (List ℕ) → (History → Type 0) → Type 0
+ForEachHistoryThatTakes part takes p frames Fact = (h : History) → takes (settings_of part.idcode h) ≡ true → AreFramesAfter part p frames h 0 → Fact h
 
 -- the run of a history, with words more, has slots for all its frames
 abbrev pub HasRoomFor : PartData → History → List ℕ → Type 0

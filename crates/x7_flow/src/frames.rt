@@ -6,7 +6,7 @@ ghost use Rattle.x7_packets.specs.History.{History, Write};
 ghost use Rattle.x7_regs.specs.Register.{number_of};
 ghost use Rattle.x7_regs.specs.declared.register.Reg.TheVariants as reg;
 ghost use Rattle.x7_flow.specs.HistoryFlow.{frame_fault};
-ghost use Rattle.x7_flow.specs.Standing.{AfterAccess, AnswersReads, FramesFit, FramesStandFor, HaveWordsDue, ForEachFrames, far_owing, words_due, written_to};
+ghost use Rattle.x7_flow.specs.Standing.{AfterAccess, AnswersReads, FramesFit, FramesStandFor, HaveWordsDue, ForEachHistoryOfFrames, far_owing, words_due, written_to};
 ghost use Rattle.x7_flow.specs.WordsTaken.{TakesWords, WordsTaken, words_to};
 
 mod saved;
@@ -74,8 +74,8 @@ impl Frames {
         part: &Part,
     ) -> Option<RunFault>
         requires part { FramesFit part.now self.old }
-        ensures stands { ForEachFrames part.now settings self.old (λ h. (place : ℕ) → AfterAccess part.now self.new h (written_to reg word place) result) }
-        ensures fault { ForEachFrames part.now settings self.old (λ h. result ≡ frame_fault part.now h (Write (number_of reg) word)) }
+        ensures stands { ForEachHistoryOfFrames part.now settings self.old (λ h. (place : ℕ) → AfterAccess part.now self.new h (written_to reg word place) result) }
+        ensures fault { ForEachHistoryOfFrames part.now settings self.old (λ h. result ≡ frame_fault part.now h (Write (number_of reg) word)) }
         ensures part { FramesFit part.now self.new }
     {
         take_written_word(
@@ -100,7 +100,7 @@ impl Frames {
         requires register { TakesWords reg }
         requires whole { AreWholeWords bytes.now }
         requires part { FramesFit part.now self.old }
-        ensures taken { (n : ℕ) → ForEachFrames part.now settings self.old (λ h. WordsTaken part.now self.new h (words_to reg n bytes.now) result) }
+        ensures taken { (n : ℕ) → ForEachHistoryOfFrames part.now settings self.old (λ h. WordsTaken part.now self.new h (words_to reg n bytes.now) result) }
         ensures within { result.0 ≤ length bytes.now / 4 }
         ensures part { FramesFit part.now self.new }
     {
@@ -119,7 +119,7 @@ impl Frames {
     ) -> (usize, Option<RunFault>)
         requires whole { AreWholeWords bytes.now }
         requires part { FramesFit part.now self.old }
-        ensures taken { (n : ℕ) → ForEachFrames part.now settings self.old (λ h. WordsTaken part.now self.new h (words_to reg.Fdri n bytes.now) result) }
+        ensures taken { (n : ℕ) → ForEachHistoryOfFrames part.now settings self.old (λ h. WordsTaken part.now self.new h (words_to reg.Fdri n bytes.now) result) }
         ensures within { result.0 ≤ length bytes.now / 4 }
         ensures part { FramesFit part.now self.new }
     {
@@ -138,7 +138,7 @@ impl Frames {
     ) -> (usize, Option<RunFault>)
         requires whole { AreWholeWords bytes.now }
         requires part { FramesFit part.now self.old }
-        ensures taken { (n : ℕ) → ForEachFrames part.now settings self.old (λ h. WordsTaken part.now self.new h (words_to reg.Mfwr n bytes.now) result) }
+        ensures taken { (n : ℕ) → ForEachHistoryOfFrames part.now settings self.old (λ h. WordsTaken part.now self.new h (words_to reg.Mfwr n bytes.now) result) }
         ensures within { result.0 ≤ length bytes.now / 4 }
         ensures part { FramesFit part.now self.new }
     {

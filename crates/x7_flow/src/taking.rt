@@ -3,7 +3,7 @@ ghost use Rattle.std.specs.Prelude.{◌≡◌, ◌/◌, ◌%◌, ◌≤◌, ℕ,
 ghost use Rattle.x7_words.specs.Word.{AreWholeWords};
 ghost use Rattle.x7_regs.specs.declared.register.Reg.TheVariants as reg;
 ghost use Rattle.x7_flow.specs.Settings.{AreSettingsAfter, takes_copies as takes_copies_by};
-ghost use Rattle.x7_flow.specs.WordsTaken.{ForEachTaking, WordsTaken, words_to};
+ghost use Rattle.x7_flow.specs.WordsTaken.{ForEachHistoryThatTakes, WordsTaken, words_to};
 ghost use Rattle.x7_packets.specs.History.{History};
 ghost use Rattle.x7_pipeline.specs.Pipeline.{AreOfPart};
 ghost use Rattle.x7_flow.specs.HistoryFlow.{Flow, asked_after, fault_by};
@@ -79,7 +79,7 @@ pub(crate) fn take_copies(
 ) -> (usize, Option<RunFault>)
     requires whole { AreWholeWords bytes.now }
     requires part { AreOfPart part.now pipeline.old memory.old }
-    ensures taken { (n : ℕ) → ForEachTaking part.now takes_copies_by pipeline.old memory.old
+    ensures taken { (n : ℕ) → ForEachHistoryThatTakes part.now takes_copies_by pipeline.old memory.old
         (λ h. WordsTaken part.now (frames_state pipeline.new memory.new) h (words_to reg.Mfwr n bytes.now) result) }
     ensures within { result.0 ≤ length bytes.now / 4 }
     ensures part { AreOfPart part.now pipeline.new memory.new }

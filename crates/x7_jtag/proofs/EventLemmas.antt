@@ -9,7 +9,7 @@ use Rattle.x7_jtag.specs.declared.state.State.{State}
 use Rattle.x7_jtag.specs.declared.state.State.TheVariants as state
 use Rattle.x7_jtag.specs.Events.{data_events, events_in, events_of, idle_events, update_events}
 use Rattle.x7_jtag.specs.Instruction.{instruction_of}
-use Rattle.x7_jtag.specs.Port.{Port, after_action, after_capture, after_clock, data_shifted, after_idle, new_port, port_after, queue_at_update, words_read_out, with_bit}
+use Rattle.x7_jtag.specs.Port.{Port, after_action, after_capture, after_clock, after_shift, after_idle, new_port, port_after, queue_at_update, words_read_out, with_bit}
 use Rattle.x7_jtag.specs.Queue.{QueueEvent, Byte, Queue, by_event, offered, queue_after}
 use Rattle.x7_jtag.specs.State.{PortClock}
 
@@ -37,7 +37,7 @@ captured_events part instruction.Jprogram p = refl
 captured_events part instruction.Jshutdown p = refl
 captured_events part instruction.Bypass p = refl
 
-shifted_events : (part : PartData) (i : Instruction) (p : Port) (tdi : Bool) → (data_shifted part i p tdi).queue ≡ fold (by_event (words_read_out part)) p.queue (data_events i p tdi)
+shifted_events : (part : PartData) (i : Instruction) (p : Port) (tdi : Bool) → (after_shift part i p tdi).queue ≡ fold (by_event (words_read_out part)) p.queue (data_events i p tdi)
 shifted_events part instruction.CfgIn p tdi = eighth (words_read_out part) p.queue (with_bit p.register tdi) (p.count == 7)
 shifted_events part instruction.CfgOut p tdi = refl
 shifted_events part instruction.Jstart p tdi = refl

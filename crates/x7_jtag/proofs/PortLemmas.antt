@@ -11,7 +11,7 @@ use Rattle.x7_jtag.specs.declared.instruction.Instruction.TheVariants as instruc
 use Rattle.x7_jtag.specs.declared.state.State.{State}
 use Rattle.x7_jtag.specs.declared.state.State.TheVariants as state
 use Rattle.x7_jtag.specs.Instruction.{instruction_of}
-use Rattle.x7_jtag.specs.Port.{Port, after_action, after_capture, after_clock, data_shifted, after_idle, new_port, port_after, queue_at_update, words_read_out, ir_status_with, ir_status, data_shown, register_shifted, shown_in, tdo_of, updated, with_bit}
+use Rattle.x7_jtag.specs.Port.{Port, after_action, after_capture, after_clock, after_shift, after_idle, new_port, port_after, queue_at_update, words_read_out, ir_status_with, ir_status, data_shown, register_shifted, shown_in, tdo_of, after_update, with_bit}
 use Rattle.x7_jtag.specs.Queue.{Queue, empty_queue, offered, shifted_out}
 use Rattle.x7_jtag.specs.State.{PortClock, next_of}
 use Rattle.x7_jtag.specs.Tap.{QueueStandsFor, QueueState, StandsForPort, TapState, TapStandsFor, TookOfGiven}
@@ -51,7 +51,7 @@ idles part k n d e p s is seven with q =
     })
 
 pub completes : (part : PartData) (k n : TapState) (d e : DeviceState) (p : Port) (tdi : Bool) (byte : ℕ) → StandsForPort part k d p → byte ≡ with_bit k.register tdi → true ≡ (k.count == 7) → n ≡ record k { register = byte; count = (k.count + 1) % 8; queue = n.queue }
-    → QueueStandsFor part n.queue e (offered (words_read_out part) p.queue byte) → StandsForPort part n e (data_shifted part instruction.CfgIn p tdi)
+    → QueueStandsFor part n.queue e (offered (words_read_out part) p.queue byte) → StandsForPort part n e (after_shift part instruction.CfgIn p tdi)
 completes part k n d e p tdi byte s is seven with q =
     let all : byte ≡ with_bit p.register tdi = is ∙ ap (λ (r : ℕ). with_bit r tdi) s.register_is in
     record {
@@ -64,7 +64,7 @@ completes part k n d e p tdi byte s is seven with q =
 
 -- JPROGRAM
 pub programs : (part : PartData) (k n : TapState) (d e : DeviceState) (p : Port) (i : Instruction) → StandsForPort part k d p → i ≡ instruction_of k.register → i ≡ instruction.Jprogram → n ≡ record k { instruction = i; count = 0; queue = n.queue }
-    → QueueStandsFor part n.queue e empty_queue → StandsForPort part n e (updated p)
+    → QueueStandsFor part n.queue e empty_queue → StandsForPort part n e (after_update p)
 programs part k n d e p i s is named with q =
     let all : i ≡ instruction_of p.register = is ∙ ap instruction_of s.register_is in
     record {
@@ -83,8 +83,8 @@ pub shows : (part : PartData) (k : TapState) (d : DeviceState) (p : Port) (s : S
 shows part k d p s b t is e = e ∙ ap (λ (x : State). shown_in part x p) (sym is ∙ t.state_is)
 
 -- Shift-DR under the instruction that the tap has
-pub shifts_under : (part : PartData) (k n : TapState) (d e : DeviceState) (p : Port) (tdi : Bool) (i : Instruction) → StandsForPort part k d p → k.instruction ≡ i → StandsForPort part n e (data_shifted part i p tdi) → StandsForPort part n e (data_shifted part p.instruction p tdi)
-shifts_under part k n d e p tdi i s is a = subst (λ (x : Instruction). StandsForPort part n e (data_shifted part x p tdi)) (sym is ∙ s.instruction_is) a
+pub shifts_under : (part : PartData) (k n : TapState) (d e : DeviceState) (p : Port) (tdi : Bool) (i : Instruction) → StandsForPort part k d p → k.instruction ≡ i → StandsForPort part n e (after_shift part i p tdi) → StandsForPort part n e (after_shift part p.instruction p tdi)
+shifts_under part k n d e p tdi i s is a = subst (λ (x : Instruction). StandsForPort part n e (after_shift part x p tdi)) (sym is ∙ s.instruction_is) a
 
 pub shown_under : (part : PartData) (k : TapState) (d : DeviceState) (p : Port) (i : Instruction) (b : Bool) → StandsForPort part k d p → k.instruction ≡ i → b ≡ data_shown part i p → b ≡ data_shown part p.instruction p
 shown_under part k d p i b s is e = e ∙ ap (λ (x : Instruction). data_shown part x p) (sym is ∙ s.instruction_is)
@@ -139,7 +139,7 @@ captured_state part instruction.Jprogram p = refl
 captured_state part instruction.Jshutdown p = refl
 captured_state part instruction.Bypass p = refl
 
-shifted_state : (part : PartData) (i : Instruction) (p : Port) (tdi : Bool) → (data_shifted part i p tdi).state ≡ p.state
+shifted_state : (part : PartData) (i : Instruction) (p : Port) (tdi : Bool) → (after_shift part i p tdi).state ≡ p.state
 shifted_state part instruction.Jstart p tdi = refl
 shifted_state part instruction.CfgOut p tdi = refl
 shifted_state part instruction.CfgIn p tdi = refl

@@ -8,7 +8,7 @@ use Rattle.x7_jtag.specs.declared.instruction.Instruction.TheVariants as instruc
 use Rattle.x7_jtag.specs.declared.state.State.{State}
 use Rattle.x7_jtag.specs.declared.state.State.TheVariants as state
 use Rattle.x7_jtag.specs.Instruction.{instruction_of}
-use Rattle.x7_jtag.specs.Port.{Port, after_action, after_clock, data_shifted, after_idle, after_capture, new_port, port_after, queue_at_update, words_read_out, with_bit}
+use Rattle.x7_jtag.specs.Port.{Port, after_action, after_clock, after_shift, after_idle, after_capture, new_port, port_after, queue_at_update, words_read_out, with_bit}
 use Rattle.x7_jtag.specs.Queue.{Queue, dropped, in_turn, most_bytes_held, offered, give_held, shifted_out, waits, queue_with_room}
 use Rattle.x7_jtag.specs.State.{PortClock}
 use Rattle.x7_jtag.proofs.QueueLemmas.{given_on, in_turns}
@@ -73,7 +73,7 @@ captured_size part instruction.Jprogram p = same_size p.queue
 captured_size part instruction.Jshutdown p = same_size p.queue
 captured_size part instruction.Bypass p = same_size p.queue
 
-data_size : (part : PartData) (i : Instruction) (p : Port) (tdi : Bool) → size (data_shifted part i p tdi).queue ≤ size p.queue + 1
+data_size : (part : PartData) (i : Instruction) (p : Port) (tdi : Bool) → size (after_shift part i p tdi).queue ≤ size p.queue + 1
 data_size part instruction.CfgIn p tdi = if_size (offered (words_read_out part) p.queue (with_bit p.register tdi)) p.queue (p.count == 7) (offered_size (words_read_out part) p.queue (with_bit p.register tdi))
 data_size part instruction.CfgOut p tdi = shifted_size (words_read_out part) p.queue
 data_size part instruction.Jstart p tdi = same_size p.queue

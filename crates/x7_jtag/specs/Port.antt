@@ -71,8 +71,8 @@ abbrev pub init_b_bit_value : ℕ
 init_b_bit_value = 16
 
 -- the two lowest bits of what Capture-IR loads: 01 (IEEE 1149.1)
-abbrev pub lowest_in_ir : ℕ
-lowest_in_ir = 1
+abbrev pub lowest_bits_of_ir : ℕ
+lowest_bits_of_ir = 1
 
 -- INIT_B in a word of STAT: bit 12
 abbrev pub init_b_of : ℕ → Bool
@@ -81,7 +81,7 @@ init_b_of stat = stat / 2 ^ 12 % 2 == 1
 -- what Capture-IR loads for these values of DONE and INIT_B: these two, the highest bit first, then ISC_ENABLED and
 -- ISC_DONE, which are 0 here (this project's choice), and 01 (UG470, instruction register)
 abbrev pub ir_status_with : Bool → Bool → ℕ
-ir_status_with done init_b = done_bit_value * number_of_bit done + init_b_bit_value * number_of_bit init_b + lowest_in_ir
+ir_status_with done init_b = done_bit_value * number_of_bit done + init_b_bit_value * number_of_bit init_b + lowest_bits_of_ir
 
 -- what Capture-IR loads for a device of the part to which these bytes were given
 abbrev pub ir_status : PartData → List ℕ → ℕ
@@ -97,49 +97,49 @@ startup_byte = 0xFF
 abbrev pub user_code : ℕ
 user_code = 0xFFFFFFFF
 
--- Run-Test/Idle: under JSTART each eighth clock offers a byte FF
+-- the port after a clock in Run-Test/Idle: under JSTART each eighth offers a byte FF
 abbrev pub after_idle : PartData → Instruction → Port → Port
 after_idle part instruction.Jstart p = record p { count = next_of_eight p.count; queue = if is_eighth p.count then offered (words_read_out part) p.queue startup_byte else p.queue }
 after_idle part _ p = p
 
--- Capture-DR: the register takes the idcode, the user code or 0; under CFG_IN the next bit is a byte's first
+-- the port after Capture-DR: the register takes the idcode, the user code or 0; under CFG_IN the next bit is a byte's first
 abbrev pub after_capture : PartData → Instruction → Port → Port
 after_capture part instruction.Idcode p = record p { register = part.idcode }
 after_capture part instruction.Usercode p = record p { register = user_code }
 after_capture part instruction.CfgIn p = record p { register = 0; count = 0 }
 after_capture part _ p = record p { register = 0 }
 
--- Shift-DR, one bit: under CFG_IN each eighth completes a byte, which is offered; under CFG_OUT one of the words read
+-- the port after one bit in Shift-DR: under CFG_IN each eighth completes a byte, which is offered; under CFG_OUT one of the words read
 -- out goes out; IDCODE and USERCODE shift the register of 32 bits, and any other instruction the one bit of bypass
-abbrev pub data_shifted : PartData → Instruction → Port → Bool → Port
-data_shifted part instruction.CfgIn p tdi = record p {
+abbrev pub after_shift : PartData → Instruction → Port → Bool → Port
+after_shift part instruction.CfgIn p tdi = record p {
   register = with_bit p.register tdi;
   count = next_of_eight p.count;
   queue = if is_eighth p.count then offered (words_read_out part) p.queue (with_bit p.register tdi) else p.queue;
 }
-data_shifted part instruction.CfgOut p tdi = record p { queue = shifted_out (words_read_out part) p.queue }
-data_shifted part instruction.Idcode p tdi = record p { register = register_shifted top_bit_of_word p.register tdi }
-data_shifted part instruction.Usercode p tdi = record p { register = register_shifted top_bit_of_word p.register tdi }
-data_shifted part _ p tdi = record p { register = register_shifted top_bit_of_bypass p.register tdi }
+after_shift part instruction.CfgOut p tdi = record p { queue = shifted_out (words_read_out part) p.queue }
+after_shift part instruction.Idcode p tdi = record p { register = register_shifted top_bit_of_word p.register tdi }
+after_shift part instruction.Usercode p tdi = record p { register = register_shifted top_bit_of_word p.register tdi }
+after_shift part _ p tdi = record p { register = register_shifted top_bit_of_bypass p.register tdi }
 
 -- what an instruction does as it comes: JPROGRAM resets the device
 abbrev pub queue_at_update : Instruction → Queue → Queue
 queue_at_update instruction.Jprogram q = empty_queue
 queue_at_update _ q = q
 
--- Update-IR: the register becomes the instruction
-abbrev pub updated : Port → Port
-updated p = record p { instruction = instruction_of p.register; count = 0; queue = queue_at_update (instruction_of p.register) p.queue }
+-- the port after Update-IR: the register becomes the instruction
+abbrev pub after_update : Port → Port
+after_update p = record p { instruction = instruction_of p.register; count = 0; queue = queue_at_update (instruction_of p.register) p.queue }
 
--- the action of a state
+-- the port after the action of a state
 abbrev pub after_action : PartData → State → Port → Bool → Port
 after_action part state.TestLogicReset p tdi = record p { instruction = instruction.Idcode }
 after_action part state.RunTestIdle p tdi = after_idle part p.instruction p
 after_action part state.CaptureDr p tdi = after_capture part p.instruction p
-after_action part state.ShiftDr p tdi = data_shifted part p.instruction p tdi
+after_action part state.ShiftDr p tdi = after_shift part p.instruction p tdi
 after_action part state.CaptureIr p tdi = record p { register = ir_status part p.queue.given }
 after_action part state.ShiftIr p tdi = record p { register = register_shifted top_bit_of_instruction p.register tdi }
-after_action part state.UpdateIr p tdi = updated p
+after_action part state.UpdateIr p tdi = after_update p
 after_action part _ p tdi = p
 
 -- ---- TDO
@@ -162,7 +162,7 @@ tdo_of part p = shown_in part p.state p
 
 -- ---- clocks
 
--- a clock: the action of the present state, and then the next state
+-- the port after a clock: the action of the present state, and then the next state
 abbrev pub after_clock : PartData → Port → PortClock → Port
 after_clock part p c = record (after_action part p.state p c.tdi) { state = next_of p.state c.tms }
 

@@ -4,7 +4,7 @@ ghost use Rattle.x7_words.specs.Word.{number_of_bit};
 ghost use Rattle.x7_part.specs.Part.{PartData};
 ghost use Rattle.x7_engine.specs.Kept.{on_the_bench};
 ghost use Rattle.x7_engine.specs.Standing.{DeviceStandsFor, DeviceState};
-ghost use Rattle.x7_jtag.specs.Port.{Port, after_action, after_capture, data_shifted, data_shown, after_idle, init_b_of, is_eighth, lowest_bit, next_of_eight, port_after, register_shifted as shifted_in, ir_status, ir_status_with, tdo_of, top_bit_of_word, updated, with_bit as with_bit_in};
+ghost use Rattle.x7_jtag.specs.Port.{Port, after_action, after_capture, after_shift, data_shown, after_idle, init_b_of, is_eighth, lowest_bit, next_of_eight, port_after, register_shifted as shifted_in, ir_status, ir_status_with, tdo_of, top_bit_of_word, after_update, with_bit as with_bit_in};
 ghost use Rattle.x7_jtag.specs.State.{PortClock};
 ghost use Rattle.x7_jtag.specs.declared.instruction.Instruction.TheVariants.{CfgIn};
 ghost use Rattle.x7_jtag.specs.Tap.{CanAllBeOffered, CanBeOffered, MakesClocks, PortBecomes, StandsForPort, TakesBytes, TapStandsFor, TookOfGiven, last_or};
@@ -22,19 +22,19 @@ const STARTUP_BYTE: u8 = 0xFF;
 /// The user code, which no stream sets here.
 const USER_CODE: u32 = 0xFFFF_FFFF;
 /// What the highest bit of a register of 32 bits is worth.
-const TOP_OF_WORD: u32 = 1 << 31;
+const TOP_BIT_OF_WORD: u32 = 1 << 31;
 /// What the highest bit of the instruction register, which has six, is worth.
-const TOP_OF_INSTRUCTION: u32 = 1 << 5;
+const TOP_BIT_OF_INSTRUCTION: u32 = 1 << 5;
 /// What the bit of the bypass register, which has one, is worth.
-const TOP_OF_BYPASS: u32 = 1;
+const TOP_BIT_OF_BYPASS: u32 = 1;
 /// What the highest bit of a byte is worth.
-const TOP_OF_BYTE: u32 = 1 << 7;
+const TOP_BIT_OF_BYTE: u32 = 1 << 7;
 /// What DONE is worth in what Capture-IR loads.
-const DONE_IN_IR: u32 = 1 << 5;
+const DONE_BIT_VALUE: u32 = 1 << 5;
 /// What INIT_B is worth in what Capture-IR loads.
-const INIT_B_IN_IR: u32 = 1 << 4;
+const INIT_B_BIT_VALUE: u32 = 1 << 4;
 /// The two lowest bits of what Capture-IR loads (IEEE 1149.1).
-const LOWEST_IN_IR: u32 = 1;
+const LOWEST_BITS_OF_IR: u32 = 1;
 /// The place of INIT_B in a word of STAT, from the lowest bit, 0.
 const INIT_B_AT: u32 = 12;
 
@@ -89,16 +89,16 @@ fn register_shifted(top: u32, register: u32, tdi: bool) -> u32
 fn with_bit(byte: u32, tdi: bool) -> u8
     ensures { result ≡ with_bit_in byte tdi }
 {
-    (byte % TOP_OF_BYTE * 2 + number_of_bit(tdi)) as u8
+    (byte % TOP_BIT_OF_BYTE * 2 + number_of_bit(tdi)) as u8
 }
 
 /// What Capture-IR loads for these values of DONE and STAT.
 fn ir_status_with(is_done: bool, stat: u32) -> u32
     ensures { result ≡ ir_status_with is_done (init_b_of stat) }
 {
-    DONE_IN_IR * number_of_bit(is_done)
-        + INIT_B_IN_IR * number_of_bit((stat >> INIT_B_AT) % 2 == 1)
-        + LOWEST_IN_IR
+    DONE_BIT_VALUE * number_of_bit(is_done)
+        + INIT_B_BIT_VALUE * number_of_bit((stat >> INIT_B_AT) % 2 == 1)
+        + LOWEST_BITS_OF_IR
 }
 
 /// What Capture-IR loads.
@@ -190,7 +190,7 @@ impl Tap {
     /// Shift-DR under CFG_IN: each eighth bit completes a byte, which is offered.
     fn shift_byte(&mut self, tdi: bool, device: &mut Device)
         requires { CanBeOffered device.old }
-        ensures port { PortBecomes self.old device.old self.new device.new (λ part p. data_shifted part CfgIn p tdi) }
+        ensures port { PortBecomes self.old device.old self.new device.new (λ part p. after_shift part CfgIn p tdi) }
     {
         let byte = with_bit(self.register, tdi);
         self.register = u32::from(byte);
@@ -234,7 +234,7 @@ impl Tap {
     /// Shift-DR: one bit through what the instruction selects. Gives TDO.
     fn shift(&mut self, tdi: bool, device: &mut Device) -> bool
         requires { CanBeOffered device.old }
-        ensures port { PortBecomes self.old device.old self.new device.new (λ part p. data_shifted part p.instruction p tdi) }
+        ensures port { PortBecomes self.old device.old self.new device.new (λ part p. after_shift part p.instruction p tdi) }
         ensures tdo { (part : PartData) (p : Port) → StandsForPort part self.old device.old p → result ≡ data_shown part p.instruction p }
     {
         match self.instruction {
@@ -243,15 +243,15 @@ impl Tap {
                 false
             }
             Instruction::CfgOut => self.queue.shift(device),
-            Instruction::Idcode => self.shift_register(TOP_OF_WORD, tdi),
-            Instruction::Usercode => self.shift_register(TOP_OF_WORD, tdi),
-            _ => self.shift_register(TOP_OF_BYPASS, tdi),
+            Instruction::Idcode => self.shift_register(TOP_BIT_OF_WORD, tdi),
+            Instruction::Usercode => self.shift_register(TOP_BIT_OF_WORD, tdi),
+            _ => self.shift_register(TOP_BIT_OF_BYPASS, tdi),
         }
     }
 
     /// Update-IR: the register becomes the instruction, and JPROGRAM resets the device.
     fn update(&mut self, device: &mut Device)
-        ensures port { PortBecomes self.old device.old self.new device.new (λ part p. updated p) }
+        ensures port { PortBecomes self.old device.old self.new device.new (λ part p. after_update p) }
     {
         self.instruction = instruction_of(self.register);
         self.count = 0;
@@ -285,7 +285,7 @@ impl Tap {
                 self.register = ir_status(device);
                 false
             }
-            State::ShiftIr => self.shift_register(TOP_OF_INSTRUCTION, tdi),
+            State::ShiftIr => self.shift_register(TOP_BIT_OF_INSTRUCTION, tdi),
             State::UpdateIr => {
                 self.update(device);
                 false

@@ -12,8 +12,8 @@ use Rattle.x7_boot.specs.declared.boots.BootEnd.{BootEnd}
 use Rattle.x7_boot.specs.declared.boots.Tried.{Tried}
 
 -- `Holds` is true of the part and the last attempt of a boot, whose device has no word due
-abbrev pub ForEachBoot : BootedState → (PartData → AttemptCourse → Type 0) → Type 0
-ForEachBoot boot Holds = (part : PartData) (last : AttemptCourse) → IsDeviceOf part boot.device last → NoWordDue boot.device → Holds part last
+abbrev pub ForLastAttemptOf : BootedState → (PartData → AttemptCourse → Type 0) → Type 0
+ForLastAttemptOf boot Holds = (part : PartData) (last : AttemptCourse) → IsDeviceOf part boot.device last → NoWordDue boot.device → Holds part last
 
 -- the whole text of a boot, by its last attempt
 unfoldable pub boot_text : PartData → List Tried → BootEnd → AttemptCourse → List ℕ

@@ -25,7 +25,7 @@ use Rattle.x7_boot.specs.declared.boots.BootEnd.{BootEnd}
 use Rattle.x7_boot.specs.declared.boots.BootEnd.TheVariants as boot_end
 use Rattle.x7_boot.specs.declared.fault.BootFault.{BootFault}
 use Rattle.x7_boot.specs.declared.fault.BootFault.TheVariants as fault
-use Rattle.x7_update.specs.Fault.{StreamFits, IsTooLong, NoLayoutAt}
+use Rattle.x7_update.specs.Fault.{CanBeUpdatedWith, IsTooLong, NoLayoutAt}
 use Rattle.x7_update.specs.Writing.{IsReadWrong}
 use Rattle.x7_update.specs.declared.fault.UpdateFault.{UpdateFault}
 use Rattle.x7_update.specs.declared.fault.UpdateFault.TheVariants as update_fault
@@ -318,7 +318,7 @@ IsUpdateFault bytes stream update_fault.NoMemory = ⊥
 -- the update of a flash of these bytes, where they are known, with the data of a stream
 abbrev pub UpdatesWith : UpdateNames → Option (List ℕ) → Result (List ℕ) Event → Result Answer Event → Type 0
 UpdatesWith names bytes (Err event) end = Err event ≡ end
-UpdatesWith names bytes (Ok stream) (Ok answer) = (answer ≡ no_text) × IfKnown bytes (StreamFits stream)
+UpdatesWith names bytes (Ok stream) (Ok answer) = (answer ≡ no_text) × IfKnown bytes (CanBeUpdatedWith stream)
 UpdatesWith names bytes (Ok stream) (Err event) = (fault : UpdateFault) × IsUpdateFault bytes stream fault × (update_event names fault ≡ event)
 
 -- the update of a flash of any size: one that is larger than a flash may be is refused before the stream is read

@@ -85,8 +85,8 @@ WritesFail None old new = ⊥
 WritesFail (Some stream) old new = WriteFails old new
 
 -- nothing that the form names failed or was missing, and neither the output nor a write of the flash failed
-abbrev pub IsQuiet : Option AskedForm → Outside → Outside → Type 0
-IsQuiet form old new =
+abbrev pub NothingFailed : Option AskedForm → Outside → Outside → Type 0
+NothingFailed form old new =
     ((name : List ℕ) → ¬ FormFails form old new name) × ((name : List ℕ) → ¬ FormLacks form old new name) × (¬ SinkFails old.out new.out) × (¬ WritesFail (updated_by form) old.flash new.flash)
 
 -- ---- the flash

@@ -27,7 +27,7 @@ pub use laws::{
 pub use machine::Machine;
 pub use packet_words::{
     BUS_WIDTH_DETECT, BUS_WIDTH_SYNC, DUMMY_WORD, NO_OP, NO_OP_KIND, SYNC_BYTES, SYNC_WORD,
-    TYPE1_COUNTS, TYPE1_READ_KIND, TYPE1_WRITE_KIND, TYPE2_COUNTS, TYPE2_READ_KIND,
+    TYPE1_COUNT_BOUND, TYPE1_READ_KIND, TYPE1_WRITE_KIND, TYPE2_COUNT_BOUND, TYPE2_READ_KIND,
     TYPE2_WRITE_KIND, command, frame_data_headers, frame_read_headers, kind_in, register_in,
     type1_count_in, type1_read_header, type1_write_header, type2_count_in, type2_read_header,
     type2_write_header, write_one,

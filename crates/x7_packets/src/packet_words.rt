@@ -40,10 +40,10 @@ pub const TYPE2_READ_KIND: u32 = 9;
 pub const TYPE2_WRITE_KIND: u32 = 10;
 
 /// How many word counts a type 1 header can say: each is below this.
-pub const TYPE1_COUNTS: u32 = 1 << 11;
+pub const TYPE1_COUNT_BOUND: u32 = 1 << 11;
 
 /// How many word counts a type 2 header can say: each is below this.
-pub const TYPE2_COUNTS: u32 = 1 << 27;
+pub const TYPE2_COUNT_BOUND: u32 = 1 << 27;
 
 /// How many bits of a header stand below its packet type.
 const BELOW_TYPE: u32 = 29;

@@ -20,7 +20,7 @@ use Rattle.x7_part.specs.Address.{IsRow}
 use Rattle.x7_part.specs.AddressOrder.{addresses}
 use Rattle.x7_part.specs.Values.{text, number_or, row_tables, row_of, settings_of, rows_in_file, part_data, part_with}
 use Rattle.x7_part.specs.declared.settings.PartSettings.{PartSettings}
-use Rattle.x7_part.specs.PartChecks.{fault_of_call, AnswersDue, unless, first_of, rows_fault, is_in, is_length_in, is_name, is_odd, is_start_unit, is_up_to, has_widths, row_range_fault, type_fault, other_fault, top_range_fault, range_fault}
+use Rattle.x7_part.specs.PartChecks.{fault_of_call, AnswersDue, unless, first_of, rows_fault, is_in, is_length_in, is_name, is_idcode, is_start_unit, is_up_to, has_widths, row_range_fault, type_fault, other_fault, top_range_fault, range_fault}
 use Rattle.x7_part.specs.Row.{same_row_fault, has_few_frames, frames_fault, sorted_rows}
 use Rattle.x7_part.specs.PartFile.{first_fault, part_in, part_of_table, part_unless, part_from}
 use Rattle.x7_part.proofs.FirstLemmas.{first_alone}
@@ -47,7 +47,7 @@ made t types others ranges apart frames =
     let each = nones (top_range_fault t ∷ rows_fault row_range_fault 1 tables ∷ []) ranges in
     let h = nones (
     unless (is_name name) (Range (top key.Name))
-    ∷ unless (is_odd (number_or 0 key.Idcode t)) (Range (top key.Idcode))
+    ∷ unless (is_idcode (number_or 0 key.Idcode t)) (Range (top key.Idcode))
     ∷ unless (is_up_to greatest_mode key.Mode t) (Range (top key.Mode))
     ∷ unless (is_up_to greatest_bus_width key.BusWidth t) (Range (top key.BusWidth))
     ∷ unless (is_up_to most_wait_ticks key.Lock t) (Range (top key.Lock))
@@ -59,7 +59,7 @@ made t types others ranges apart frames =
     ∷ []) each.0 in
     let named = name_in name (unless_none (is_name name) (Range (top key.Name)) h.0) in
     let long = long_in 1 most_name_size (length name) named.0 in
-    let idcode = odd_in (number_or 0 key.Idcode t) (unless_none (is_odd (number_or 0 key.Idcode t)) (Range (top key.Idcode)) h.1.0) in
+    let idcode = odd_in (number_or 0 key.Idcode t) (unless_none (is_idcode (number_or 0 key.Idcode t)) (Range (top key.Idcode)) h.1.0) in
     let lock = (in_range 0 most_wait_ticks _ (unless_none (is_up_to most_wait_ticks key.Lock t) (Range (top key.Lock)) h.1.1.1.1.0)).1 in
     let matched = (in_range 0 most_wait_ticks _ (unless_none (is_up_to most_wait_ticks key.Match t) (Range (top key.Match)) h.1.1.1.1.1.0)).1 in
     let widths = far_is t (unless_none (has_widths t) (Range (top key.Far)) h.1.1.1.1.1.1.1.0) in
@@ -159,7 +159,7 @@ few_rows t before =
     let tables = row_tables t in
     let h = nones (
     unless (is_name (text key.Name t)) (Range (top key.Name))
-    ∷ unless (is_odd (number_or 0 key.Idcode t)) (Range (top key.Idcode))
+    ∷ unless (is_idcode (number_or 0 key.Idcode t)) (Range (top key.Idcode))
     ∷ unless (is_up_to greatest_mode key.Mode t) (Range (top key.Mode))
     ∷ unless (is_up_to greatest_bus_width key.BusWidth t) (Range (top key.BusWidth))
     ∷ unless (is_up_to most_wait_ticks key.Lock t) (Range (top key.Lock))

@@ -15,7 +15,7 @@ use Rattle.x7_part.specs.Address.{IsRow, AreWidths}
 use Rattle.x7_part.specs.Values.{under, items_under, wholes, natural, row_of, widths_of}
 use Rattle.x7_part.specs.Part.{usual_widths}
 use Rattle.toml.specs.Data.{Data, Members, no_items, as_array}
-use Rattle.x7_part.specs.PartChecks.{unless, first_of, rows_fault, next_row_number, is_in, is_length_in, are_printed, is_name, is_odd, is_start_unit, are_in, are_minors, are_widths, has_widths, is_up_to, row_range_fault}
+use Rattle.x7_part.specs.PartChecks.{unless, first_of, rows_fault, next_row_number, is_in, is_length_in, are_printed, is_name, is_idcode, is_start_unit, are_in, are_minors, are_widths, has_widths, is_up_to, row_range_fault}
 use Rattle.x7_part.proofs.OrderLemmas.{unless_none, first_none}
 
 -- where no check finds a fault, none of them does
@@ -49,8 +49,8 @@ printed (b ∷ bs) e =
 is_one : (n : ℕ) → (n == 1) ≡ true → n ≡ 1
 is_one n e = elim (eqb_tells n 1) [ inl y ↦ y.1 | inr n' ↦ absurd (false≢true (sym n'.0 ∙ e)) ]
 
-pub odd_in : (z : ℤ) → is_odd z ≡ true → (natural z ≤ greatest_idcode) × (natural z % 2 ≡ 1)
-unfolding is_odd
+pub odd_in : (z : ℤ) → is_idcode z ≡ true → (natural z ≤ greatest_idcode) × (natural z % 2 ≡ 1)
+unfolding is_idcode
 odd_in z h =
     let p = and_parts (is_in 1 greatest_idcode z) (natural z % 2 == 1) h in ((in_range 1 greatest_idcode z p.0).1, is_one (natural z % 2) p.1)
 

@@ -121,8 +121,8 @@ unfoldable pub is_name : List ℕ → Bool
 is_name bs = is_length_in 1 most_name_size (length bs) && are_printed bs
 
 -- the number is odd, positive and below 2^32
-unfoldable pub is_odd : ℤ → Bool
-is_odd z = is_in 1 greatest_idcode z && (natural z % 2 == 1)
+unfoldable pub is_idcode : ℤ → Bool
+is_idcode z = is_in 1 greatest_idcode z && (natural z % 2 == 1)
 
 -- the number is 1 or 256: the bytes that one step of a start address may stand for
 unfoldable pub is_start_unit : ℤ → Bool
@@ -167,7 +167,7 @@ row_range_fault n t = first_of (
 unfoldable pub top_range_fault : Members → Option PartFault
 top_range_fault t = first_of (
     unless (is_name (text key.Name t)) (Range (top key.Name))
-    ∷ unless (is_odd (number_or 0 key.Idcode t)) (Range (top key.Idcode))
+    ∷ unless (is_idcode (number_or 0 key.Idcode t)) (Range (top key.Idcode))
     ∷ unless (is_up_to greatest_mode key.Mode t) (Range (top key.Mode))
     ∷ unless (is_up_to greatest_bus_width key.BusWidth t) (Range (top key.BusWidth))
     ∷ unless (is_up_to most_wait_ticks key.Lock t) (Range (top key.Lock))

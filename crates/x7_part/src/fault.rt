@@ -10,19 +10,33 @@ use thiserror::Error;
 /// A key of a part file, or any other.
 #[derive(Clone, Copy, Debug, Drop)]
 pub enum PartKey {
+    /// The part's name.
     Name,
+    /// What its IDCODE register reads as.
     Idcode,
+    /// The mode pins, as STAT shows them.
     Mode,
+    /// The width of the bus, as STAT shows it.
     BusWidth,
+    /// The ticks that startup waits for the clocks to lock.
     Lock,
+    /// The ticks that startup waits for the impedance to match.
     Match,
+    /// The words of a frame.
     FrameWords,
+    /// The widths of the five fields of a frame address.
     Far,
+    /// The bytes of a flash that a step of WBSTAR's start address stands for.
     StartUnit,
+    /// The rows; in a row, its row number.
     Row,
+    /// A row's block type.
     Block,
+    /// A row's half: 0 top, 1 bottom.
     Half,
+    /// The number of minors of each column of a row.
     Minors,
+    /// Any other key.
     Other,
 }
 
@@ -55,6 +69,7 @@ impl PartKey {
 pub struct Which {
     /// The number of the row that the key belongs to, from 1, none for a key of the top table.
     pub row: Option<u32>,
+    /// The key.
     pub key: PartKey,
 }
 

@@ -3,7 +3,7 @@ ghost use Rattle.std.specs.Prelude.{◌≡◌, ◌≤◌, [], ◌∷◌, map, le
 ghost use Rattle.toml.specs.View.{view, table_view, items_view};
 ghost use Rattle.x7_part.specs.Keys.{top};
 ghost use Rattle.x7_part.specs.Values.{items_under, natural, number_or, whole, wholes, widths_of};
-ghost use Rattle.x7_part.specs.PartChecks.{fault_of_call, AnswersDue, unless, is_in, is_up_to, is_length_in, are_printed, is_name, is_odd, is_start_unit, has_widths, are_widths, are_minors};
+ghost use Rattle.x7_part.specs.PartChecks.{fault_of_call, AnswersDue, unless, is_in, is_up_to, is_length_in, are_printed, is_name, is_idcode, is_start_unit, has_widths, are_widths, are_minors};
 ghost use Rattle.x7_part.specs.declared.fault.PartFault.TheVariants.{Range};
 ghost use Rattle.x7_part.specs.declared.fault.PartKey.TheVariants as key;
 
@@ -76,9 +76,9 @@ pub(crate) fn number_to(high: u32, table: &Table, at: Which) -> Result<u32, Part
 }
 
 /// The IDCODE of a top table, which is odd, positive and below 2^32; else the fault `Range`.
-#[tactic(auto, unfolding(crate::specs::PartChecks::is_odd))]
+#[tactic(auto, unfolding(crate::specs::PartChecks::is_idcode))]
 pub(crate) fn idcode_in(table: &Table) -> Result<u32, PartFault>
-    ensures fault { fault_of_call result ≡ unless (is_odd (number_or 0 key.Idcode (table_view table.now))) (Range (top key.Idcode)) }
+    ensures fault { fault_of_call result ≡ unless (is_idcode (number_or 0 key.Idcode (table_view table.now))) (Range (top key.Idcode)) }
     ensures value { IfOk result (λ n. n ≡ natural (number_or 0 key.Idcode (table_view table.now))) }
 {
     let at = top!(Idcode);

@@ -26,10 +26,10 @@ read_slot part base place = slice_index_or (Pad ∷ slots_from part base) (place
 unfoldable pub readback_at : PartData → ℕ → FrameMap → ℕ → ℕ
 readback_at part base memory place = word_at (read_slot part base place) memory (place % frame_words part)
 
--- the place from which on the endless list has zeros alone
+-- the place, among the words that a readback from the base gives, from which on they are zeros alone
 unfoldable pub readback_end : PartData → ℕ → ℕ
 readback_end part base = frame_words part * (1 + length (slots_from part base))
 
--- the count of words that a readback gave, as it is stored: a count above the limit is stored as the limit
+-- the count of words that a readback gave, as it is stored: at most `readback_end`, from which on all words are 0
 abbrev pub given_stored : PartData → ℕ → ℕ → ℕ
 given_stored part base given = min given (readback_end part base)

@@ -16,5 +16,5 @@ ctl0_mask_word = 2 ^ config_fallback + 2 ^ glutmask_b + 2 ^ gts_user_b
 
 -- CTL0 00000101: GLUTMASK_B, so that readback shows memories in logic, and GTS_USER_B, so that outputs are as startup
 -- says; a failed attempt falls back
-abbrev pub control : ℕ
-control = 2 ^ glutmask_b + 2 ^ gts_user_b
+abbrev pub ctl0_word : ℕ
+ctl0_word = 2 ^ glutmask_b + 2 ^ gts_user_b

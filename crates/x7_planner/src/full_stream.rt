@@ -15,7 +15,7 @@ ghost use Rattle.x7_planner.specs.declared.full_stream.NextPiece.{NextPiece};
 
 use crate::address::first_foreign;
 use crate::fault::PlanFault;
-use crate::settings::{CONTROL, CONTROL_MASK, STARTUP_OPTIONS};
+use crate::settings::{COR0_WORD, CTL0_MASK_WORD, CTL0_WORD};
 use crate::writer::{OPENING_WORDS, put_packets, put_words};
 use std::alloc::Global;
 use std::marker::Model;
@@ -80,9 +80,9 @@ fn put_settings(out: &mut Vec<u8>, part: &Part) -> Result<(), NoMemory>
         out,
         &[
             write_one(Reg::Idcode, part.idcode()),
-            write_one(Reg::Cor0, STARTUP_OPTIONS),
-            write_one(Reg::Mask, CONTROL_MASK),
-            write_one(Reg::Ctl0, CONTROL),
+            write_one(Reg::Cor0, COR0_WORD),
+            write_one(Reg::Mask, CTL0_MASK_WORD),
+            write_one(Reg::Ctl0, CTL0_WORD),
             command(Command::Wcfg),
             write_one(Reg::Far, first_address(part)),
             frame_data_headers(word_count),

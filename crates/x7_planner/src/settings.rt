@@ -7,7 +7,7 @@ use x7_regs::{
 };
 
 /// COR0 02003FE5: DONE rises in phase 4, GTS_CFG_B in phase 5 and GWE in phase 6, and startup waits for nothing.
-pub(crate) const STARTUP_OPTIONS: u32 = (1 << DONE_PIPE)
+pub(crate) const COR0_WORD: u32 = (1 << DONE_PIPE)
     + 3 * (1 << DONE_CYCLE)
     + 7 * (1 << MATCH_CYCLE)
     + 7 * (1 << LOCK_CYCLE)
@@ -15,7 +15,7 @@ pub(crate) const STARTUP_OPTIONS: u32 = (1 << DONE_PIPE)
     + 5 * (1 << GWE_CYCLE);
 
 /// MASK 00000501: the bits of CTL0 that a full stream writes.
-pub(crate) const CONTROL_MASK: u32 = (1 << CONFIG_FALLBACK) + CONTROL;
+pub(crate) const CTL0_MASK_WORD: u32 = (1 << CONFIG_FALLBACK) + CTL0_WORD;
 
 /// CTL0 00000101: readback shows memories in logic, the outputs are as startup says, and a failed attempt falls back.
-pub(crate) const CONTROL: u32 = (1 << GLUTMASK_B) + (1 << GTS_USER_B);
+pub(crate) const CTL0_WORD: u32 = (1 << GLUTMASK_B) + (1 << GTS_USER_B);

@@ -7,11 +7,11 @@
 use Rattle.std.specs.Prelude.{◌≡◌, ◌==◌, ℕ, ◌+◌, Bool, false, not, nat_lt, Option, Some, None, if◌then◌else◌}
 use Rattle.x7_startup.specs.Options.{done_cycle_of, gts_cycle_of, gwe_cycle_of}
 
--- DONE's phase by its code
+-- the phase in which DONE rises, by DONE_CYCLE
 abbrev pub done_phase : ℕ → ℕ
 done_phase code = if nat_lt code 6 then code + 1 else 6
 
--- the phase of GTS_CFG_B or GWE by its code, and by DONE's phase; none for a line that never rises
+-- the phase in which GTS_CFG_B or GWE rises, by DONE's phase and by GTS_CYCLE or GWE_CYCLE; none where it never does
 abbrev pub line_phase : ℕ → ℕ → Option ℕ
 line_phase done code = if nat_lt code 6 then Some (code + 1) else if code == 6 then Some done else None
 

@@ -1,5 +1,5 @@
--- What stands between two turns: of a listing that is written, and of a text that is
--- read while it comes (this project's choice).
+-- What stands between two turns of `list`: what was written of a listing, and what the lister keeps (this project's
+-- choice).
 use Rattle.std.specs.Prelude.{◌≡◌, ◌⊎◌, ◌≤◌, ◌++◌, ℕ, List, [], Option, Ok, length, ◌+◌}
 use Rattle.x7_words.specs.Sink.{PutsPrefix, SinkFails, SinkState, appended}
 use Rattle.x7_words.specs.Word.{AreBytes}

@@ -27,7 +27,7 @@ use crate::words::{
 };
 
 /// The most bits of a scan.
-const MOST_BITS: u32 = 1 << 29;
+const MOST_SCAN_BITS: u32 = 1 << 29;
 
 /// Whether a token that a text begins with is a bracket, or a word without 0D.
 fn is_free_token(token: NextToken, text: &[u8]) -> bool
@@ -196,7 +196,7 @@ fn scan_count(source: &mut Source) -> Option<u32>
     let NextToken::Word(length) = next_within(source)? else {
         return None;
     };
-    let count = number_within(&source.rest()[..length], MOST_BITS)?;
+    let count = number_within(&source.rest()[..length], MOST_SCAN_BITS)?;
     source.skip(length);
     if count == 0 {
         return None;

@@ -11,7 +11,7 @@ use crate::span::Span;
 use crate::stored::StoredStatement;
 
 /// The most clocks of a run: 2^24.
-const MOST_CLOCKS: u32 = 16_777_216;
+const MOST_RUN_CLOCKS: u32 = 16_777_216;
 
 /// Whether a word is a keyword, in either case.
 pub(crate) fn is_keyword(word: &[u8], key: &[u8]) -> bool
@@ -91,7 +91,7 @@ pub(crate) fn is_free_word(word: &[u8]) -> bool
 fn run_for(digits: &[u8]) -> Option<StoredStatement>
     ensures { IsStored [] result (run_by (number_within most_run_clocks digits.now)) }
 {
-    let count = number_within(digits, MOST_CLOCKS)?;
+    let count = number_within(digits, MOST_RUN_CLOCKS)?;
     Some(StoredStatement::Run(count))
 }
 

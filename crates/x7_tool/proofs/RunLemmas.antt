@@ -23,7 +23,7 @@ use Rattle.x7_forms.specs.Step.{Among}
 use Rattle.x7_outcome.specs.Ahead.{StaysNear}
 use Rattle.x7_outcome.specs.Leaving.{UpdateLeaves}
 use Rattle.x7_outcome.specs.Outcome.{AssembledAs, FormGives, IsOutcome, mcs_image, text_limit}
-use Rattle.x7_outcome.specs.Outside.{CameInRun, IsQuiet, UsesFlashAs, Outside, known_in, sources}
+use Rattle.x7_outcome.specs.Outside.{CameInRun, NothingFailed, UsesFlashAs, Outside, known_in, sources}
 use Rattle.x7_tool.specs.Promise.{Promise}
 use Rattle.x7_outcome.specs.Ending.{GivesIfKnown, AnswersForm, AnswersOver, CausedBy, EndIsCaused, CommandEnds, CommandEndsAs, FailsLast, GetsPrefixOfKnown, GetsPrefixOfText, IsMeasured, JudgesFlash, OutputAfterFailure, PutsAnswer}
 use Rattle.x7_tool.specs.Runs.{SaysEnd}
@@ -42,12 +42,12 @@ want_is event e = ap status_of_event e
 -- ---- where contents are known and nothing failed
 
 -- no mishap came
-never_came : (form : AskedForm) (old new : Outside) (m : Mishap) → IsQuiet (Some form) old new → CameInRun (Some form) old new m → ⊥
+never_came : (form : AskedForm) (old new : Outside) (m : Mishap) → NothingFailed (Some form) old new → CameInRun (Some form) old new m → ⊥
 never_came form old new (Failing name given) q h = q.0 name h.1
 never_came form old new (Lacking name) q h = q.1 name h
 
 -- an event of a form is want of memory or the outcome
-event_by : (known : Known) (form : AskedForm) (old new : Outside) (event : Event) (cause : ReasonCause) → known_in old ≡ Some known → IsQuiet (Some form) old new
+event_by : (known : Known) (form : AskedForm) (old new : Outside) (event : Event) (cause : ReasonCause) → known_in old ≡ Some known → NothingFailed (Some form) old new
     → CausedBy cause form old new event → (event ≡ no_memory) ⊎ FormGives known form (Err event)
 event_by known form old new event Wording k q h = absurd h
 event_by known form old new event Want k q h = inl h
@@ -60,7 +60,7 @@ event_by known form old new event Contents k q h = inr (rw k at h)
 
 -- the end is the outcome or want of memory
 outcome_is : (form : Option AskedForm) (old new : Outside) (s : Status) (end : Result Answer Event) → s ≡ final_status end → EndIsCaused form old new end
-    → (known : Known) → known_in old ≡ Some known → IsQuiet form old new → (s ≡ status.NoMemory) ⊎ IsOutcome known form end
+    → (known : Known) → known_in old ≡ Some known → NothingFailed form old new → (s ≡ status.NoMemory) ⊎ IsOutcome known form end
 outcome_is None old new s end e h known k q = inr (sym h)
 outcome_is (Some form) old new s (Ok answer) e h known k q = inr (rw k at h)
 outcome_is (Some form) old new s (Err event) e h known k q = by (event_by known form old new event (cause_of_event event) k q h)
@@ -96,7 +96,7 @@ leads_back : (s : Status) (form : AskedForm) (known : Known) (end goal_end : Res
 leads_back s form known end goal_end (inl n) back = inl n
 leads_back s form known end goal_end (inr h) back = inr (back h)
 
-form_back : (form : AskedForm) (old new : Outside) (s : Status) (end : Result Answer Event) → ((known : Known) → known_in old ≡ Some known → IsQuiet (Some form) old new → (s ≡ status.NoMemory) ⊎ IsOutcome known (Some form) end) → TextsLeadBack (Some form) old new s end
+form_back : (form : AskedForm) (old new : Outside) (s : Status) (end : Result Answer Event) → ((known : Known) → known_in old ≡ Some known → NothingFailed (Some form) old new → (s ≡ status.NoMemory) ⊎ IsOutcome known (Some form) end) → TextsLeadBack (Some form) old new s end
 form_back (Assembling name) old new s end outcome = λ bytes text fits short listed has quiet.
     let known : Known = known_of has.0 old.flash.bytes in
     let is : known_in old ≡ Some known = ap (λ (i : Option (List ℕ → Option (List ℕ))). with_inputs i old.flash.bytes) has.1.0 in
@@ -111,7 +111,7 @@ form_back (FromMcs name) old new s end outcome = λ bytes fits short has quiet.
     (λ h. mcs_back name (mcs_text bytes) bytes end (text_gives bytes fits short) (sym (ap (λ (r : Result (List ℕ) Event). and_so r (λ text. mcs_image name (mcs_of text))) whole) ∙ h))
 form_back form old new s end outcome = tt
 
-back_is : (form : Option AskedForm) (old new : Outside) (s : Status) (end : Result Answer Event) → ((known : Known) → known_in old ≡ Some known → IsQuiet form old new → (s ≡ status.NoMemory) ⊎ IsOutcome known form end) → TextsLeadBack form old new s end
+back_is : (form : Option AskedForm) (old new : Outside) (s : Status) (end : Result Answer Event) → ((known : Known) → known_in old ≡ Some known → NothingFailed form old new → (s ≡ status.NoMemory) ⊎ IsOutcome known form end) → TextsLeadBack form old new s end
 back_is None old new s end outcome = tt
 back_is (Some form) old new s end outcome = form_back form old new s end outcome
 
@@ -152,7 +152,7 @@ pub record RanAs (form : Option AskedForm) (old new : Outside) (s : Status) : Ty
 -- how a command ended is what its run comes to
 pub runs : (form : Option AskedForm) (old new : Outside) (s : Status) → RanAs form old new s → UsesFlashAs (flash_use form) old.flash new.flash → Runs form old new s
 runs form old new s r f =
-    let outcome : (known : Known) → known_in old ≡ Some known → IsQuiet form old new → (s ≡ status.NoMemory) ⊎ IsOutcome known form r.end = outcome_is form old new s r.end r.ends_as r.ends.cause in
+    let outcome : (known : Known) → known_in old ≡ Some known → NothingFailed form old new → (s ≡ status.NoMemory) ⊎ IsOutcome known form r.end = outcome_is form old new s r.end r.ends_as r.ends.cause in
     record {
       end = r.end;
       ends_as = r.ends_as;

@@ -17,7 +17,7 @@ use Rattle.x7_forms.specs.Step.{result_by}
 use Rattle.x7_outcome.specs.Ahead.{StaysNear}
 use Rattle.x7_outcome.specs.Leaving.{UpdateLeaves}
 use Rattle.x7_outcome.specs.Outcome.{IsOutcome}
-use Rattle.x7_outcome.specs.Outside.{IsQuiet, UsesFlashAs, Outside, known_in, sources}
+use Rattle.x7_outcome.specs.Outside.{NothingFailed, UsesFlashAs, Outside, known_in, sources}
 use Rattle.x7_tool.specs.Promise.{Promise}
 use Rattle.x7_outcome.specs.Stopping.{StopsReading}
 use Rattle.x7_outcome.specs.Ending.{EndIsCaused, FailsLast, IsMeasured, JudgesFlash, OutputGets}
@@ -44,13 +44,13 @@ LeadsBack s end bytes = (s ≡ status.NoMemory) ⊎ (end ≡ Ok (record { stoppe
 abbrev pub ListingAssembles : List ℕ → Outside → Outside → Status → Result Answer Event → Type 0
 ListingAssembles name old new s end =
     (bytes text : List ℕ) → AreBytes bytes → length bytes ≤ stream_limit → stream_listing bytes ≡ Ok text
-    → HasText old name text → IsQuiet (Some (Assembling name)) old new → LeadsBack s end bytes
+    → HasText old name text → NothingFailed (Some (Assembling name)) old new → LeadsBack s end bytes
 
 -- where nothing failed, the Intel HEX text of an image gives the image
 abbrev pub GivesImage : List ℕ → Outside → Outside → Status → Result Answer Event → Type 0
 GivesImage name old new s end =
     (bytes : List ℕ) → AreBytes bytes → length bytes ≤ flash_limit
-    → HasText old name (mcs_text bytes) → IsQuiet (Some (FromMcs name)) old new → LeadsBack s end bytes
+    → HasText old name (mcs_text bytes) → NothingFailed (Some (FromMcs name)) old new → LeadsBack s end bytes
 
 -- what the text of `asm` or `unmcs` was made from comes back: of a listing the stream, of an Intel HEX text the image
 abbrev pub TextsLeadBack : Option AskedForm → Outside → Outside → Status → Result Answer Event → Type 0
@@ -74,7 +74,7 @@ pub record Runs (form : Option AskedForm) (old new : Outside) (s : Status) : Typ
   -- large, memory is wanting, or its header is refused
   pub near : StaysNear s form old new
   -- where all that the form needs is known and nothing failed, the end is the outcome, or want of memory
-  pub outcome : (known : Known) → known_in old ≡ Some known → IsQuiet form old new → (s ≡ status.NoMemory) ⊎ IsOutcome known form end
+  pub outcome : (known : Known) → known_in old ≡ Some known → NothingFailed form old new → (s ≡ status.NoMemory) ⊎ IsOutcome known form end
   -- words without a form are a wrong usage
   pub no_form : form ≡ None → s ≡ status.Usage
   -- a text that equals the listing of a stream, or the Intel HEX of an image, leads back to that: of `asm`, of `unmcs`

@@ -6,7 +6,7 @@ use Rattle.x7_words.proofs.CountLemmas.{risen_from}
 use Rattle.x7_words.proofs.FlashLemmas.{get_or_slice_range}
 use Rattle.x7_packets.specs.FlashSlot.{flash_slot_size, flash_slot_count}
 use Rattle.x7_update.specs.Layout.{CanStandAt, IsUpdatableSize, IsOpen, open_switch, switch_size}
-use Rattle.x7_update.specs.Fault.{StreamFits, HasCause, UntouchedForWant}
+use Rattle.x7_update.specs.Fault.{CanBeUpdatedWith, HasCause, UntouchedForWant}
 use Rattle.x7_update.specs.Writing.{BecomesBytes, HasLateCause, HasWanted, IsWritten, IsWrong, SeesWanted, in_stream, in_switch, wanted_at}
 use Rattle.x7_update.specs.declared.fault.UpdateFault.{UpdateFault}
 use Rattle.x7_update.specs.declared.fault.UpdateFault.TheVariants.{Differs, Failed, NoLayout, NoMemory, TooLong}
@@ -118,7 +118,7 @@ fails_since stream a b c (Ok _) r w e h = tt
 fails_since stream a b c (Err fault) r w e h = fails_before stream a b c fault r w e h
 
 -- why an update is refused whose end fails, of a flash that can take the stream
-pub end_refused : (stream : List ℕ) (old new : FlashState) (result : Result (Unit {0}) UpdateFault) → IsUpdatableSize new.extent → IfKnown old.bytes (StreamFits stream) → IfErr result (HasLateCause stream old new) → IfErr result (HasCause stream old new)
+pub end_refused : (stream : List ℕ) (old new : FlashState) (result : Result (Unit {0}) UpdateFault) → IsUpdatableSize new.extent → IfKnown old.bytes (CanBeUpdatedWith stream) → IfErr result (HasLateCause stream old new) → IfErr result (HasCause stream old new)
 end_refused stream old new (Ok _) sized can h = tt
 end_refused stream old new (Err (Differs at wrote read)) sized can h = h
 end_refused stream old new (Err (Failed true)) sized can h = (h, sized, can)

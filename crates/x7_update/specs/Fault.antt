@@ -56,7 +56,7 @@ pub record IsTooLong (stream flash : List ℕ) : Type 0 where
   pub passes : length flash < update_place flash + length stream
 
 -- a flash can be updated, and the stream fits in it
-pub record StreamFits (stream flash : List ℕ) : Type 0 where
+pub record CanBeUpdatedWith (stream flash : List ℕ) : Type 0 where
   pub updatable : IsUpdatable flash
   pub fits : update_place flash + length stream ≤ length flash
 
@@ -64,7 +64,7 @@ pub record StreamFits (stream flash : List ℕ) : Type 0 where
 abbrev pub HasCause : List ℕ → FlashState → FlashState → UpdateFault → Type 0
 -- a write failed: its count has risen, the flash's size is good, and known bytes were written only where the flash can
 -- be updated and the stream fits
-HasCause stream old new (Failed true) = WriteFails old new × IsUpdatableSize new.extent × IfKnown old.bytes (StreamFits stream)
+HasCause stream old new (Failed true) = WriteFails old new × IsUpdatableSize new.extent × IfKnown old.bytes (CanBeUpdatedWith stream)
 -- a read failed: its count has risen, and the flash's size is good
 HasCause stream old new (Failed false) = FlashFails old new × IsUpdatableSize new.extent
 -- a flash whose bytes are known can be updated, and the stream doesn't fit in it

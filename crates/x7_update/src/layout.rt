@@ -18,7 +18,7 @@ pub(crate) const FREE_SWITCH: [u8; 4] = [0xFF; 4];
 pub(crate) const SPENT_SWITCH: [u8; 4] = [0; 4];
 
 /// Where in a slot its start address stands, in bytes from the slot's first.
-pub(crate) const START_PLACE: usize = 12;
+pub(crate) const START_WORD_OFFSET: usize = 12;
 
 /// The four bytes of the first sector from a place on.
 pub(crate) fn four_at(first_sector: &[u8], place: usize) -> [u8; 4]
@@ -39,7 +39,7 @@ pub(crate) fn first_slot(first_sector: &[u8]) -> [u8; 32]
     requires { start_word_offset + 4 ≤ length first_sector.now }
     ensures { result ≡ first_slot first_sector.now }
 {
-    flash_slot(OPEN_SWITCH, four_at(first_sector, START_PLACE))
+    flash_slot(OPEN_SWITCH, four_at(first_sector, START_WORD_OFFSET))
 }
 
 /// Whether a flash of this size, in bytes, can be updated.

@@ -10,7 +10,8 @@ ghost use Rattle.x7_update.specs.declared.fault.UpdateFault.TheVariants.{NoMemor
 
 use crate::fault::UpdateFault;
 use crate::layout::{
-    FREE_SWITCH, OPEN_SWITCH, START_PLACE, SWITCH_SIZE, can_stand, first_slot, four_at, has_size,
+    FREE_SWITCH, OPEN_SWITCH, START_WORD_OFFSET, SWITCH_SIZE, can_stand, first_slot, four_at,
+    has_size,
 };
 use x7_packets::{FLASH_SLOT_COUNT, FLASH_SLOT_SIZE};
 use x7_words::{Flash, is_same, word_of};
@@ -113,9 +114,9 @@ fn target_of(first_sector: &[u8], size: u64) -> Result<UpdateTarget, u64>
     if let Some(place) = slot_difference(first_sector, &wanted, 0) {
         return Err(place);
     }
-    let place = u64::from(word_of(four_at(first_sector, START_PLACE)));
+    let place = u64::from(word_of(four_at(first_sector, START_WORD_OFFSET)));
     if !can_stand(place, size) {
-        return Err(START_PLACE as u64);
+        return Err(START_WORD_OFFSET as u64);
     }
     let slots = look_at_slots(first_sector, &wanted)?;
     // The last slot isn't free.

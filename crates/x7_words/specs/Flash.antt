@@ -58,7 +58,7 @@ IfKnown (Some bytes) P = P bytes
 abbrev pub ExtentIsLength : FlashState → Type 0
 ExtentIsLength state = IfKnown state.bytes (λ all. state.extent ≡ length all)
 
--- each byte that is known is a byte
+-- where a flash's contents are known, each of their numbers is a byte
 abbrev pub KnownAreBytes : FlashState → Type 0
 KnownAreBytes state = IfKnown state.bytes AreBytes
 

@@ -15,7 +15,7 @@ ghost use Rattle.x7_text.specs.Reads.{AppendsIfRead, StaysWithin};
 ghost use Rattle.x7_text.specs.Row.{bytes_row_size};
 
 use x7_packets::{
-    NO_OP, SYNC_WORD, TYPE1_COUNTS, TYPE2_COUNTS, type1_read_header, type1_write_header,
+    NO_OP, SYNC_WORD, TYPE1_COUNT_BOUND, TYPE2_COUNT_BOUND, type1_read_header, type1_write_header,
     type2_read_header, type2_write_header,
 };
 use x7_regs::{Reg, command_named, reg_named};
@@ -58,7 +58,7 @@ pub(crate) fn type1_fields_at(text: &[u8], space: usize) -> Option<(u8, u32)>
     let Some(register) = reg_named(&text[..space]) else {
         return None;
     };
-    let Some(count) = decimal_below(&text[space + 1..], TYPE1_COUNTS) else {
+    let Some(count) = decimal_below(&text[space + 1..], TYPE1_COUNT_BOUND) else {
         return None;
     };
     Some((register, count))
@@ -111,7 +111,7 @@ fn command_word(name: &[u8]) -> Option<u32>
 fn write2_of(digits: &[u8]) -> Option<u32>
     ensures { IsWordOf (λ n. n < type2_count_bound) decimal type2_write_header digits.now result }
 {
-    let Some(count) = decimal_below(digits, TYPE2_COUNTS) else {
+    let Some(count) = decimal_below(digits, TYPE2_COUNT_BOUND) else {
         return None;
     };
     Some(type2_write_header(count))
@@ -121,7 +121,7 @@ fn write2_of(digits: &[u8]) -> Option<u32>
 fn read2_of(digits: &[u8]) -> Option<u32>
     ensures { IsWordOf (λ n. n < type2_count_bound) decimal type2_read_header digits.now result }
 {
-    let Some(count) = decimal_below(digits, TYPE2_COUNTS) else {
+    let Some(count) = decimal_below(digits, TYPE2_COUNT_BOUND) else {
         return None;
     };
     Some(type2_read_header(count))

@@ -7,7 +7,7 @@ use Rattle.x7_part.specs.Slot.{slots_in}
 use Rattle.x7_regs.specs.declared.command.Command.TheVariants.{Rcrc, Shutdown, Wcfg}
 use Rattle.x7_regs.specs.declared.register.Reg.TheVariants.{Cor0, Ctl0, Far, Idcode, Mask}
 use Rattle.x7_packets.specs.PacketWords.{command, frame_data_headers, no_op, write_one}
-use Rattle.x7_planner.specs.Settings.{control, ctl0_mask_word, cor0_word}
+use Rattle.x7_planner.specs.Settings.{ctl0_word, ctl0_mask_word, cor0_word}
 use Rattle.x7_planner.specs.FullStreamPieces.{settings_size}
 use Rattle.x7_planner.specs.Writer.{bytes_of_words}
 use Rattle.x7_planner.proofs.SlotLemmas.{and_packet, last_packet, packets_written, written_on}
@@ -22,7 +22,7 @@ returns-clause-appends c =
     let waited = c.put_words.new.out.items in
     let new = c.put_packets-2.new.out.items in
     let settings : List (List ℕ) =
-    write_one Idcode part.idcode ∷ write_one Cor0 cor0_word ∷ write_one Mask ctl0_mask_word ∷ write_one Ctl0 control ∷ command Wcfg ∷ write_one Far (get_or (addresses_in part) 0 0) ∷ frame_data_headers (frame_words part * length (slots_in part)) ∷ [] in
+    write_one Idcode part.idcode ∷ write_one Cor0 cor0_word ∷ write_one Mask ctl0_mask_word ∷ write_one Ctl0 ctl0_word ∷ command Wcfg ∷ write_one Far (get_or (addresses_in part) 0 0) ∷ frame_data_headers (frame_words part * length (slots_in part)) ∷ [] in
     let named : _ ≡ settings =
     and_packet (c.write_one.ensures ∙ ap (λ (i : ℕ). write_one Idcode i) c.idcode.ensures.value)
     (and_packet c.write_one-2.ensures

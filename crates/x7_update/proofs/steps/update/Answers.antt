@@ -5,7 +5,7 @@ use Rattle.x7_words.specs.Word.{AreBytes}
 use Rattle.x7_update.specs.After.{IsBetweenSlots, MayBeLeft, untouched}
 use Rattle.x7_update.specs.Layout.{CanStandAt, IsUpdatable, IsUpdatableSize, HasNoOpenSlot, IsFree}
 use Rattle.x7_update.specs.Verified.{OpensVerified, IsVerified, WasReady}
-use Rattle.x7_update.specs.Fault.{StreamFits, IsTooLong}
+use Rattle.x7_update.specs.Fault.{CanBeUpdatedWith, IsTooLong}
 use Rattle.x7_update.specs.Slots.{IsTargetIn, TargetFits}
 use Rattle.x7_update.specs.Writing.{HasWanted, OpeningSlot, UpdateReplaced, ReplacingUpdate, StaysBytes}
 use Rattle.x7_update.specs.declared.fault.UpdateFault.TheVariants.{Failed, TooLong}
@@ -54,8 +54,8 @@ returns-in-Err-clause-refused g c =
     let found = c.in_ok-target.ensures.found in
     let read = c.find_target.ensures.only_reads in
     let size : then.extent ≡ first.extent = c.replace.ensures.writes.only.extent ∙ read.extent in
-    let can : IfKnown first.bytes (StreamFits stream) =
-    known_map first.bytes (λ all. IsTargetIn (length all) all target) (StreamFits stream)
+    let can : IfKnown first.bytes (CanBeUpdatedWith stream) =
+    known_map first.bytes (λ all. IsTargetIn (length all) all target) (CanBeUpdatedWith stream)
     (λ all e finds.
     let long : first.extent ≡ length all = known_at first.bytes (λ all. first.extent ≡ length all) (g.met.F.Flash.counted c.args.flash.now) all e in
     record { updatable = record { size = finds.sized; slots = finds.has }; fits = omega (arith, long, finds.update, read.extent, c.size.ensures.extent, found.fits.place.most, c.if-stream-size.false) })
@@ -78,8 +78,8 @@ returns-clause-refused g c =
     let read = c.find_target.ensures.only_reads in
     let wrote = c.replace.ensures.writes.only in
     let size : last.extent ≡ first.extent = c.verify_and_open.ensures.only_uses.extent ∙ wrote.extent ∙ read.extent in
-    let can : IfKnown first.bytes (StreamFits stream) =
-    known_map first.bytes (λ all. IsTargetIn (length all) all target) (StreamFits stream)
+    let can : IfKnown first.bytes (CanBeUpdatedWith stream) =
+    known_map first.bytes (λ all. IsTargetIn (length all) all target) (CanBeUpdatedWith stream)
     (λ all e finds.
     let long : first.extent ≡ length all = known_at first.bytes (λ all. first.extent ≡ length all) (g.met.F.Flash.counted c.args.flash.now) all e in
     record { updatable = record { size = finds.sized; slots = finds.has }; fits = omega (arith, long, finds.update, read.extent, c.size.ensures.extent, fits.place.most, c.if-stream-size.false) })
