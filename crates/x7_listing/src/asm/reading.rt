@@ -48,6 +48,7 @@ fn space_in(text: &[u8]) -> Option<usize>
 
 /// The register's number and the word count of `NAME N`, where a space stands after the name at this place. `None` for
 /// any other text whose first space stands there, and where no space does.
+#[inline(always)]
 pub(crate) fn type1_fields_at(text: &[u8], space: usize) -> Option<(u8, u32)>
     ensures { MatchOption result (IsFirstSpace text.now space → (a : ℕ × ℕ) → IsType1 a → text.now ≢ type1_text a)
         (λ a. IsType1 (a.0, a.1) × (text.now ≡ type1_text (a.0, a.1))) }
