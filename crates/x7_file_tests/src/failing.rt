@@ -229,7 +229,7 @@ fn answers_over(
     Some((answers, kept.len(), *kept.first_chunk()?))
 }
 
-/// The same of a path that no other test has.
+/// What a flash over files that fail so answers at a path that no other test has, as `answers_over` says.
 fn answers_where(rt: &HostRuntime, failing: Failing) -> Option<(Answers, usize, [u8; 2])> {
     let path = path_of(rt, "failing")?;
     answers_over(rt, failing, path.as_path().as_str())

@@ -143,7 +143,7 @@ fn found_around(
     Some([late, early, trimmed, lower, no_file, gone])
 }
 
-/// The same of a file with a space at the end of its name.
+/// What `found_around` finds about a file with a space at the end of its name.
 fn found_by_names(rt: &HostRuntime) -> Option<[(Reads, Bytes); 6]> {
     let path = path_of(rt, "name ")?;
     let below = path.join(rt.alloc(), "one").ok()?;
@@ -190,7 +190,7 @@ fn reads_of_a_cut_file<R: Files>(rt: &R, name: &str) -> Option<[Option<[u8; 3]>;
     ])
 }
 
-/// The same of a new file.
+/// The reads of a new file that is cut, as `reads_of_a_cut_file` has them.
 fn reads_of_a_new_file(rt: &HostRuntime) -> Option<[Option<[u8; 3]>; 3]> {
     let path = path_of(rt, "shrunk")?;
     reads_of_a_cut_file(rt, path.as_path().as_str())
@@ -237,7 +237,8 @@ fn written(rt: &HostRuntime, name: &str) -> Option<([u8; 5], Vec<u8>)> {
     }
 }
 
-/// The same, and whether the file is then what it was up to the program, and erased after it.
+/// The bytes that are read of a file that was written as a flash, and whether the file is then what it was up to the
+/// program, and erased after it.
 fn written_file(rt: &HostRuntime) -> Option<([u8; 5], bool)> {
     let path = path_of(rt, "written")?;
     let (found, kept) = written(rt, path.as_path().as_str())?;

@@ -42,7 +42,7 @@ fn copied_and_cleared(alloc: Global, part: &Part, memory: &mut Memory) -> Option
     ))
 }
 
-/// The same of a new memory.
+/// What `copied_and_cleared` says of a new memory.
 fn copied(alloc: Global) -> Option<(bool, bool)> {
     let Ok(part) = part_of(alloc, PART.as_bytes()) else {
         return None;

@@ -61,7 +61,7 @@ fn first_of(alloc: Global, inputs: &mut MemoryInputs, gap: &[u8]) -> Option<(boo
     Some((is_so, packets.taken()))
 }
 
-/// The same of an input that holds the stream.
+/// What `first_of` says of an input that holds the stream.
 fn first_run(alloc: Global, stream: &[u8], gap: &[u8]) -> Option<(bool, u64)> {
     let mut inputs = MemoryInputs::new(alloc);
     match inputs.put("stream", stream) {

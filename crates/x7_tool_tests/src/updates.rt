@@ -161,7 +161,7 @@ fn updated_twice(rt: &HostRuntime, name: &str) -> Option<(Answer, (Answer, bool)
     Some((answer, updated_in_memory(rt.alloc(), &bytes)?))
 }
 
-/// The same of a path that no other test has.
+/// What `updated_twice` says of a path that no other test has.
 fn file_and_memory(rt: &HostRuntime) -> Option<(Answer, (Answer, bool))> {
     let path = path_of(rt, "updated")?;
     updated_twice(rt, path.as_path().as_str())
@@ -187,7 +187,7 @@ fn updated_by_link(rt: &HostRuntime, name: &str, link: &str) -> Option<([Answer;
     Some(([linked, gone, no_file], have_all(&bytes, &[(32, &OPEN)])))
 }
 
-/// The same of paths that no other test has.
+/// What `updated_by_link` says of paths that no other test has.
 fn links(rt: &HostRuntime) -> Option<([Answer; 3], bool)> {
     let path = path_of(rt, "linked")?;
     let link = path_of(rt, "link")?;
@@ -216,7 +216,7 @@ fn changed(rt: &HostRuntime, name: &str, bytes: &[u8], pieces: &[(usize, &[u8])]
     Some((answer, left.len(), have_all(&left, pieces)))
 }
 
-/// The same where the bytes are five.
+/// What `changed` leaves of a file that is cut to five bytes.
 fn shrunk(rt: &HostRuntime) -> Option<Left> {
     let path = path_of(rt, "shrank")?;
     changed(rt, path.as_path().as_str(), b"short", &[(0, b"short")])
@@ -227,7 +227,7 @@ fn a_file_that_shrank_cannot_be_read(rt: HostRuntime) {
     assert!(rt; shrunk(&rt) == Some((Err(UpdateFault::Failed { writing: false }), 5, true)));
 }
 
-/// The same where the bytes are the image and five more.
+/// What `changed` leaves of a file that grows by five bytes.
 fn grown(rt: &HostRuntime) -> Option<Left> {
     let path = path_of(rt, "grew")?;
     let mut all = image(rt.alloc())?;
