@@ -17,7 +17,7 @@ use Rattle.x7_engine.specs.declared.stop.StopCause.{StopCause}
 use Rattle.x7_engine.specs.declared.stop.StopCause.TheVariants as stop
 use Rattle.x7_engine.specs.ReadBuffer.{ReadBufState, gathered, with_words}
 use Rattle.x7_engine.specs.Readout.{RegistersGaveWords, GotAllBut, DeviceGaveWords}
-use Rattle.x7_engine.specs.Past.{AnswersAt, past_of}
+use Rattle.x7_engine.specs.Past.{HasPast, Past, stop_at, AnswersAt, past_of}
 use Rattle.x7_engine.specs.Standing.{DeviceStandsFor, DeviceState, NoWordDue, RegistersStandFor, RegistersState, due_count, answer_at_stop, frames_among, frames_due, taken_in, reads_given, words_still_due}
 use Rattle.x7_engine.specs.State.{first_stop_of_bytes, history_taken, reads_of}
 use Rattle.x7_engine.specs.Stop.{Stopped, stop_at_place}
@@ -120,6 +120,14 @@ answers_stop part kept wrapped d bytes read stop.Iprog at s e = (s.stop_is ∙ a
 pub stopped_here : (part : PartData) (kept : Kept) (wrapped : Bool) (d : DeviceState) (bytes : List ℕ) → DeviceStandsFor part kept wrapped d bytes
     → is_some (first_stop_of_bytes part kept bytes) ≡ true → is_some d.registers.stop ≡ true
 stopped_here part kept wrapped d bytes s e = sym (same (length bytes) d.registers.stop) ∙ ap (λ (o : Option Stopped). is_some o) (sym s.stop_is) ∙ e
+  where
+    same : (n : ℕ) (o : Option StopCause) → is_some (stop_at_place n o) ≡ is_some o
+    same n None = refl
+    same n (Some why) = refl
+
+-- the bytes of a device that stopped have a stop
+pub has_stop : (d : DeviceState) (p : Past) → HasPast d p → is_some d.registers.stop ≡ true → is_some (stop_at p) ≡ true
+has_stop d p s e = ap (λ (o : Option Stopped). is_some o) s.stop_is ∙ (same (length p.bytes) d.registers.stop ∙ e)
   where
     same : (n : ℕ) (o : Option StopCause) → is_some (stop_at_place n o) ≡ is_some o
     same n None = refl

@@ -1,5 +1,5 @@
 //! Laws of the definitions, for the proofs of crates above.
-ghost use Rattle.std.specs.Prelude.{◌≡◌, ◌+◌, ◌-◌, ◌<◌, ◌≤◌, ◌++◌, ◌↔◌, ℕ, Bool, IsTrue, List, [], None, Some, false, length, true};
+ghost use Rattle.std.specs.Prelude.{◌≡◌, ◌+◌, ◌-◌, ◌<◌, ◌≤◌, ◌++◌, ◌↔◌, ℕ, Bool, IsSome, IsTrue, List, [], None, Some, false, length, true};
 ghost use Rattle.x7_words.specs.Word.{AreBytes};
 ghost use Rattle.x7_packets.specs.Gap.{AreAlike};
 ghost use Rattle.x7_packets.specs.History.{Access, AllFit, History, Placed, history_of};
@@ -16,10 +16,10 @@ ghost use Rattle.x7_engine.specs.FirstStop.{IsFirstStop, why_at_byte};
 ghost use Rattle.x7_flow.specs.Controls.{masked_register, same_idcode};
 ghost use Rattle.x7_flow.specs.Standing.{word_to};
 ghost use Rattle.x7_engine.specs.Registers.{HasMaskedBits, cor0_held, has_ghigh, clears_check, is_pending, takes_shutdown};
-ghost use Rattle.x7_engine.specs.Past.{HasStoppedBefore, IsBootAttempt, ForEachPast, Past, StandsBefore, cause_in, due_at, history_at, later, memory_at, reads_at, state_at, stop_at, taken_at, reads_given_at};
+ghost use Rattle.x7_engine.specs.Past.{HasPast, HasStoppedBefore, IsBootAttempt, ForEachPast, Past, StandsBefore, cause_in, due_at, history_at, later, memory_at, reads_at, state_at, stop_at, taken_at, reads_given_at};
 ghost use Rattle.x7_engine.specs.Rest.{AtRest, LastGapGoesOn};
 ghost use Rattle.x7_engine.specs.Sequence.{StartupBegins, HasGhigh, IsPending};
-ghost use Rattle.x7_engine.specs.Standing.{DeviceState, NoWordDue};
+ghost use Rattle.x7_engine.specs.Standing.{DeviceState, HasStopped, NoWordDue};
 ghost use Rattle.x7_engine.specs.Startup.{phase_of, startup_progress};
 ghost use Rattle.x7_engine.specs.State.{memory_in, reads_of, state_of, first_stop_of_bytes, bootsts_in};
 ghost use Rattle.x7_engine.specs.Stop.{Stopped, why_at_access};
@@ -38,6 +38,12 @@ pub fn stops_are_final()
     ensures state { (p : Past) (more : List ℕ) (s : Stopped) → HasStoppedBefore p more s → state_at (later p more) ≡ state_at p }
     ensures reads { (p : Past) (more : List ℕ) (s : Stopped) → HasStoppedBefore p more s → reads_at (later p more) ≡ reads_at p }
     ensures memory { (p : Past) (more : List ℕ) (s : Stopped) → HasStoppedBefore p more s → memory_at (later p more) ≡ memory_at p }
+{}
+
+/// A device that something stopped has a first stop in the bytes of each of its pasts; so what `feed` says of such a
+/// past (`stopped`) holds of each device that has stopped, as each has a past (`Device::past_exists`).
+pub fn stopped_devices_have_a_stop()
+    ensures { (d : DeviceState) (p : Past) → HasPast d p → HasStopped d → IsSome (stop_at p) }
 {}
 
 /// Each bit of a register under MASK is that of the last word written to it while MASK had that bit.

@@ -30,8 +30,8 @@ pub use kept::{Kept, ON_THE_BENCH, is_fallback};
 pub use laws::{
     alike_bytes_do_alike, checks_before_startup, controls_take_masked_bits, fallbacks_do_alike,
     fallbacks_wait_for_the_sync_word, phases_are_the_greatest_begun, reads_are_given_or_due,
-    reads_grow, rest_lasts, shutdowns_and_ghigh, startup_begins, stops_are_final, stops_are_first,
-    watchdog_fires, wraps_show_in_bootsts,
+    reads_grow, rest_lasts, shutdowns_and_ghigh, startup_begins, stopped_devices_have_a_stop,
+    stops_are_final, stops_are_first, watchdog_fires, wraps_show_in_bootsts,
 };
 pub use read_buffer::ReadBuf;
 pub use regs::{End, Regs};
