@@ -4,7 +4,8 @@ from x7device import Device
 from x7formats import CALLED, CMD, CODES, REGISTERS, SYNC, Refused, payload, read_file, steps, stream_alone
 from x7parts import is_7_series
 
-ConfigFallback = 1 << 10
+# The bit of CTL0 that forbids a fallback (UG470, control register 0: ConfigFallback).
+CONFIG_FALLBACK = 1 << 10
 
 # What may stand before the first RCRC of a golden stream to which each failed update falls back (x7_recovery,
 # specs/Clean).
@@ -13,25 +14,30 @@ LEAD, LEAD_COMMANDS = {"WBSTAR", "TIMER", "BSPI"}, {CODES["NULL"], CODES["BSPI_R
 
 class Asked:
     """What the data of a stream ask of a device: its IDCODEs, its commands, its checks and the words of CTL0. `wrong`
-    says why it isn't whole, or nothing."""
+    says why it is for no 7-series device, or isn't whole, or nothing."""
 
     def __init__(self, stream):
         self.stream, self.device = stream, Device()
         self.device.play(stream.data)
         written = self.device.written
         self.idcodes = [it.word for it in written if it.register == "IDCODE"]
-        self.commands = [it.word for it in written if it.register == "CMD"]
+        self.commands = [it.word for it in self.device.commands]
         self.checks = sum(it.register == "CRC" for it in written)
         self.ctl0s = [it.word for it in written if it.register == "CTL0"]
         self.cor0 = self.device.registers["COR0"]
         self.has_frames, self.reads = bool(self.device.frames), self.device.reads
-        self.wrong = self.why_wrong()
+        self.wrong = self.why_foreign() or self.why_not_whole()
 
     def sets(self, register):
         """Whether it writes a register."""
         return any(it.register == register for it in self.device.written)
 
-    def why_wrong(self):
+    def why_foreign(self):
+        """Why the stream is for no 7-series device, by an IDCODE that it writes, or nothing."""
+        foreign = [it for it in self.idcodes if not is_7_series(it)]
+        return f"{foreign[0]:08X} is the IDCODE of no 7-series device" if foreign else ""
+
+    def why_not_whole(self):
         """Why the stream isn't whole, or nothing."""
         header, data = self.stream
         end = self.device.end
@@ -39,8 +45,6 @@ class Asked:
             return f"its header tells of {header.length} bytes of data, and it has {len(data)}"
         if SYNC not in data:
             return f"it has no sync word AA995566: it is no stream ({CALLED}turn knows packed and swapped ones)"
-        if any(not is_7_series(it) for it in self.idcodes):
-            return f"{self.idcodes[0]:08X} is the IDCODE of no 7-series device"
         if end == ["synced"]:
             return "its session doesn't end: no DESYNC, so it is cut off or lacks its end"
         if end[0] != "fault":

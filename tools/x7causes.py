@@ -1,6 +1,5 @@
 """What `why` says of streams, and of the report of their play, boot or SVF text: causes, each with its place, remedy
 and section."""
-import os
 import re
 from collections import namedtuple
 
@@ -9,10 +8,9 @@ import x7kinds
 from x7device import MOST_READS, Device
 from x7frames import FRAME_FAULTS
 from x7layout import SECTOR, begins_with_slots
-from x7parts import DEVICE_BITS, family_of, idcode_of_name, is_7_series, name_of_idcode, SSI
+from x7parts import DEVICE_BITS, SSI, family_of, idcode_of_name, is_7_series, name_of_idcode
+from x7subject import LOCKED, MATCHED
 
-# bits of STAT: MMCM_LOCK, the clocks are locked, and DCI_MATCH, the impedance is matched
-LOCKED, MATCHED = 1 << 2, 1 << 3
 # the first bytes of a file that are looked at before all of it
 LOOK_BYTES = 65536
 # a write to FDRI of fewer words than this isn't searched for packets: no frame fits in it
@@ -24,93 +22,19 @@ PACKET_BYTES = 9
 AGAIN = "take the file again; where it goes through a cable or a processor, compare the number of bytes that arrive"
 # The section of the page BOARD by which `why` tells whether nothing is wrong with a stream but that it starts nothing.
 PARTIAL_SECTION = "A partial stream on a device that isn't configured"
+# The section on a device that has started, and a board that doesn't run.
+STARTED_SECTION = "Phase 7, and the board doesn't run"
 
-Cause = namedtuple("Cause", "cause remedy section after source")
-
-
-def cause(text, remedy, section, after=None, source=None):
-    """A cause: its text, the remedy, the section of the page BOARD, the place after its last byte in the data of all
-    streams, or the stream that it is one of."""
-    return Cause(text, remedy, section, after, source)
-
-
-class Source:
-    """A stream, or the listing of one, and where its data begin in those of all."""
-
-    def __init__(self, path, stream, is_listing, first):
-        self.path, self.header, self.data, self.is_listing, self.first = path, stream.header, stream.data, is_listing, first
-        self.name = os.path.basename(path)
-
-    @property
-    def header_count(self):
-        """How many bytes of data the header tells of, or none without a header."""
-        return self.header.length if self.header else None
-
-    @property
-    def lost(self):
-        """How many bytes fewer there are than the header tells of; below 0 where there are more; 0 without a header."""
-        return self.header_count - len(self.data) if self.header else 0
-
-    @property
-    def part(self):
-        """The part that the header names, or nothing."""
-        return x7.text_of(self.header.part) if self.header else ""
-
-
-Fate = namedtuple("Fate", "end taken phase gts gwe ghigh registers")
-
-
-class Subject:
-    """What is asked about: the streams, what they do to a device, and the report, where there is one."""
-
-    def __init__(self, sources, report, part):
-        self.sources, self.report, self.part = sources, report, part
-        self.data = sources[0].data if len(sources) == 1 else b"".join(it.data for it in sources)
-        self.is_play = report is not None and not report.attempts and report.svf is None
-        known = part.idcode if part else report.registers.get("IDCODE") if report else None
-        self.device = Device(known, part.lock if part else 0, part.match if part else 0).play(self.data)
-        self.fate = self.fate_of(report) if report else self.fate_of_device()
-
-    def fate_of(self, report):
-        """What a report says of the device; a register that it lacks counts as 0."""
-        registers = {**dict.fromkeys(("COR0", "CTL0", "TIMER", "STAT", "WBSTAR"), 0), **report.registers}
-        ghigh = registers["STAT"] >> 7 & 1
-        return Fate(report.end, report.taken, report.phase, report.gts, report.gwe, ghigh, registers)
-
-    def fate_of_device(self):
-        """What the streams do to a device without frames."""
-        it = self.device
-        return Fate(it.end, it.taken, it.phase, it.gts, it.gwe, int(it.ghigh), {**it.registers, "STAT": LOCKED | MATCHED})
-
-    def source_at(self, after):
-        """The stream that the byte before a place stands in, or none."""
-        return next((it for it in self.sources if it.first < after <= it.first + len(it.data)), None)
-
-    def has(self, name):
-        """Whether a command was executed."""
-        return any(it.register == "CMD" and it.word == name for it in self.device.written)
-
-    def place(self, after):
-        """A place as a text: the byte, the line of the listing, and the header of its packet."""
-        source = self.source_at(after)
-        if source is None:
-            return f"byte {after} of the data of all streams, which isn't in these"
-        at = after - source.first
-        found = x7.listed_line_at(source.path, at) if source.is_listing else x7.line_at(source, at)
-        several = len(self.sources) > 1
-        text = f"byte {at} of the data{f' of {source.name}' if several else ''}"
-        if found is None:
-            return text
-        number, line, head = found
-        return f"{text}, line {number} of {'its' if several else 'the'} listing: '{line[:60]}'" + (f", of '{head}'" if head else "")
-
+# A cause: its text, the remedy, the section of the page BOARD, the place after its last byte in the data of all streams,
+# and the stream that it is one of.
+Cause = namedtuple("Cause", "cause remedy section after source", defaults=(None, None))
 
 # ---- a file without a sync word, or of another family
 
 
 def unsynced(text, remedy, source):
     """A cause by which a file has no sync word."""
-    return cause(text, remedy, "No sync word", None, source)
+    return Cause(text, remedy, "No sync word", None, source)
 
 
 def of_kind(source):
@@ -176,29 +100,27 @@ def of_header(source):
     family = family_of(source.part)
     if not family:
         return None
-    text = f"the stream is for a {source.part} by its header, which is a {family}, and no 7-series device"
+    text = f"by its header the stream is for the part {source.part}, of the family {family}, and for no 7-series device"
     remedy = "x7 reads streams of 7-series devices: Spartan-7, Artix-7, Kintex-7, Virtex-7, Zynq-7000"
-    return cause(text, remedy, "A stream for another device", None, source)
+    return Cause(text, remedy, "A stream for another device", None, source)
 
 
 def of_family(source):
     """The cause where the IDCODE is another family's, or none."""
-    words = idcodes_of(source)
-    if words and not is_7_series(words[0][1]) and idcode_of_name(source.part) is None:
-        text = f"the stream is for the IDCODE {words[0][1]:08X}, which is one of no 7-series device: other families have other frames"
-        after = source.first + words[0][0]
-        return cause(text, "give a stream of a 7-series device", "A stream for another device", after, source)
+    after, idcode = first_idcode(source)
+    if idcode is not None and not is_7_series(idcode) and idcode_of_name(source.part) is None:
+        text = f"the stream is for the IDCODE {idcode:08X}, which is one of no 7-series device: other families have other frames"
+        return Cause(text, "give a stream of a 7-series device", "A stream for another device", after, source)
     return None
 
 
-def idcodes_of(source):
-    """The IDCODEs that a stream writes, each with the place after it."""
-    found = []
+def first_idcode(source):
+    """The place after the first IDCODE that a stream writes, in the data of all streams, and that IDCODE; or none and
+    none."""
     for step in x7.steps(source.data):
         if step.kind == "write" and step.register == x7.IDCODE and step.present:
-            found.append((step.first + 4, x7.word_at(source.data, step.first)))
-            break
-    return found
+            return source.first + step.first + 4, x7.word_at(source.data, step.first)
+    return None, None
 
 
 # ---- whether report and streams belong together
@@ -219,7 +141,7 @@ def ends_otherwise(report, device):
 def of_others(what):
     """The cause where a report is of other streams."""
     again = "x7 play PART STREAM.. > REPORT, and give all of its streams in their order"
-    return cause(f"the report is of other streams than these: it {what}", again, None)
+    return Cause(f"the report is of other streams than these: it {what}", again, None)
 
 
 def of_belonging(subject):
@@ -279,7 +201,7 @@ def swallowed(source, step, begins):
             f"the packet '{head}' takes packets after the frames for frames: its count is {-(-missing // 4)} words too large: "
             "the count is damaged, or the header's length is another file's"
         )
-        return cause(text, "take the file again", "Lost words", place, source)
+        return Cause(text, "take the file again", "Lost words", place, source)
     if missing <= 0:
         return None
     more = f" (its header tells of {source.lost} bytes more than there are)" if source.lost > 0 else ""
@@ -287,7 +209,7 @@ def swallowed(source, step, begins):
         f"{missing} bytes were lost among the frame data of '{head}'{more}: it takes the packets after them for frames, so "
         "check, START or DESYNC are missing"
     )
-    return cause(text, AGAIN, "Lost words", place, source)
+    return Cause(text, AGAIN, "Lost words", place, source)
 
 
 def of_early_end(subject):
@@ -302,7 +224,7 @@ def of_early_end(subject):
                         f"DESYNC comes too early: the {len(source.data) - after} bytes after it, packets among them, are not "
                         "taken: another command was damaged into it"
                     )
-                    return cause(text, "take the file again", "A stream that ends early", source.first + after, source)
+                    return Cause(text, "take the file again", "A stream that ends early", source.first + after, source)
             if step.kind == "write" and x7.ends_session(source.data, step):
                 after = step.end
     return None
@@ -318,7 +240,7 @@ def of_large_counts(subject):
                     f"'{x7.head_line(step)}' asks for more words than there can be: words were lost or added before it, or the "
                     "word itself is damaged"
                 )
-                return cause(text, AGAIN, "Lost words", source.first + step.first, source)
+                return Cause(text, AGAIN, "Lost words", source.first + step.first, source)
             if step.kind == "bad":
                 break
     return None
@@ -332,50 +254,64 @@ def is_text_mode(source):
 
 # ---- faults
 
+# What is said of a fault that its own words tell, in which `count` is the watchdog's number of bytes: the text, the remedy and
+# the section.
+TOLD = {
+    "Crc": (
+        "a check fails (INIT_B goes low): the words before it have {0}, the stream says {1}; one of them, or the check, is "
+        "damaged or lost",
+        "take the file again from where it was made, and compare the listings with diff; in a listing that was edited on "
+        "purpose, put a line 'crc' in place of each 'write CRC 1' and its data",
+        "A check fails",
+    ),
+    "Encrypted": ("the stream is encrypted, which x7 doesn't read", "write it without encryption", "Further faults"),
+    "Watchdog": (
+        "the watchdog fires: startup hasn't ended {count} bytes after the write to TIMER",
+        "give TIMER a larger number, or write LTIMER now and then",
+        "The watchdog",
+    ),
+    "Address": (
+        FRAME_FAULTS["Address"].format(far="{0}", part="the part file"),
+        "the part file lacks a column or a row, or is another device's; or the address is damaged: compare with a good copy",
+        "Further faults",
+    ),
+    "Overrun": (
+        FRAME_FAULTS["Overrun"].format(after="", part="the part file"),
+        "the part file lacks columns or rows, or is another device's",
+        "Further faults",
+    ),
+}
+
 
 def of_fault(subject):
     """The cause of a fault."""
-    kind, words = subject.fate.end[1], subject.fate.end[2:]
-    after = subject.fate.taken
+    kind, words, after = subject.fate.end[1], subject.fate.end[2:], subject.fate.taken
     source = subject.source_at(after) or subject.sources[-1]
-    take = {
-        "Crc": of_check, "Id": of_idcode, "Packet": of_packet, "Encrypted": of_encryption, "Watchdog": of_watchdog,
-        "Address": of_address, "Overrun": of_overrun, "Multi": of_copy,
-    }
-    return take[kind](subject, source, words, after)
+    if kind == "Id":
+        return of_idcode(source, words, after)
+    if kind == "Packet":
+        return of_packet(source, words[0], after)
+    if kind == "Multi":
+        return of_copy(subject, source, after)
+    text, remedy, section = TOLD[kind]
+    count = 4 * (subject.fate.registers["TIMER"] & 0x3FFFFFFF)
+    return Cause(text.format(*words, count=count), remedy, section, after, source)
 
 
-def of_check(subject, source, words, after):
-    """The cause of a fault Crc."""
-    return cause(
-        f"a check fails (INIT_B goes low): the words before it have {words[0]}, the stream says {words[1]}; one of them, or the "
-        "check, is damaged or lost",
-        "take the file again from where it was made, and compare the listings with diff; in a listing that was edited on "
-        "purpose, put a line 'crc' in place of each 'write CRC 1' and its data",
-        "A check fails", after, source,
-    )
-
-
-def of_idcode(subject, source, words, after):
+def of_idcode(source, words, after):
     """The cause of a fault Id."""
     section = "A stream for another device"
     if words[1] == "00000000":
-        return cause(
-            "frames, or START, come before any IDCODE", "the beginning of the stream is missing: take the file again", section, after,
-            source,
-        )
+        remedy = "the beginning of the stream is missing: take the file again"
+        return Cause("frames, or START, come before any IDCODE", remedy, section, after, source)
     want, got = int(words[0], 16), int(words[1], 16)
     text = f"the stream is for a device with IDCODE {words[1]}{named(got)}, this one has {words[0]}{named(want)}"
     by_header = idcode_of_name(source.part)
     if by_header is not None and not (by_header ^ want) & DEVICE_BITS:
-        return cause(
-            f"{text}; or the word is damaged: its header is for {source.part}, which is this one",
-            "take the file again; compare it with a good copy", section, after, source,
-        )
-    return cause(
-        text, "choose the device that is on the board, or the part file of the device that the stream is for", section, after,
-        source,
-    )
+        more = f"; or the word is damaged: its header is for {source.part}, which is this one"
+        return Cause(text + more, "take the file again; compare it with a good copy", section, after, source)
+    remedy = "choose the device that is on the board, or the part file of the device that the stream is for"
+    return Cause(text, remedy, section, after, source)
 
 
 def named(idcode):
@@ -384,63 +320,27 @@ def named(idcode):
     return f" ({name})" if name else ""
 
 
-def of_packet(subject, source, words, after):
+def of_packet(source, word, after):
     """The cause of a fault Packet."""
+    stands = f"{word} stands where a packet's header should: "
     if is_text_mode(source):
-        return cause(
-            f"{words[0]} stands where a packet's header should: the file went through a transfer as text, which puts 0D "
-            "before each 0A",
-            "take the file again, as binary", "Lost words", after, source,
-        )
-    return cause(
-        f"{words[0]} stands where a packet's header should: words were lost or added before it, or the word itself is damaged",
-        AGAIN, "Lost words", after, source,
-    )
+        text = f"{stands}the file went through a transfer as text, which puts 0D before each 0A"
+        return Cause(text, "take the file again, as binary", "Lost words", after, source)
+    text = f"{stands}words were lost or added before it, or the word itself is damaged"
+    return Cause(text, AGAIN, "Lost words", after, source)
 
 
-def of_encryption(subject, source, words, after):
-    """The cause of a fault Encrypted."""
-    return cause("the stream is encrypted, which x7 doesn't read", "write it without encryption", "Further faults", after, source)
-
-
-def of_watchdog(subject, source, words, after):
-    """The cause of a fault Watchdog."""
-    count = 4 * (subject.fate.registers["TIMER"] & 0x3FFFFFFF)
-    return cause(
-        f"the watchdog fires: startup hasn't ended {count} bytes after the write to TIMER",
-        "give TIMER a larger number, or write LTIMER now and then", "The watchdog", after, source,
-    )
-
-
-def of_address(subject, source, words, after):
-    """The cause of a fault Address."""
-    return cause(
-        FRAME_FAULTS["Address"].format(far=words[0], part="the part file"),
-        "the part file lacks a column or a row, or is another device's; or the address is damaged: compare with a good copy",
-        "Further faults", after, source,
-    )
-
-
-def of_overrun(subject, source, words, after):
-    """The cause of a fault Overrun."""
-    return cause(
-        FRAME_FAULTS["Overrun"].format(after="", part="the part file"), "the part file lacks columns or rows, or is another device's",
-        "Further faults", after, source,
-    )
-
-
-def of_copy(subject, source, words, after):
+def of_copy(subject, source, after):
     """The cause of a fault Multi. A copy needs MFW after WCFG; the command that stands there tells what was damaged."""
-    commands = [it for it in subject.device.written if it.register == "CMD" and it.after <= after]
+    commands = [it for it in subject.device.commands if it.after <= after]
     if commands and commands[-1].word != "MFW":
         text = (
             f"a frame is to be copied under the command {commands[-1].word}, and copies want MFW: that word is damaged, or MFW "
             "was lost"
         )
-        return cause(text, "take the file again", "Further faults", commands[-1].after, source)
-    return cause(
-        FRAME_FAULTS["Multi"], "words were lost before it, or it isn't a stream of this family", "Further faults", after, source,
-    )
+        return Cause(text, "take the file again", "Further faults", commands[-1].after, source)
+    remedy = "words were lost before it, or it isn't a stream of this family"
+    return Cause(FRAME_FAULTS["Multi"], remedy, "Further faults", after, source)
 
 
 # ---- ends without a fault
@@ -464,19 +364,19 @@ def of_phase(subject):
     if not subject.has("START"):
         return of_no_start(subject)
     if fate.phase == 0 and device.begun is None:
-        return cause(
+        return Cause(
             "no DESYNC after START, and startup begins with DESYNC", "the stream lacks its end", "A stream that ends early", None,
             last,
         )
     waits = waiting(fate.phase, fate.registers)
     if waits:
-        return cause(
+        return Cause(
             f"startup waits in phase {fate.phase} for {waits}",
             "see that these clocks run and come to the device; or let the tool not wait (NoWait). How long it takes is lock "
             "and match of the part file",
             "Startup waits",
         )
-    return cause(
+    return Cause(
         f"the bytes end in phase {fate.phase} of startup: after DESYNC each phase takes four bytes, or a clock",
         "send the no-ops after DESYNC too, or go on clocking", "Startup waits",
     )
@@ -486,19 +386,19 @@ def of_open_session(subject):
     """The cause where the bytes end inside a session."""
     last, after = subject.sources[-1], subject.fate.taken
     if last.lost > 0:
-        return cause(
+        return Cause(
             f"the stream is cut off: its header tells of {last.header_count} bytes, and it has {len(last.data)}", "take the file again",
             "A stream that ends early", after, last,
         )
-    commands = [it for it in subject.device.written if it.register == "CMD"]
+    commands = subject.device.commands
     at = next((at for at, it in enumerate(commands) if it.word == "START"), None)
     if at is not None and len(commands) > at + 1:
         text = (
             f"the session doesn't end: after START stands the command {commands[-1].word}, and no DESYNC: that word is "
             "damaged, or DESYNC was lost"
         )
-        return cause(text, "take the file again", "A stream that ends early", commands[-1].after, last)
-    return cause(
+        return Cause(text, "take the file again", "A stream that ends early", commands[-1].after, last)
+    return Cause(
         "the session doesn't end: no DESYNC", "the stream is cut off, or lacks its end", "A stream that ends early", after, last,
     )
 
@@ -507,17 +407,16 @@ def of_no_start(subject):
     """The cause where a stream has no START: it is a partial one, or START is damaged or lost."""
     device, last = subject.device, subject.sources[-1]
     if not device.frames and subject.device.reads:
-        return cause(
+        return Cause(
             "the streams read a device, and start nothing",
             "play them after the full stream of the device: x7 play PART full.bit read.bin", PARTIAL_SECTION,
         )
-    commands = [it.word for it in device.written if it.register == "CMD"]
-    if device.last("COR0") and "LFRM" in commands and "START" not in commands:
-        lfrm = max(it.after for it in device.written if it.register == "CMD" and it.word == "LFRM")
-        following = next((it for it in device.written if it.register == "CMD" and it.after > lfrm and it.word in ("NULL", "SWITCH", "CRCC")), None)
+    lfrm = max((it.after for it in device.commands if it.word == "LFRM"), default=0)
+    if device.last("COR0") and lfrm and not subject.has("START"):
+        following = next((it for it in device.commands if it.after > lfrm and it.word in ("NULL", "SWITCH", "CRCC")), None)
         text = "the stream has no START, though it sets COR0 and ends with LFRM as a full one does: START is damaged or lost"
-        return cause(text, "take the file again", "A stream that ends early", following.after if following else lfrm, last)
-    return cause(
+        return Cause(text, "take the file again", "A stream that ends early", following.after if following else lfrm, last)
+    return Cause(
         "the stream has no START: a partial one changes frames and starts nothing",
         "play it after the full stream of the device: x7 play PART full.bit partial.bit", PARTIAL_SECTION,
     )
@@ -526,23 +425,23 @@ def of_no_start(subject):
 def of_started(subject):
     """The cause where phase 7 has come, and the device doesn't run as it should all the same, or none."""
     fate, device = subject.fate, subject.device
-    section = "Phase 7, and the board doesn't run"
+    section = STARTED_SECTION
     for name, on, what in (("GTS", fate.gts, "the outputs stay off"), ("GWE", fate.gwe, "flip-flops and memories can't be written")):
         if not on:
-            return cause(
+            return Cause(
                 f"phase 7 comes, and {what} for ever: {name}_CYCLE of COR0 {fate.registers['COR0']:08X} is 7 (KEEP)",
                 f"write the stream with BITSTREAM.STARTUP.{name}_CYCLE 1 to 6, or DONE", section,
             )
     if not fate.ghigh:
-        return cause(
-            "phase 7 comes, and all interconnect is held high (GHIGH_B is 0): AGHIGH without LFRM after it",
+        return Cause(
+            "phase 7 comes, and all interconnect is off (High-Z: GHIGH_B is 0): AGHIGH without LFRM after it",
             "the last stream lacks its LFRM: take it again", section,
         )
     if device.dropped:
         step = device.dropped[0]
         by = next(it for it in reversed(device.written) if it.register == "CTL0" and it.after <= step.place)
         source = subject.source_at(step.end)
-        return cause(
+        return Cause(
             f"the frames of {source.name} are dropped: CTL0 has SBITS 1x, which forbids writing frames, since "
             f"{subject.place(by.after)}",
             "write the stream before it with BITSTREAM.READBACK.SECURITY NONE (or LEVEL1)", "A partial stream that is damaged", step.first + 4, source,
@@ -558,7 +457,7 @@ def of_unchecked_loss(subject):
                 f"{source.lost} bytes of the stream were lost, and nothing on the device notices, since the stream has no "
                 "check: all frames after them stand at wrong addresses"
             )
-            return cause(text, "take the file again; write it with BITSTREAM.GENERAL.CRC ENABLE", "A check fails", None, source)
+            return Cause(text, "take the file again; write it with BITSTREAM.GENERAL.CRC ENABLE", "A check fails", None, source)
     return None
 
 
@@ -580,7 +479,7 @@ def of_play(subject):
     if fate.phase != 7:
         return of_phase(subject)
     if fate.end[0] == "synced":
-        return cause(
+        return Cause(
             "it runs (phase 7), but a session after startup doesn't end: no DESYNC",
             "the last stream is cut off, or lacks its end", "A partial stream that is damaged", fate.taken, subject.sources[-1],
         )
@@ -591,16 +490,16 @@ def of_iprog(subject):
     """The cause where a stream leads on."""
     fate = subject.fate
     if begins_with_slots(subject.data):
-        return cause(
+        return Cause(
             f"this is a flash image: its first sector leads on to flash address {fate.end[1]} (IPROG)",
             "x7 boot PART FLASH > REPORT, and then why STREAM REPORT", "It falls back",
         )
     running = "it starts (phase 7), and then " if fate.phase == 7 else ""
     more = ""
-    commands = [it.word for it in subject.device.written if it.register == "CMD"]
+    commands = [it.word for it in subject.device.commands]
     if "START" in commands and "DESYNC" not in commands[commands.index("START") :]:
         more = "; it stands where DESYNC should, so a word may be damaged"
-    return cause(
+    return Cause(
         f"{running}the stream leads on to flash address {fate.end[1]} (IPROG){more}", "x7 boot PART FLASH", "It falls back",
         fate.taken,
     )
@@ -616,22 +515,22 @@ def of_boot(subject):
     last, alone = report.attempts[-1], "play the stream alone: x7 play PART STREAM"
     leads = any(it.ending == "iprog" or it.kind == "iprog" for it in report.attempts)
     if report.boot_end == "loop":
-        return cause(
+        return Cause(
             f"each attempt leads to another one ({path})", "a stream that writes IPROG must not lead to itself", "It falls back",
         )
     if report.boot_end == "stopped" and report.end[0] == "searching" and not registers.get("CMD") and not leads:
-        return cause(
+        return Cause(
             f"{path}: nowhere in the flash is a sync word", "list the flash itself: why FLASH names what it is", "No sync word",
         )
     if report.boot_end == "stopped" and last.kind != "fallback":
-        return cause(
+        return Cause(
             f"{path}; no fallback follows, since CTL0 {registers['CTL0']:08X} has bit 10",
             "mend that image; and let the tool allow fallback (BITSTREAM.CONFIG.CONFIGFALLBACK ENABLE)", "It doesn't fall back",
         )
     if report.boot_end == "stopped" and not leads:
-        return cause(f"{path}; the flash has one image, and the fallback finds the same one", alone, "It doesn't fall back")
+        return Cause(f"{path}; the flash has one image, and the fallback finds the same one", alone, "It doesn't fall back")
     if report.boot_end == "stopped":
-        return cause(f"{path}; the golden image doesn't start either", "play each of the two streams alone", "It doesn't fall back")
+        return Cause(f"{path}; the golden image doesn't start either", "play each of the two streams alone", "It doesn't fall back")
     return of_started_boot(subject, path, leads)
 
 
@@ -640,27 +539,27 @@ def of_started_boot(subject, path, leads):
     report, last = subject.report, subject.report.attempts[-1]
     if any(it.ending not in ("iprog", "started") for it in report.attempts):
         if not leads:
-            return cause(
+            return Cause(
                 f"it starts, but at the second attempt alone: {path}; the flash has one image, and a fallback has no watchdog",
                 "play the stream alone: x7 play PART STREAM", "It falls back",
             )
         failed = "; ".join(f"{it.kind} at {it.address:08X}: {it.ending}" for it in report.attempts if it.ending not in ("iprog", "started"))
-        return cause(f"it starts, but with the golden image: {failed}", "play the update's stream alone", "It falls back")
+        return Cause(f"it starts, but with the golden image: {failed}", "play the update's stream alone", "It falls back")
     if last.address % SECTOR:
-        return cause(
+        return Cause(
             f"it starts, but from an attempt at {last.address:08X}, which is no sector's beginning ({path}): another image than "
             "the one that was meant",
             "start_unit of the part file that made the image must be the device's: 1 where WBSTAR counts bytes, 256 with addresses of 32 bits", "It falls back",
         )
     if len(report.attempts) == 1 and is_golden_alone(subject):
-        return cause(
+        return Cause(
             "it starts, but with the golden image: no slot of the flash led to an update, as where an update was interrupted",
             "run `x7 update` again", "An update was interrupted",
         )
     if subject.fate.registers["COR0"] >> 16 & 1:
-        return cause(
+        return Cause(
             "startup runs on TCK (SSCLKSRC of COR0 is JtagClk), which a flash doesn't give: DONE stays low",
-            "write the stream with BITSTREAM.STARTUP.STARTUPCLK CCLK", "Phase 7, and the board doesn't run",
+            "write the stream with BITSTREAM.STARTUP.STARTUPCLK CCLK", STARTED_SECTION,
         )
     return of_started(subject)
 
@@ -679,12 +578,12 @@ def of_svf(subject):
         return of_started(subject) if report.phase == 7 else of_phase(subject)
     differs = f"the scan of statement {report.svf[0]} of the SVF text reads another bit {report.svf[1]} than it wants"
     if report.taken == 0:
-        return cause(
+        return Cause(
             differs, "the text is for another device than the part file's, or the statement's TDO or MASK is wrong",
             "A stream for another device",
         )
     if report.phase == 0 and not subject.has("START") and subject.device.end[0] == "searching":
-        return cause(
+        return Cause(
             f"{differs}; the stream has no START: the text resets the device, and then sends a partial stream",
             f"send a partial stream without JPROGRAM: {x7.CALLED}svf --partial", PARTIAL_SECTION,
         )
@@ -693,7 +592,7 @@ def of_svf(subject):
     elif report.phase != 7:
         found = of_phase(subject)
     else:
-        return cause(
+        return Cause(
             f"{differs}, and yet the device starts (phase 7)",
             "compare the statement's TDO and MASK with what the device should give", None,
         )
@@ -724,27 +623,25 @@ def cause_of(subject):
 
 def of_two_devices(subject):
     """The cause where the streams write IDCODEs of different devices, or none."""
-    written = [(source, *it) for source in subject.sources for it in idcodes_of(source)]
-    for source, after, word in written:
-        if (word ^ written[0][2]) & DEVICE_BITS:
-            text = (
-                f"the streams are for different devices: {written[0][0].name} for {written[0][2]:08X}{named(written[0][2])}, "
-                f"{source.name} for {word:08X}{named(word)}"
-            )
-            return cause(text, "give the streams of one device", "A stream for another device", source.first + after, None)
+    written = [(source, *first_idcode(source)) for source in subject.sources]
+    known = [(f"{source.name} for {idcode:08X}{named(idcode)}", after, idcode) for source, after, idcode in written if idcode is not None]
+    for said, after, idcode in known:
+        if (idcode ^ known[0][2]) & DEVICE_BITS:
+            text = f"the streams are for different devices: {known[0][0]}, {said}"
+            return Cause(text, "give the streams of one device", "A stream for another device", after)
     return None
 
 
 def of_header_part(subject):
     """The cause where the part that a header names has another IDCODE than its stream writes, or none."""
     for source in subject.sources:
-        by_header, words = idcode_of_name(source.part), idcodes_of(source)
-        if by_header is not None and words and (by_header ^ words[0][1]) & DEVICE_BITS:
+        by_header, (after, idcode) = idcode_of_name(source.part), first_idcode(source)
+        if None not in (by_header, idcode) and (by_header ^ idcode) & DEVICE_BITS:
             text = (
-                f"the stream writes the IDCODE {words[0][1]:08X}{named(words[0][1])}, and its header names {source.part}, which "
-                f"has {by_header:08X}: the word is damaged, or the header is another stream's"
+                f"the stream writes the IDCODE {idcode:08X}{named(idcode)}, and its header names {source.part}, which has "
+                f"{by_header:08X}: the word is damaged, or the header is another stream's"
             )
-            return cause(text, "take the file again", "A stream for another device", source.first + words[0][0], source)
+            return Cause(text, "take the file again", "A stream for another device", after, source)
     return None
 
 
@@ -754,9 +651,9 @@ DAMAGED = ("A check fails", "A stream that ends early", "Lost words", "No sync w
 
 def notes_of(subject, found):
     """What is worth saying besides."""
-    notes, cor0 = [], subject.fate.registers.get("COR0", 0)
-    if found and (found.section in DAMAGED or found.section is None):
+    if found and (found.section in DAMAGED or found.section is None) or any(family_of(it.part) for it in subject.sources):
         return []
+    notes, cor0 = [], subject.fate.registers.get("COR0", 0)
     for source in subject.sources:
         if any(step.kind == "write" and step.register in (x7.FDRI, x7.MFWR) for step in x7.steps(source.data)) and not has_check(source):
             of = f" of {source.name}" if len(subject.sources) > 1 else ""
@@ -764,10 +661,10 @@ def notes_of(subject, found):
                 f"no write to CRC{of}: the stream has no check, so damage on its way shows nowhere (BITSTREAM.GENERAL.CRC "
                 "DISABLE, or RCRC in its place)",
             )
-        words = idcodes_of(source)
-        if words and words[0][1] & DEVICE_BITS in SSI:
+        _, idcode = first_idcode(source)
+        if idcode is not None and idcode & DEVICE_BITS in SSI:
             notes.append(
-                f"{words[0][1]:08X} is a device of several dies, whose streams hold further ones in register R30: x7 plays the "
+                f"{idcode:08X} is a device of several dies, whose streams hold further ones in register R30: x7 plays the "
                 "first die's alone",
             )
     wraps = [it for it in (subject.report.attempts if subject.report else []) if it.ending == "wrap"]

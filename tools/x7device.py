@@ -75,6 +75,11 @@ class Device:
         """Whether a fault or IPROG ended the device's play."""
         return self.end[0] in ("fault", "iprog")
 
+    @property
+    def commands(self):
+        """What was written to CMD, in order."""
+        return [it for it in self.written if it.register == "CMD"]
+
     def last(self, register):
         """The last word written to a register, or none."""
         return next((it for it in reversed(self.written) if it.register == register), None)

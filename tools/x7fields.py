@@ -32,7 +32,7 @@ FIELDS = {
         Field("EOS", 4, 1, ["startup hasn't ended", "startup has ended"]),
         Field("GTS_CFG_B", 5, 1, ["all outputs are off", "the outputs are enabled"]),
         Field("GWE", 6, 1, ["the design's memories and flip-flops can't be written", "they can be written"]),
-        Field("GHIGH_B", 7, 1, ["all interconnect is held high", "the interconnect is as configured"]),
+        Field("GHIGH_B", 7, 1, ["all interconnect is off (High-Z)", "the interconnect is as configured"]),
         Field("MODE", 8, 3, MODES),
         Field("INIT_COMPLETE", 11, 1, ["the memory isn't cleared yet", "the memory was cleared"]),
         Field("INIT_B", 12, 1, ["the pin INIT_B is low", "the pin INIT_B is high"]),

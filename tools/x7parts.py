@@ -1,4 +1,5 @@
-"""The 7-series devices by IDCODE (UG470, device identification register), without the version in bits 31:28."""
+"""The 7-series devices by IDCODE, without the version in bits 31:28 (UG470, device identification register; those of the
+Zynq-7000 from UG585, PSS_IDCODE), and other families by name."""
 
 # the bits of an IDCODE without the version, by which devices are compared
 DEVICE_BITS = 0xFFFFFFF
@@ -24,19 +25,19 @@ SSI = {IDCODES[name] for name in ("7v2000t", "7vx1140t", "7vh580t", "7vh870t")}
 # other families by how the part in a header begins
 FAMILIES = [
     ("6s", "Spartan-6"),
-    ("3s", "Spartan-3"),
+    ("3s", "Spartan-3 Generation"),
     ("2s", "Spartan-II"),
     ("4v", "Virtex-4"),
     ("5v", "Virtex-5"),
     ("6v", "Virtex-6"),
     ("v", "Virtex"),
     ("2v", "Virtex-II"),
-    ("ku", "Kintex UltraScale"),
-    ("vu", "Virtex UltraScale"),
+    ("ku", "Kintex UltraScale or UltraScale+"),
+    ("vu", "Virtex UltraScale or UltraScale+"),
     ("zu", "Zynq UltraScale+"),
     ("au", "Artix UltraScale+"),
     ("su", "Spartan UltraScale+"),
-    ("ck", "Kria"),
+    ("k2", "Kria"),
     ("vc", "Versal"),
     ("vm", "Versal"),
     ("ve", "Versal"),

@@ -55,13 +55,6 @@ def write_out(data):
         raise Refused(f"standard output takes no more: {getattr(error, 'strerror', None) or error}") from None
 
 
-def read_in():
-    """The bytes of standard input."""
-    if sys.stdin is None:
-        raise Refused("standard input is closed")
-    return sys.stdin.buffer.read()
-
-
 def read_file(path):
     """The bytes of a file."""
     try:

@@ -4,6 +4,7 @@ from x7asked import whole
 from x7formats import (
     CMD, COR0, CRC, CTL0, CTL1, CODES, FAR, FDRI, IDCODE, MASK, MFWR, NOP, SYNC, Refused, bytes_of, payload, steps, with_checks, write_packet,
 )  # fmt: skip
+from x7partfile import fields_of_far
 
 # What the vendor's streams write: words of MFWR for a copy, no-ops after one in block type 1, and FAR once startup is
 # asked for.
@@ -126,15 +127,20 @@ class StreamWriter:
         self.data += data
 
 
-def block_of(far):
-    """The block type of an address of the usual widths."""
-    return far >> 23 & 7
-
-
-def write_run(to, far, data, fars):
-    """Writes frames from an address on, and copies; the first copy stays at the address."""
+def write_runs(to, runs):
+    """Writes runs of frames; FAR of the first stands before its WCFG, that of each further one after it."""
+    (far, data, fars), *more = runs
+    to.write(FAR, [far])
     to.command("WCFG", 1)
-    to.write(FAR, [far], 1)
+    write_frames(to, data, fars)
+    for far, data, fars in more:
+        to.command("WCFG", 1)
+        to.write(FAR, [far], 1)
+        write_frames(to, data, fars)
+
+
+def write_frames(to, data, fars):
+    """Writes frames at the address in FAR, and copies; the first copy stays at that address."""
     to.frame_data(data)
     if not fars:
         return
@@ -142,7 +148,7 @@ def write_run(to, far, data, fars):
     for number, it in enumerate(fars):
         if number:
             to.write(FAR, [it])
-        to.write(MFWR, [0] * (WORDS_OF_COPY if number else 2 * WORDS_OF_COPY), NOPS_AFTER_BLOCK_COPY if block_of(it) == 1 else 0)
+        to.write(MFWR, [0] * (WORDS_OF_COPY if number else 2 * WORDS_OF_COPY), NOPS_AFTER_BLOCK_COPY if fields_of_far(it)[0] == 1 else 0)
 
 
 def in_vendor_form(planned):
@@ -162,8 +168,7 @@ def in_vendor_form(planned):
         to.write(MASK, [0x1000])
         to.write(CTL1, [0x1000])
     to.nops(8)
-    for far, data, fars in planned.runs:
-        write_run(to, far, data, fars)
+    write_runs(to, planned.runs)
     to.check()
     end_vendor_form(to, planned)
     return with_checks(bytes(to.data), to.checks)

@@ -14,11 +14,13 @@ def of_stat(word):
     if word & 1:
         return "a check failed: words were damaged or lost on their way", "A check fails"
     if not word >> 11 & 1:
-        return "the device is still clearing its memory, or its supply isn't good", "A board that doesn't answer"
+        return "the device is still clearing its memory, or PROGRAM_B is held low, or its supply isn't good", "A board that doesn't answer"
+    if not word >> 12 & 1 and phase == 0 and not word >> 14 & 1:
+        return "INIT_B is low without a failed check: something on the board holds it", "A board that doesn't answer"
     if word >> 16 & 1:
         return "the decryption failed", "Further faults"
     if phase == 0 and not word >> 14 & 1:
-        return "startup hasn't begun: nothing came, or no sync word, or the stream ended early", "No sync word"
+        return "startup hasn't begun: nothing came, or no sync word, or the stream ended before START and DESYNC", "No sync word"
     if phase < 7:
         return f"startup stands in phase {phase}{waits(word)}", "Startup waits"
     return of_phase_7(word)

@@ -4,6 +4,7 @@ import random
 
 from casefiles import TOOLS  # noqa: F401  (it puts the tools on the path)
 import x7formats as x7
+from x7partfile import part_of  # noqa: F401  (for the tests)
 from streams import command, data_lines
 
 NEXT = "# the next stream"
@@ -29,13 +30,6 @@ def part_text(rng):
         minors = [rng.randint(1, 3) for _ in range(rng.randint(1, 3))]
         lines += ["[[row]]", f"block = {block}", f"half = {half}", f"row = {row}", f"minors = {minors}"]
     return "\n".join([*lines, ""])
-
-
-def part_of(text):
-    """The part of a part file."""
-    table = x7.Toml(text).tables()
-    x7.check_part(table)
-    return x7.Part(table)
 
 
 class Maker:

@@ -2,6 +2,7 @@
 partial ones, of a small part that is made up; their headers, and what becomes of them when words are changed."""
 from casefiles import header, made_part_text  # (casefiles puts the tools on the path)
 import x7formats as x7
+from x7partfile import part_of
 
 IDCODE = 0x0362D093
 PART = made_part_text("small", [(0, 0, 0, [4, 3, 5]), (0, 1, 0, [4, 3]), (1, 0, 0, [6])], "mode = 1\n")
@@ -10,9 +11,7 @@ HEAD = ["bytes " + "FF" * 32, "bytes 000000BB11220044" + "FF" * 8, "sync", "nop"
 
 def part():
     """The part that the made streams are for."""
-    table = x7.Toml(PART).tables()
-    x7.check_part(table)
-    return x7.Part(table)
+    return part_of(PART)
 
 
 def data_lines(words):

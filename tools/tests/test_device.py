@@ -4,6 +4,7 @@ registers; and the whole report of a plain program, frames included, against tho
 from casefiles import Tally, all_cases, line_text, os, put_file
 import tempfile
 import x7formats as x7
+from x7partfile import read_part
 import x7report
 from x7device import KEPT, Device
 
@@ -39,7 +40,7 @@ def play_case(name, case):
     """A case of `play`: what its report shows is what the device without frames comes to, where no frame's fault ends
     it."""
     lines = wanted_lines(case)
-    part = x7.read_part(in_file("part", case.bytes_of(case.words[1]) or TINY))
+    part = read_part(in_file("part", case.bytes_of(case.words[1]) or TINY))
     streams = [case.bytes_of(word) for word in case.words[2:]]
     if None in streams:
         return

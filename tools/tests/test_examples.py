@@ -34,28 +34,29 @@ def made(bench, commands):
     return out
 
 
-def check_readme(bench, what, text, count):
-    """README shows the first `count` lines of a text, in a block of its own."""
-    block = "\n\n" + "".join(f"    {line}\n" for line in text.decode().splitlines()[:count]) + "\n"
-    bench.tally.check(f"README shows how {what} begins", block in text_of("README.md"), block)
+def check_readme(bench, command, text, count):
+    """README shows a command and the first `count` lines of what it writes."""
+    block = f"    $ {command}\n" + "".join(f"    {line}\n" for line in text.decode().splitlines()[:count])
+    bench.tally.check(f"README shows what {command} writes", f"{block}    ..\n" in text_of("README.md"), block)
 
 
 with tempfile.TemporaryDirectory() as folder:
     bench = Bench(folder)
-    check_readme(bench, "a listing", example("first.list"), 5)
+    check_readme(bench, "./x7 list examples/first.bin", example("first.list"), 5)
+    check_readme(bench, "./x7 play examples/tiny.part examples/first.bin", example("first.report"), 4)
     if X7:
-        check_readme(bench, "a report", made(bench, ["plan full tiny.part tiny.frames", "play tiny.part 0"]), 4)
+        check_readme(bench, "./x7 play examples/tiny.part tiny.bin", made(bench, ["plan full tiny.part tiny.frames", "play tiny.part 0"]), 4)
     else:
-        bench.tally.skip("README's report")
+        bench.tally.skip("README's stream that starts a device")
     for name, commands in MADE.items():
         if X7:
             bench.tally.same(f"examples/{name}", made(bench, commands), example(name))
         else:
             bench.tally.skip(name)
-    files = [os.path.join(EXAMPLES, it) for it in ("first.list", "first.report")]
-    came = bench.tool("why", *files)
+    part, stream = (os.path.join(EXAMPLES, it) for it in ("tiny.part", "first.bin"))
+    came = bench.tool("why", "--part", part, stream)
     bench.tally.same("why of the first stream, status", came.status, 1)
-    check_readme(bench, "what why says of the first stream", came.out, 1)
-    parts = [os.path.join(EXAMPLES, it) for it in ("chip.part", "chip.report", "chip_changed.report")]
-    bench.tally.same("frame_map of two reports", bench.tool("frame_map", *parts).out.count(b"<svg"), 1)
+    check_readme(bench, "tools/why --part examples/tiny.part examples/first.bin", came.out, 3)
+    listed = bench.tool("why", *(os.path.join(EXAMPLES, it) for it in ("first.list", "first.report")))
+    bench.tally.same("why of its listing and its report", listed.out.splitlines()[:3], came.out.splitlines()[:3])
     bench.tally.end()

@@ -3,6 +3,7 @@
 from casefiles import Tally, all_cases, put_file
 import tempfile
 import x7formats as x7
+from x7partfile import read_part
 
 tally = Tally()
 
@@ -53,7 +54,7 @@ def part_case(name, case):
     if case.words[:1] not in (["play"], ["boot"], ["gen"], ["debug"], ["svf"]) or not parts or case.status == 6:
         return
     try:
-        x7.read_part(in_file(parts[0]))
+        read_part(in_file(parts[0]))
         taken = ""
     except x7.Refused as error:
         taken = str(error)

@@ -6,6 +6,7 @@ import xml.dom.minidom
 
 from calls import called, ran
 import x7formats as x7
+from x7partfile import read_part
 
 tally = Tally()
 EXAMPLES = os.path.join(TOP, "examples")
@@ -30,7 +31,7 @@ def refused(name, *words):
 
 with tempfile.TemporaryDirectory() as FOLDER:
     path = os.path.join(EXAMPLES, "chip.part")
-    part = x7.read_part(path)
+    part = read_part(path)
     before = x7.read_frames(os.path.join(EXAMPLES, "chip.frames"), part)
     after = {**before, **x7.read_frames(os.path.join(EXAMPLES, "chip_change.frames"), part)}
     one, two = in_file(report(before), "before.report"), in_file(report(after), "after.report")

@@ -6,6 +6,7 @@ import tempfile
 
 from runs import DEVICE, X7, Bench, frame_of, text_of_frames
 import x7formats as x7
+from x7partfile import read_part
 
 PARTS = ["00000000", "00000003", "00000080", "00000082", "00000101", "00400000", "00400085", "00800000", "00800004"]
 
@@ -93,7 +94,7 @@ def ecc(bench):
 
 def plans(bench):
     """Plans of some frames, of which some have one content, with the frames of each."""
-    addresses = x7.read_part(bench.path("made.part")).addresses()
+    addresses = read_part(bench.path("made.part")).addresses()
     for seed in range(8):
         take = random.Random(seed)
         fars = take.sample(addresses, take.randint(1, len(addresses)))
@@ -128,7 +129,7 @@ def planned(bench):
 
 def written(bench, name, stream, frames, is_partial, report):
     """The addresses that `touch` tells, and its status against regions."""
-    part = x7.read_part(bench.path("made.part"))
+    part = read_part(bench.path("made.part"))
     came = bench.tool("frames", "touch", "made.part", stream)
     written = set()
     for line in lines_of(came):

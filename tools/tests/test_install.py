@@ -1,12 +1,15 @@
 #!/usr/bin/env python3
-"""Tests ./install: what it says stands there, and an installed tool finds the installed program."""
+"""Tests ./install: what it says stands there, its pages lead to one another, and an installed tool finds the installed
+program."""
 import os
+import re
 import tempfile
 
 from casefiles import TOP, Tally
 from runs import X7, run
 
 EXAMPLES = os.path.join(TOP, "examples")
+PAGES = ("README", "FORMATS", "PARTS", "BOARD", "FLOWS", "FIELD", "TOOLS")
 
 tally = Tally()
 with tempfile.TemporaryDirectory() as folder:
@@ -19,8 +22,13 @@ with tempfile.TemporaryDirectory() as folder:
         came = run(folder, [install, "there"])
         tally.same("install, status", came.status, 0)
         files = came.out.decode().split("\n")[:-1]
-        for page in ("README", "FORMATS", "PARTS", "BOARD", "FLOWS", "FIELD"):
-            tally.check(f"{page} is put too", f"there/share/doc/x7/{page}.md\n".encode() in came.out, came.out)
+        pages = os.path.join(folder, "there", "share", "doc", "x7")
+        tally.same("the pages that are put", sorted(os.listdir(pages)), sorted(["frames.svg", *(f"{it}.md" for it in PAGES)]))
+        for page in PAGES:
+            with open(os.path.join(pages, f"{page}.md"), encoding="utf-8") as file:
+                links = re.findall(rf"\]\(([^)#:]*(?:{'|'.join(PAGES)})\.md)", file.read())
+            links = [it for it in links if not it.startswith(("bench/", "crates/"))]
+            tally.same(f"the links of {page} that lead nowhere", [it for it in links if not os.path.isfile(os.path.join(pages, it))], [])
         tally.check("install says what it put", files and all(os.path.isfile(os.path.join(folder, it)) for it in files), files)
         tools = sorted(it for it in files if it.startswith("there/bin/x7-"))
         tally.same("the tools that are put", len(tools), 9)

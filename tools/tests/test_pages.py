@@ -1,8 +1,8 @@
 #!/usr/bin/env python3
 """Tests the pages against the tree: what MAP and the READMEs name is there, what is there is named, and links lead
 somewhere; that the clauses that PROOFS and the READMEs name are those of the function, the type or the record that they
-name; that the README of tools/ has the options of each tool; and that crates.txt names no library that a crate doesn't
-cite."""
+name; that the README of tools/ has the options of each tool; that crates.txt names no library that a crate doesn't
+cite, that no crate gives out lemmas that no other cites, and that no command of a page leaves its end to chance."""
 import ast
 import functools
 import glob
@@ -26,9 +26,9 @@ def cells(line):
 
 
 def map_rows():
-    """MAP's first table: for each crate the text of its modules and that of its definitions."""
+    """MAP's table of the crates: for each the text of its modules and that of its definitions."""
     rows, crate = {}, ""
-    for row in (cells(line) for line in text_of("docs", "MAP.md").partition("\n## ")[0].splitlines()):
+    for row in (cells(line) for line in text_of("docs", "MAP.md").partition("\n## The crates\n")[2].partition("\n## ")[0].splitlines()):
         if len(row) == 3 and row[0] != "Crate":
             crate = row[0] or crate
             one, other = rows.get(crate, ("", ""))
@@ -100,6 +100,13 @@ def check_seconds(tally):
     tally.same("the times of bench/README and those of build", sorted(row_pairs), sorted(reckoned))
 
 
+def check_pipes(tally):
+    """No page's command has x7 write to `head`, which may leave before the end: whether that is a write fault is chance."""
+    for page in ("BOARD.md", "FLOWS.md", "FIELD.md"):
+        found = re.findall(r"^ *\$ .*\bx7 [^|\n]*\| *head.*", text_of("crates", "x7_cases", "data", page), re.M)
+        tally.same(f"{page}: commands that write to head", found, [])
+
+
 def check_readme(tally):
     """README's table of what is proved has each crate, and each library a README of its own."""
     table = text_of("README.md").partition("## What is proved, crate by crate")[2]
@@ -109,7 +116,7 @@ def check_readme(tally):
             tally.check(f"{crate} has a README", os.path.isfile(os.path.join(CRATES, crate, "README.md")), crate)
 
 
-@functools.cache
+@functools.lru_cache(maxsize=None)
 def says(crate):
     """The names of clauses, fields, functions and definitions that a crate's code and definitions have."""
     found = set()
@@ -137,7 +144,7 @@ def check_tools(tally):
         tally.same(f"the options of {name}", options_of(row), options_of(ast.get_docstring(ast.parse(text_of("tools", name)))))
 
 
-@functools.cache
+@functools.lru_cache(maxsize=None)
 def crates_below():
     """For each crate itself and, of what crates.txt names for it, the crates that are there."""
     lines = [line.partition(":") for line in text_of("crates.txt").splitlines() if not line.startswith("#")]
@@ -173,7 +180,7 @@ def clauses_of(crate):
                 yield owner, function, found[3], text[found.end() : clause_end(text, found.end() - 1)]
 
 
-@functools.cache
+@functools.lru_cache(maxsize=None)
 def definitions_in(crate):
     """The definitions of a crate: of each its name, its words, and the names with which its bodies begin."""
     found = []
@@ -253,7 +260,7 @@ def check_clauses(tally):
             path = os.path.join(CRATES, crate, "specs", name)
             tally.check(f"{crate}: its README's specs/{name}", os.path.isfile(f"{path}.antt") or os.path.isdir(path), name)
     table = text_of("README.md").partition("## What is proved, crate by crate")[2]
-    rows = re.findall(r"^\| \[(x7\w*)\][^|]*\|([^|]*)\|", table, re.M)
+    rows = re.findall(r"^\| \[(x7\w*)\][^|]*\|[^|]*\|([^|]*)\|", table, re.M)
     pages = [("README", crate, text) for crate, text in rows]
     for row in (line for line in text_of("docs", "PROOFS.md").splitlines() if re.match(r"- \[?x7", line)):
         pieces = re.split(r"(?:^- |; )\[?(x7\w*)(?:\]\([^)]*\))?(?:: | (?=`))", row)[1:]
@@ -275,11 +282,27 @@ def check_libraries(tally):
             tally.check(f"{crate} cites {library}", library in words, f"no file of crates/{crate} names it")
 
 
+def check_lemmas(tally):
+    """Each file of lemmas that a crate gives out is cited by another crate."""
+    cited = set()
+    for crate in crates():
+        for part, ending in (("src", ".rt"), ("specs", ".antt"), ("proofs", ".antt")):
+            for it in names_in(f"{crate}/{part}", ending):
+                found = re.findall(r"Rattle\.(\w+)\.proofs\.(\w+)", text_of("crates", crate, part, it + ending))
+                cited |= {name for name in found if name[0] != crate}
+    for crate in crates():
+        if os.path.exists(os.path.join(CRATES, crate, "proofs", "Lib.antt")):
+            for module in re.findall(r"^pub mod (\w+)", text_of("crates", crate, "proofs", "Lib.antt"), re.M):
+                tally.check(f"lemmas of {crate}: {module}", (crate, module) in cited, "no other crate cites it: 'mod' is enough")
+
+
 tally = Tally()
 check_map(tally)
 check_libraries(tally)
+check_lemmas(tally)
 check_links(tally)
 check_seconds(tally)
+check_pipes(tally)
 check_readme(tally)
 check_tools(tally)
 check_clauses(tally)

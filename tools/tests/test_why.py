@@ -178,7 +178,7 @@ def with_reports():
     good, other = Device(s.IDCODE).play(DATA), s.data_of(s.with_data(FULL, "COR0", "02003EE5"))
     report = in_file(report_text(good).encode(), "good.report")
     full, cut, two = in_file(RAW, "full.bit"), in_file(RAW[:-3000], "cut.bit"), in_file(other, "other.bin")
-    asked("a report", [full, report], "^it starts: phase 7", 0)
+    asked("a report", [full, report], "^it starts: phase 7\nnext: .*why --stat W\nread on: BOARD, Phase 7", 0)
     asked("a report of a longer stream", [cut, report], "the report is of other streams than these: it took", 1)
     asked("a report of another stream", [two, report], "the report is of other streams than these: it has COR0", 1)
     asked("a report of one of two", [full, full, report], "the report is of other streams than these", 1)
@@ -220,11 +220,13 @@ def boots():
 def words():
     """Words of a board, and words that why refuses."""
     for option, word, pattern in (
-        ("--stat", "0000990C", "ID_ERROR +1.*wrong IDCODE(.|\n)*BOARD, A stream for another device"),
+        ("--stat", "0000990C", "BOARD, A stream for another device(.|\n)*ID_ERROR +1.*wrong IDCODE"),
         ("--stat", "0x401079FC", "it says: the device runs"),
         ("--stat", "FFFFFFFF", "no device answers"),
         ("--stat", "0000090D", "a check failed"),
-        ("--stat", "401039FC", "something on the board holds it"),
+        ("--stat", "401039FC", "the pin is low: something on the board holds it"),
+        ("--stat", "0000090C", "^STAT 0000090C\nit says: INIT_B is low without a failed check(.|\n)*BOARD, A board that doesn't answer"),
+        ("--stat", "0000190C", "it says: startup hasn't begun"),
         ("--stat", "000C1988", "startup stands in phase 2: MMCM_LOCK is 0"),
         ("--bootsts", "00002507", "the attempt before a check failed: it fell back"),
         ("--cor0", "02003FFF", "KEEP"),
@@ -240,7 +242,7 @@ def words():
 def refused():
     """What can't be taken: one line, status 2, and no output."""
     stream, report = in_file(RAW, "s.bit"), in_file(b"part x\ntaken 1\nend synced\n", "cut.report")
-    cases = [[], ["/nowhere"], [FOLDER], [stream, "/nowhere"], ["--part", stream, stream], ["--part", "/nowhere", stream], [report], [stream, report], ["--own-part"], ["--own-part", in_file(s.bit(FULL), "whole.bit")]]
+    cases = [[], ["/nowhere"], [FOLDER], [stream, "/nowhere"], ["--part", stream, stream], ["--part", "/nowhere", stream], [report], [stream, report], ["--own-part"], ["--own-part", "/nowhere"]]
     cases += [[in_file(text, f"l{number}.list")] for number, text in enumerate([b"sync\nbytes\n", b"sync\ndata 004", b"sync\nnop \n", b"bytes F\n", b"bit A\n", b"nop\nnop\nwrite XX 1\n", b"nop\n" * 3 + b"\xff\n"])]
     cases += [[in_file(RAW[:20], "h.bit")], [in_file(RAW[:13] + b"b" + RAW[14:], "letter.bit")]]
     for number, it in enumerate(cases):
@@ -279,6 +281,9 @@ with tempfile.TemporaryDirectory() as FOLDER:
     asked("a device of several dies", files_of([s.data_of(s.with_data(FULL, "IDCODE", "036B3093"))]), "note: 036B3093 is a device of several dies", 0)
     asked("a partial stream alone", files_of([s.bit(PARTIAL)]), "nothing is wrong in the stream alone.*partial", 0)
     tally.check("help", b"the likely cause" in ran("why", "--help")[1])
+    uncompressed = files_of([s.bit(FULL)])
+    asked("an uncompressed stream on its own part", ["--own-part", *uncompressed], "nothing is wrong(.|\n)*note: nothing was played: part: .*one run", 0)
+    asked("a damaged stream on its own part", ["--own-part", *files_of([RAW[:-3000]])], "^cause: the stream is cut off", 1)
     if program():
         asked("a compressed stream on its own part", ["--own-part", *files_of([s.bit(s.compressed())])], "^it starts: phase 7", 0)
 if not program():

@@ -1,12 +1,12 @@
-pub mod BootedLemmas
+mod BootedLemmas
 pub mod CheckedLemmas
 pub mod BootsLemmas
-pub mod EveryBootLemmas
-pub mod ImageLemmas
+mod EveryBootLemmas
+mod ImageLemmas
 pub mod LeastLemmas
 pub mod OneBootLemmas
 pub mod OverLemmas
-pub mod PageLemmas
+mod PageLemmas
 pub mod StartLemmas
 pub mod TookLemmas
-pub mod FlashAttemptLemmas
+mod FlashAttemptLemmas

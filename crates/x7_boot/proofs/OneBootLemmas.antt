@@ -128,10 +128,13 @@ one_chain part flash a b d e p q =
     let same : (a ≡ b) × (Ends d ≡ Ends e) = chain_same part flash a b (Ends d) (Ends e) long p q in
     (same.0, end_is d e same.1)
 
-pub one_boot : (part : PartData) (flash : List ℕ) (a b : BootedState) → IsBoot part flash a → IsBoot part flash b → (a.attempts ≡ b.attempts) × (a.end ≡ b.end)
-one_boot part flash a b x y =
+pub one_attempts : (part : PartData) (flash : List ℕ) (a b : BootedState) → IsBoot part flash a → IsBoot part flash b → a.attempts ≡ b.attempts
+one_attempts part flash a b x y =
     let same : (x.last ∷ x.older ≡ y.last ∷ y.older) × (a.end ≡ b.end) = one_chain part flash (x.last ∷ x.older) (y.last ∷ y.older) a.end b.end x.leads y.leads in
-    (x.attempts ∙ ap (λ (l : List AttemptCourse). reverse (map tried l)) same.0 ∙ sym y.attempts, same.1)
+    x.attempts ∙ ap (λ (l : List AttemptCourse). reverse (map tried l)) same.0 ∙ sym y.attempts
+
+pub one_end : (part : PartData) (flash : List ℕ) (a b : BootedState) → IsBoot part flash a → IsBoot part flash b → a.end ≡ b.end
+one_end part flash a b x y = (one_chain part flash (x.last ∷ x.older) (y.last ∷ y.older) a.end b.end x.leads y.leads).1
 
 pub first_is : (s t : AttemptCourse) (older more : List AttemptCourse) → s ∷ older ≡ t ∷ more → s ≡ t
 first_is s t older more e = cc

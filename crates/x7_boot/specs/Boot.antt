@@ -103,8 +103,8 @@ pub record BootsTo (part : PartData) (known : Option (List ℕ)) (b : BootedStat
   pub keeps_part : b.device.part ≡ part
   pub no_word_due : NoWordDue b.device
 
--- a flash has led a device through `number` attempts, which are reported as
--- `attempts`, to the one that begins as `a` says
+-- a flash has led a device through `number` attempts, which are reported as `attempts`, to the one that begins as `a`
+-- says
 pub record HasLedTo (a : AttemptStart) (flash : List ℕ) (attempts : List Tried) (number : ℕ) : Type 0 where
   pub older : List AttemptCourse
   pub leads : LeadsTo a.part flash older (Again a.kept a.address)

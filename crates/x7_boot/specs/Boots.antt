@@ -1,5 +1,5 @@
--- The course of a boot: its attempts in order, how the boot ended, and the last
--- attempt (UG470, MultiBoot and fallback).
+-- The course of a boot: its attempts in order, how the boot ended, and the last attempt (UG470, MultiBoot and
+-- fallback).
 use Rattle.std.specs.Prelude.{◌≡◌, ℕ, List, ◌∷◌, map, reverse}
 use Rattle.x7_part.specs.Part.{PartData}
 use Rattle.x7_boot.specs.Attempt.{AttemptCourse}

@@ -1,5 +1,5 @@
--- A flash image with a golden and an update stream (UG470, MultiBoot and
--- fallback; the layout is this project's choice).
+-- A flash image with a golden and an update stream (UG470, MultiBoot and fallback; the layout is this project's
+-- choice).
 --
 --     place     what stands there
 --     0         2,048 slots of 32 bytes, the first open: each sets WBSTAR to the update's place and obeys IPROG

@@ -45,8 +45,8 @@ pub record IsBlock (known : Option (List ℕ)) (extent number count : ℕ) (byte
   pub long : length bytes ≡ block_end number count extent - number * page_size
   pub bytes_are : IfKnown known (λ all. bytes ≡ slice_range all (number * page_size) (block_end number count extent))
 
--- what loading the page of a number came to: the page was there, or it begins
--- `count` pages that were read into the block
+-- what loading the page of a number came to: the page was there, or it begins `count` pages that were read into the
+-- block
 abbrev pub IsLoaded : Option (List ℕ) → ℕ → ℕ → List ℕ → Loaded → Type 0
 IsLoaded known extent number block Cached = Unit {0}
 IsLoaded known extent number block (Read count) = (0 < count) × IsBlock known extent number count block
@@ -70,13 +70,13 @@ Pages = List (ℕ × Vec ℕ Global)
 abbrev pub ArePages : Option (List ℕ) → ℕ → Pages → Type 0
 ArePages known extent pages = (page : ℕ × Vec ℕ Global) → Contains pages page → IsRestOfPage known extent (page.0 * page_size) page.1.items
 
--- of whatever flash the block is `count` pages from `number` on: where the old
--- pages are the flash's, the new ones are too
+-- of whatever flash the block is `count` pages from `number` on: where the old pages are the flash's, the new ones are
+-- too
 abbrev pub KeepsPages : List ℕ → ℕ → ℕ → Pages → Pages → Type 0
 KeepsPages block number count old new = (known : Option (List ℕ)) (extent : ℕ) → IsBlock known extent number count block → ArePages known extent old → ArePages known extent new
 
--- of whatever flash these are pages, and the block the one that was loaded:
--- `bytes` are the flash's from the place `place` on
+-- of whatever flash these are pages, and the block the one that was loaded: `bytes` are the flash's from the place
+-- `place` on
 abbrev pub HoldsFrom : Pages → List ℕ → ℕ → Loaded → List ℕ → Type 0
 HoldsFrom pages block place loaded bytes =
     (known : Option (List ℕ)) (extent : ℕ) → place < extent → ArePages known extent pages → IsLoaded known extent (place / page_size) block loaded → AreBytesFrom known extent place bytes

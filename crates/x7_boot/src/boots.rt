@@ -43,11 +43,20 @@ pub enum BootEnd {
 }
 
 /// What a boot came to.
-#[derive(Drop)]
 pub struct Booted {
     attempts: Vec<Tried>,
     end: BootEnd,
     device: Device,
+}
+
+impl Drop for Booted {
+    fn drop(self) {
+        let Booted {
+            attempts: _,
+            end: _,
+            device: _,
+        } = self;
+    }
 }
 
 impl Model for Booted {
@@ -84,7 +93,12 @@ impl Booted {
     pub fn into_device(self) -> Device
         ensures { result ≡ self.device }
     {
-        self.device
+        let Booted {
+            attempts: _,
+            end: _,
+            device,
+        } = self;
+        device
     }
 }
 
@@ -139,27 +153,6 @@ fn try_all<F: Flash>(
     }
 }
 
-/// Boots a new device from a flash, and adds its attempts to `attempts`.
-fn boot_device<F: Flash>(
-    alloc: Global,
-    device: &mut Device,
-    flash: &mut F,
-    attempts: &mut Vec<Tried>,
-) -> Result<BootEnd, BootFault>
-    requires attached { (F.state flash.old).attached ≡ true }
-    requires limit { (F.state flash.old).extent ≤ flash_limit }
-    requires none_tried { attempts.old.items ≡ [] }
-    ensures booted { IfOk result (λ end. BootsTo device.old.part (F.state flash.old).bytes
-        (record { attempts = attempts.new.items; end = end; device = device.new })) }
-    ensures faults { FaultsCounted (F.state flash.old).faults (F.state flash.new).faults result }
-    ensures only_reads { CallOnlyReads F.Flash flash.old flash.new }
-{
-    let Ok(mut pages) = PageCache::new(alloc) else {
-        return Err(BootFault::NoMemory);
-    };
-    try_all(device, flash, &mut pages, attempts)
-}
-
 /// Boots a device of a part from a flash that isn't too large.
 fn boot_part<F: Flash>(alloc: Global, part: &Part, flash: &mut F) -> Result<Booted, BootFault>
     requires attached { (F.state flash.old).attached ≡ true }
@@ -168,11 +161,14 @@ fn boot_part<F: Flash>(alloc: Global, part: &Part, flash: &mut F) -> Result<Boot
     ensures faults { FaultsCounted (F.state flash.old).faults (F.state flash.new).faults result }
     ensures only_reads { CallOnlyReads F.Flash flash.old flash.new }
 {
+    let Ok(mut pages) = PageCache::new(alloc) else {
+        return Err(BootFault::NoMemory);
+    };
     let Ok(mut device) = Device::new(alloc, part) else {
         return Err(BootFault::NoMemory);
     };
     let mut attempts = Vec::new(alloc);
-    let end = boot_device(alloc, &mut device, flash, &mut attempts)?;
+    let end = try_all(&mut device, flash, &mut pages, &mut attempts)?;
     Ok(Booted {
         attempts,
         end,

@@ -26,7 +26,6 @@ pub(crate) enum Loaded {
 }
 
 /// The pages of a flash that were read or used last, by their numbers.
-#[derive(Drop)]
 pub(crate) struct PageCache {
     pages: LruCache<u64, Vec<u8>>,
     /// What was read from the flash last.
@@ -34,6 +33,17 @@ pub(crate) struct PageCache {
     /// The memory of the page that was evicted last.
     spare: Vec<u8>,
     alloc: Global,
+}
+
+impl Drop for PageCache {
+    fn drop(self) {
+        let PageCache {
+            pages: _,
+            block: _,
+            spare: _,
+            alloc: _,
+        } = self;
+    }
 }
 
 impl PageCache {
@@ -138,8 +148,8 @@ impl PageCache {
         }
     }
 
-    /// The bytes from a place on, whose page was loaded: to the end of the block
-    /// that was read for it, or else of the page.
+    /// The bytes from a place on, whose page was loaded: to the end of the block that was read for it, or else of the
+    /// page.
     pub(crate) fn bytes_from(&self, place: u64, loaded: Loaded) -> &[u8]
         requires page { HasPage self.now.pages.entries place }
         requires block { BlockReaches place self.now.block.items loaded }

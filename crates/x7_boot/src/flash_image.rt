@@ -30,7 +30,9 @@ struct ImageShape {
 /// The update's place and the image's size, by the lengths of both streams in bytes; none where the image would be
 /// larger than a flash may be.
 fn shape_of(golden: u64, update: u64) -> Option<ImageShape>
-    ensures found { IfSome result (λ it. (it.update_place ≡ place_after_golden golden) × (it.size ≡ image_size golden update) × (it.size ≤ flash_limit)) }
+    ensures place { IfSome result (λ shape. shape.update_place ≡ place_after_golden golden) }
+    ensures size { IfSome result (λ shape. shape.size ≡ image_size golden update) }
+    ensures within { IfSome result (λ shape. shape.size ≤ flash_limit) }
     ensures too_long { IfNone result (flash_limit < image_size golden update) }
 {
     if golden > FLASH_LIMIT - SECTOR_SIZE {
@@ -85,8 +87,8 @@ fn fill(out: &mut Vec<u8>, place: u64) -> Result<(), NoMemory>
     Ok(())
 }
 
-/// The image of `size` bytes, with the update at its place, to which the first
-/// sector leads by the start address `start`.
+/// The image of `size` bytes, with the update at its place, to which the first sector leads by the start address
+/// `start`.
 fn image_of_size(
     alloc: Global,
     start: u32,
@@ -135,8 +137,8 @@ pub fn image(alloc: Global, golden: &[u8], update: &[u8]) -> Result<Vec<u8>, Ima
     image_of(alloc, 1, golden, update)
 }
 
-/// The flash image of a golden and an update stream for a part, by the number of bytes that one
-/// step of the part's start address stands for.
+/// The flash image of a golden and an update stream for a part, by the number of bytes that one step of the part's
+/// start address stands for.
 pub fn image_for(
     alloc: Global,
     part: &Part,

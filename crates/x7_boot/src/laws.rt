@@ -55,6 +55,7 @@ pub fn one_course()
 pub fn one_boot()
     ensures attempt { (part : PartData) (flash : List ℕ) (s t : AttemptCourse) → IsFlashAttempt part flash s → IsFlashAttempt part flash t
         → s.kept ≡ t.kept → s.address ≡ t.address → s ≡ t }
-    ensures boot { (part : PartData) (flash : List ℕ) (a b : BootedState) → IsBoot part flash a → IsBoot part flash b → (a.attempts ≡ b.attempts) × (a.end ≡ b.end) }
+    ensures attempts { (part : PartData) (flash : List ℕ) (a b : BootedState) → IsBoot part flash a → IsBoot part flash b → a.attempts ≡ b.attempts }
+    ensures end { (part : PartData) (flash : List ℕ) (a b : BootedState) → IsBoot part flash a → IsBoot part flash b → a.end ≡ b.end }
     ensures last { (part : PartData) (flash : List ℕ) (a b : BootedState) → (x : IsBoot part flash a) → (y : IsBoot part flash b) → x.last ≡ y.last }
 {}

@@ -89,7 +89,7 @@ fn kept_after(device: &Device, kind: Kind) -> Kept
     ensures kept { (part : PartData) (t : AttemptCourse) → IsDeviceOf part device.now t → result ≡ kept_after part t.kept t.wrapped t.bytes kind }
 {
     Kept {
-        // `Device::kept` says its kind of a device with a past alone.
+        // The contract of `Device::kept` says the kind only where the device has a past.
         kind,
         ..device.kept(kind)
     }

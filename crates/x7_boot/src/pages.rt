@@ -1,5 +1,5 @@
 //! Reading a flash by pages.
-ghost use Rattle.std.specs.Prelude.{◌≡◌, ◌*◌, ◌<◌, ◌≤◌, ◌^◌, true, OnOk};
+ghost use Rattle.std.specs.Prelude.{◌≡◌, ◌*◌, ◌<◌, ◌≤◌, true, OnOk};
 ghost use Rattle.x7_words.specs.FlashCalls.{CallOnlyReads};
 ghost use Rattle.x7_boot.specs.Image.{flash_limit};
 ghost use Rattle.x7_boot.specs.Pages.{IsBlock, FaultsCounted, most_pages_at_once, page_size};
@@ -27,7 +27,6 @@ pub(crate) fn read_block<F: Flash>(
     ensures read { OnOk result (IsBlock (F.state flash.old).bytes (F.state flash.old).extent number count block.new.items) }
     ensures faults { FaultsCounted (F.state flash.old).faults (F.state flash.new).faults result }
     ensures only_reads { CallOnlyReads F.Flash flash.old flash.new }
-    ensures faults_fit { (F.state flash.old).faults < 2 ^ 64 → (F.state flash.new).faults < 2 ^ 64 }
 {
     let start = number * PAGE_SIZE;
     let end = ((number + count) * PAGE_SIZE).min(flash.size());

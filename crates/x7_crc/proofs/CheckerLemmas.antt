@@ -120,12 +120,3 @@ plain_words register n check held folded ws h plain e s =
       check_is = e ∙ ap (λ (c : ℕ). check_after c (writes_to register ws)) s.check_is ∙ sym (check_all register n ws h p.3 (λ g w. plain_open register g w p.0 p.1 p.2));
       held_is = s.held_is ∙ sym (held_all register n ws h p.2);
     }
-
--- the state after a word written to a register that does not steer the check
-pub plain_word : (register place check held folded w : ℕ) (h : History) → steers_check register ≡ false → folded ≡ check_after_one check register w → IsCheckState check held h → IsCheckState folded held (entry (Write register w) place ∷ h)
-plain_word register place check held folded w h plain e s =
-    let p = none_of (register == 0) (register == 1) (register == 4) (register == 8) plain in
-    record {
-      check_is = e ∙ ap (λ (c : ℕ). check_after_one c register w) s.check_is ∙ sym (check_folded h register w place (plain_open register h w p.0 p.1 p.2) p.3);
-      held_is = s.held_is ∙ sym (held_one register w place h p.2);
-    }

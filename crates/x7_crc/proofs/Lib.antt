@@ -1,6 +1,6 @@
-pub mod BlockLemmas
+mod BlockLemmas
 pub mod CheckLemmas
 pub mod CheckerLemmas
-pub mod PolynomialLemmas
-pub mod ShiftLemmas
-pub mod TableLemmas
+mod PolynomialLemmas
+mod ShiftLemmas
+mod TableLemmas

@@ -1,5 +1,5 @@
--- The running check of a history of accesses: that of its writes since the check was last
--- cleared (UG470, cyclic redundancy check).
+-- The running check of a history of accesses: that of its writes since the check was last cleared (UG470, cyclic
+-- redundancy check).
 use Rattle.std.specs.Prelude.{◌≡◌, ◌≢◌, ℕ, false, List, [], ◌∷◌, ◌++◌, Option}
 use Rattle.x7_regs.specs.Register.{number_of}
 use Rattle.x7_regs.specs.declared.register.Reg.{Reg}

@@ -1,5 +1,5 @@
--- The shift register that computes the running check, a bit at a time (UG470, cyclic redundancy check;
--- the polynomial is this project's choice).
+-- The shift register that computes the running check, a bit at a time (UG470, cyclic redundancy check; the polynomial is
+-- this project's choice).
 use Rattle.std.specs.Prelude.{ℕ, zero, suc, ◌*◌, ◌/◌, ◌%◌, Bool, List, [], ◌∷◌, bit_xor}
 use Rattle.x7_crc.specs.Polynomial.{coefficient}
 

@@ -7,12 +7,12 @@ ghost use Rattle.x7_packets.specs.History.{command_held, entered_all, entry, His
 ghost use Rattle.x7_packets.specs.Packet.{payload_steps};
 ghost use Rattle.x7_crc.specs.Checker.{check_of_bytes, IsCheckState, HaveChecked, HasTaken, KeepsCheckOf, steers_check};
 
-use crate::check::{fold, fold_slice};
+use crate::check::fold_slice;
 use crate::written::{check_after_write, executed};
 use std::marker::Model;
 use x7_packets::{Cut, Cutter};
 use x7_regs::{Reg, command_code_of, reg_of};
-use x7_words::word_of;
+use x7_words::{bytes_of, word_of};
 
 /// What the check of further writes goes on from: the check so far, and the command that CMD holds, five bits.
 #[derive(Clone, Copy)]
@@ -79,21 +79,6 @@ fn steering_register(register: u8) -> Option<Reg>
     }
 }
 
-/// The check state after a word written to the register with this number.
-fn after_word(state: CheckState, register: u8, word: u32) -> CheckState
-    requires { register < reg_number_count }
-    ensures { (h : History) (place : ℕ) → IsCheckState state.check state.held h
-        → IsCheckState result.check result.held (entry (Write register word) place ∷ h) }
-{
-    let Some(reg) = steering_register(register) else {
-        return CheckState {
-            check: fold(state.check, register, word),
-            held: state.held,
-        };
-    };
-    after_steering_word(state, reg, word)
-}
-
 /// The check state after words written to the register with this number, four bytes each.
 fn after_words(state: CheckState, register: u8, bytes: &[u8]) -> CheckState
     requires register { register < reg_number_count }
@@ -117,7 +102,7 @@ fn after_run(state: CheckState, run: Cut) -> CheckState
         → IsCheckState result.check result.held (entered_all place (run_steps run.entry) h) }
 {
     match run {
-        Cut::Word(register, word) => after_word(state, register, word),
+        Cut::Word(register, word) => after_words(state, register, &bytes_of(word)),
         Cut::Body(register, bytes) => after_words(state, register, bytes),
         Cut::Need | Cut::Skip(_) | Cut::Sync | Cut::Head(..) => state,
     }

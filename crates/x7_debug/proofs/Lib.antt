@@ -1,8 +1,8 @@
-pub mod EveryScriptLemmas
-pub mod FeedLemmas
-pub mod LeastLemmas
-pub mod PositionLemmas
-pub mod ScriptLemmas
-pub mod ShowingLemmas
-pub mod UniqueLemmas
-pub mod JournalLemmas
+mod EveryScriptLemmas
+mod FeedLemmas
+mod LeastLemmas
+mod PositionLemmas
+mod ScriptLemmas
+mod ShowingLemmas
+mod UniqueLemmas
+mod JournalLemmas

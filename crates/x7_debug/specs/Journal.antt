@@ -1,5 +1,5 @@
--- The records of a session: devices kept on the way, the newest first, which lead back
--- along the stream (this project's choice).
+-- The records of a session: devices kept on the way, the newest first, which lead back along the stream (this project's
+-- choice).
 use Rattle.std.specs.Prelude.{◌≡◌, ℕ, ◌+◌, ◌-◌, ◌*◌, ◌<◌, ◌≤◌, max, List, [], ◌∷◌, length, take}
 use Rattle.std.specs.List.{AllByRecursion}
 use Rattle.x7_part.specs.Part.{PartData}
@@ -66,9 +66,18 @@ pub record ComesToPosition (stream : List ℕ) (old new : DeviceState) (j : Jour
   pub part : new.part ≡ old.part
   pub taken : new.taken ≡ n
 
--- a record of a device at this position is the newest one now; of a full room the oldest is not in use any more
-abbrev pub HasRecorded : ℕ → JournalState → JournalState → Type 0
-HasRecorded at old new = (u : UndoState) × (u.taken ≡ at) × (records_of new ≡ u ∷ take (record_room - 1) (records_of old))
+-- a record of the device is the newest one now; of a full room the oldest is not in use any more
+pub record HasRecorded (d : DeviceState) (old new : JournalState) : Type 0 where
+  pub undo : UndoState
+  pub saves : SavesDevice undo d
+  pub records : records_of new ≡ undo ∷ take (record_room - 1) (records_of old)
+
+-- the newest record leads back from a position: it is at most four bytes before it
+pub record IsNearNewest (j : JournalState) (at : ℕ) : Type 0 where
+  pub undo : UndoState
+  pub older : List UndoState
+  pub records : records_of j ≡ undo ∷ older
+  pub near : at ≤ undo.taken + record_reach
 
 -- a device was fed at most `count` bytes more
 pub record IsFedAtMost (old new : DeviceState) (count : ℕ) : Type 0 where

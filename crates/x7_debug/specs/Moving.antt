@@ -1,5 +1,5 @@
--- Moves of a device along its stream, with the records that lead it back: what they ask, and
--- what they come to (this project's choice).
+-- Moves of a device along its stream, with the records that lead it back: what they ask, and what they come to (this
+-- project's choice).
 use Rattle.std.specs.Prelude.{◌≡◌, ◌≤◌, ◌<◌, ◌-◌, ℕ, List, max}
 use Rattle.x7_engine.specs.Standing.{DeviceState}
 use Rattle.x7_debug.specs.Journal.{ComesToPosition, IsFedAsTaken, IsOnStream, JournalState, oldest_by, reach, records_of}
@@ -27,8 +27,8 @@ pub record IsBeforeLast (stream : List ℕ) (d : DeviceState) (j : JournalState)
   pub last_is : last ≡ last_of d.part stream
   pub before : d.taken < last
 
--- a device came forward to position n of its stream, where these records lead back,
--- and was fed at most the bytes up to there
+-- a device came forward to position n of its stream, where these records lead back, and was fed at most the bytes up to
+-- there
 pub record ComesForward (stream : List ℕ) (old new : DeviceState) (j : JournalState) (n : ℕ) : Type 0 where
   pub there : ComesToPosition stream old new j n
   pub fed : IsFedAsTaken old new

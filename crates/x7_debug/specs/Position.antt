@@ -7,7 +7,7 @@ use Rattle.x7_engine.specs.declared.regs.End.{End}
 use Rattle.x7_engine.specs.declared.regs.End.TheVariants as at_end
 use Rattle.x7_engine.specs.declared.regs.Regs.{Regs}
 use Rattle.x7_engine.specs.Kept.{on_the_bench}
-use Rattle.x7_engine.specs.State.{memory_in, state_of, taken_of}
+use Rattle.x7_engine.specs.State.{memory_of_bytes, state_of, taken_of}
 use Rattle.x7_debug.specs.declared.order.Stop.{Stop}
 use Rattle.x7_debug.specs.declared.order.Stop.TheVariants as stop
 
@@ -21,7 +21,7 @@ state_at_position part stream n = state_of part on_the_bench false (take n strea
 
 -- the frames at a position
 abbrev pub memory_at_position : PartData → List ℕ → ℕ → FrameMap
-memory_at_position part stream n = memory_in part on_the_bench (take n stream)
+memory_at_position part stream n = memory_of_bytes part on_the_bench (take n stream)
 
 -- the bytes end in a session of the stream: after a sync word, and no DESYNC has ended it
 abbrev pub ends_in_session : End → Bool

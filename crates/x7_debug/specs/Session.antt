@@ -8,14 +8,22 @@ use Rattle.x7_engine.specs.Standing.{DeviceState, DeviceStandsFor, NoWordDue}
 use Rattle.x7_engine.specs.State.{taken_of}
 use Rattle.x7_debug.specs.Position.{last_of}
 
--- the part, the bytes of the stream, the position, the least one that the records lead back to,
--- and how many bytes the device was ever fed
+-- the part, the bytes of the stream, the position, the least one that the records lead back to, and how many bytes the
+-- device was ever fed
 pub record SessionState : Type 0 where
   pub part : PartData
   pub stream : List ℕ
   pub at : ℕ
   pub oldest : ℕ
   pub fed : ℕ
+
+-- a new session of a part and a stream: at position 0, without records, and its device was fed nothing
+pub record IsNewSession (part : PartData) (stream : List ℕ) (s : SessionState) : Type 0 where
+  pub part_is : s.part ≡ part
+  pub stream_is : s.stream ≡ stream
+  pub at : s.at ≡ 0
+  pub oldest : s.oldest ≡ 0
+  pub fed : s.fed ≡ 0
 
 -- the session keeps its part and its stream, and stands at this position
 pub record MovesTo (old new : SessionState) (n : ℕ) : Type 0 where

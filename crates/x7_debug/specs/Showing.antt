@@ -29,9 +29,12 @@ final_position part stream orders = fold (position_after part stream) 0 orders
 abbrev pub FollowsOrders : SessionState → SessionState → List Order → Type 0
 FollowsOrders old new orders = MovesTo old new (final_position old.part old.stream orders)
 
--- a session moved to where the first of the orders lead from position 0 on: some of them, none or all
-abbrev pub FollowsSomeOrders : SessionState → SessionState → List Order → Type 0
-FollowsSomeOrders old new orders = (done : List Order) × (left : List Order) × (orders ≡ done ++ left) × FollowsOrders old new done
+-- a session moved to where some of the orders lead from position 0 on: the first of them, none or all
+pub record FollowsSomeOrders (old new : SessionState) (orders : List Order) : Type 0 where
+  pub done : List Order
+  pub left : List Order
+  pub all : orders ≡ done ++ left
+  pub follows : FollowsOrders old new done
 
 -- where a move led: the position, and where the bytes up to it end
 unfoldable pub position_text : Regs → List ℕ

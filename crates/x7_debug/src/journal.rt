@@ -1,8 +1,7 @@
 //! Records of a device on its way, which lead it back.
 ghost use Rattle.std.specs.Prelude.{◌≡◌, ◌≤◌, ◌<◌, ◌+◌, ◌-◌, ◌∷◌, ℕ, List, length, take, IfOk};
 ghost use Rattle.x7_engine.specs.Standing.{CanBeGiven, NoWordDue, fed_of};
-ghost use Rattle.x7_engine.specs.Undo.{SavesDevice, UndoState};
-ghost use Rattle.x7_debug.specs.Journal.{AreRecordsOf, IsFedAsTaken, IsOnStream, KeepsOldest, ForEachStream, oldest_by, record_reach, record_room, records_of};
+ghost use Rattle.x7_debug.specs.Journal.{AreRecordsOf, ForEachStream, HasRecorded, IsFedAsTaken, IsOnStream, KeepsOldest, oldest_by, record_reach, record_room, records_of};
 ghost use Rattle.x7_debug.specs.Session.{TakesUpToStop};
 
 use circular_buffer::HeapCircularBuffer;
@@ -79,7 +78,7 @@ impl Journal {
         ensures takes { TakesUpToStop device.old device.new piece.now }
         ensures fed { IsFedAsTaken device.old device.new }
         ensures records { AreRecordsOf device.old.part self.new }
-        ensures recorded { (u : UndoState) × SavesDevice u device.old × (records_of self.new ≡ u ∷ take (record_room - 1) (records_of self.old)) }
+        ensures recorded { HasRecorded device.old self.old self.new }
     {
         let Some(mut undo) = self.records.pop_back() else {
             unreachable!();
@@ -95,7 +94,8 @@ impl Journal {
         requires records { AreRecordsOf device.old.part self.old }
         requires on_stream { (stream : List ℕ) × IsOnStream device.old.part stream device.old self.old }
         ensures back { ForEachStream device.old self.old (λ stream. IsOnStream device.new.part stream device.new self.new) }
-        ensures one_record { ForEachStream device.old self.old (λ stream. device.new.taken ≤ device.old.taken × device.old.taken ≤ device.new.taken + record_reach) }
+        ensures backward { ForEachStream device.old self.old (λ stream. device.new.taken ≤ device.old.taken) }
+        ensures one_record { ForEachStream device.old self.old (λ stream. device.old.taken ≤ device.new.taken + record_reach) }
         ensures fed { fed_of device.new ≡ fed_of device.old }
         ensures oldest { ForEachStream device.old self.old (λ stream. KeepsOldest device.old self.old device.new self.new) }
         ensures room_for_one { ForEachStream device.old self.old (λ stream. length (records_of self.new) < record_room) }

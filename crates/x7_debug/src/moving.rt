@@ -48,7 +48,7 @@ pub(crate) fn feed_recorded(device: &mut Device, journal: &mut Journal, stream: 
     requires may_move { MayMoveForward stream.now device.old journal.old to }
     requires one_record { to ≤ device.old.taken + record_reach }
     ensures at_position { ComesForward stream.now device.old device.new journal.new to }
-    ensures recorded { HasRecorded device.old.taken journal.old journal.new }
+    ensures recorded { HasRecorded device.old journal.old journal.new }
 {
     let from = device.taken() as usize;
     journal.feed(device, &stream[from..to as usize]);

@@ -4,7 +4,7 @@ ghost use Rattle.std.specs.Prelude.{◌≡◌, ◌≤◌, ◌+◌, ◌-◌, IfOk
 ghost use Rattle.x7_engine.specs.Standing.{fed_of};
 ghost use Rattle.x7_debug.specs.Journal.{IsMove};
 ghost use Rattle.x7_debug.specs.Position.{last_of, until_of};
-ghost use Rattle.x7_debug.specs.Session.{StandsAtPosition};
+ghost use Rattle.x7_debug.specs.Session.{IsNewSession, StandsAtPosition};
 
 use crate::journal::Journal;
 use crate::moving::move_to;
@@ -19,7 +19,6 @@ use x7_words::NoMemory;
 
 /// A user's way through a stream: the stream, and a device that took its first bytes. The number of these bytes is the
 /// session's position.
-#[derive(Drop)]
 pub struct Session {
     stream: Vec<u8>,
     device: Device,
@@ -27,6 +26,17 @@ pub struct Session {
     outline: Outline,
     // what leads the device back
     journal: Journal,
+}
+
+impl Drop for Session {
+    fn drop(self) {
+        let Session {
+            stream: _,
+            device: _,
+            outline: _,
+            journal: _,
+        } = self;
+    }
 }
 
 impl Model for Session {
@@ -44,9 +54,7 @@ impl Session {
     /// A session at position 0 of a stream, on a new device of the part. A second device plays the stream first, to
     /// find its last position and one before which startup hasn't begun.
     pub fn new(alloc: Global, part: &Part, stream: Vec<u8>) -> Result<Session, NoMemory>
-        ensures begins { IfOk result (λ s. (s.part ≡ part.now) × (s.stream ≡ stream.items) × (s.at ≡ 0)) }
-        ensures oldest { IfOk result (λ s. s.oldest ≡ 0) }
-        ensures fed { IfOk result (λ s. s.fed ≡ 0) }
+        ensures { IfOk result (IsNewSession part.now stream.items) }
     {
         let outline = Outline::new(alloc, part, &stream)?;
         let device = Device::new(alloc, part)?;

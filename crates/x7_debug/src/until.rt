@@ -1,7 +1,6 @@
 //! A device is brought forward to the first position where a stop holds.
-ghost use Rattle.std.specs.Prelude.{◌≡◌, ◌≤◌, ◌<◌, ◌+◌, ◌-◌, ◌∷◌, ℕ, List, true, false, max};
-ghost use Rattle.x7_engine.specs.Undo.{UndoState};
-ghost use Rattle.x7_debug.specs.Journal.{ComesToPosition, MoveCosts, HasRecorded, reach, record_reach, records_of};
+ghost use Rattle.std.specs.Prelude.{◌≡◌, ◌≤◌, ◌<◌, ◌+◌, ◌-◌, ℕ, true, false, max};
+ghost use Rattle.x7_debug.specs.Journal.{ComesToPosition, HasRecorded, IsNearNewest, MoveCosts, reach, record_reach};
 ghost use Rattle.x7_debug.specs.SessionFields.{SessionFits, session_of};
 ghost use Rattle.x7_debug.specs.Moving.{ComesForward, ComesForwardRecorded, IsBeforeLast, MayMove, MayMoveForward};
 ghost use Rattle.x7_debug.specs.Position.{holds_at, holds_in, until_of};
@@ -31,9 +30,10 @@ fn holds_in(stop: Stop, end: End, phase: u8) -> bool
 /// four bytes after the newest record. Says whether the stop holds there.
 fn seek(device: &mut Device, journal: &Journal, stream: &[u8], bound: u64, stop: Stop) -> bool
     requires may_move { MayMoveForward stream.now device.old journal.now bound }
-    requires newest_record { (u : UndoState) × (older : List UndoState) × (records_of journal.now ≡ u ∷ older) × (bound ≤ u.taken + record_reach) }
+    requires near_newest { IsNearNewest journal.now bound }
     ensures at_position { ComesForward stream.now device.old device.new journal.now device.new.taken }
-    ensures forward { device.old.taken ≤ device.new.taken × device.new.taken ≤ bound }
+    ensures forward { device.old.taken ≤ device.new.taken }
+    ensures within { device.new.taken ≤ bound }
     ensures found { result ≡ true → holds_at device.old.part stream.now stop device.new.taken ≡ true }
     ensures at_bound { result ≡ false → device.new.taken ≡ bound }
     ensures none_before { (k : ℕ) → device.old.taken ≤ k → k < device.new.taken → holds_at device.old.part stream.now stop k ≡ false }
@@ -62,8 +62,10 @@ fn seek_word(
 ) -> bool
     requires { IsBeforeLast stream.now device.old journal.old last }
     ensures at_position { ComesForward stream.now device.old device.new journal.new device.new.taken }
-    ensures recorded { HasRecorded device.old.taken journal.old journal.new }
-    ensures forward { device.old.taken < device.new.taken × device.new.taken ≤ last × device.new.taken ≤ device.old.taken + record_reach }
+    ensures recorded { HasRecorded device.old journal.old journal.new }
+    ensures forward { device.old.taken < device.new.taken }
+    ensures within { device.new.taken ≤ last }
+    ensures one_record { device.new.taken ≤ device.old.taken + record_reach }
     ensures whole_record { result ≡ false → device.new.taken < last → device.new.taken ≡ device.old.taken + record_reach }
     ensures found { result ≡ true → holds_at device.old.part stream.now stop device.new.taken ≡ true }
     ensures none_before { (k : ℕ) → device.old.taken < k → k < device.new.taken → holds_at device.old.part stream.now stop k ≡ false }

@@ -7,7 +7,7 @@ use Rattle.x7_words.specs.Word.{AreBytes}
 use Rattle.x7_words.proofs.CountLemmas.{risen_from}
 use Rattle.x7_part.specs.Part.{PartData}
 use Rattle.x7_engine.specs.Standing.{NoWordDue}
-use Rattle.x7_engine.specs.State.{memory_in, state_of}
+use Rattle.x7_engine.specs.State.{memory_of_bytes, state_of}
 use Rattle.x7_boot.specs.Attempt.{AttemptCourse}
 use Rattle.x7_boot.specs.Boot.{BootedState, IsBoot}
 use Rattle.x7_boot.specs.declared.boots.BootEnd.{BootEnd}
@@ -45,24 +45,22 @@ head_is part attempts a end e name head start none begun named tried ends =
 
 -- the text of a boot, made whole, by its head and the report of its device
 pub text_is : (part : PartData) (last : AttemptCourse) (attempts a : List Tried) (end e : BootEnd) (name head start report bytes text : List ℕ)
-    → start ≡ [] → head ≡ start ++ boot_lines name a e → name ≡ part.name → a ≡ attempts → e ≡ end → report ≡ report_text part (state_of part last.kept last.wrapped last.bytes) [] (memory_in part last.kept last.bytes) → bytes ≡ report → text ≡ head ++ bytes
+    → start ≡ [] → head ≡ start ++ boot_lines name a e → name ≡ part.name → a ≡ attempts → e ≡ end → report ≡ report_text part (state_of part last.kept last.wrapped last.bytes) [] (memory_of_bytes part last.kept last.bytes) → bytes ≡ report → text ≡ head ++ bytes
     → text ≡ boot_text part attempts end last
 unfolding boot_text
 text_is part last attempts a end e name head start report bytes text none begun named tried ends reports same is =
     is
     ∙ ap (λ (t : List ℕ). head ++ t) (same ∙ reports)
-    ∙ ap (λ (t : List ℕ). t ++ report_text part (state_of part last.kept last.wrapped last.bytes) [] (memory_in part last.kept last.bytes)) (head_is part attempts a end e name head start none begun named tried ends)
+    ∙ ap (λ (t : List ℕ). t ++ report_text part (state_of part last.kept last.wrapped last.bytes) [] (memory_of_bytes part last.kept last.bytes)) (head_is part attempts a end e name head start none begun named tried ends)
 
 -- the text of a boot by its head and the report of its device
-pub ready_is : (part : PartData) (last : AttemptCourse) (attempts a : List Tried) (end e f : BootEnd) (name head start : List ℕ) (stopped : Bool) (report text : PlayTextState)
+pub ready_is : (part : PartData) (last : AttemptCourse) (attempts a : List Tried) (end e f : BootEnd) (name head start : List ℕ) (stopped : Bool) (text : PlayTextState)
     → start ≡ [] → head ≡ start ++ boot_lines name a e → name ≡ part.name → a ≡ attempts → e ≡ end → stopped ≡ has_failed f → f ≡ end
-    → report ≡ record { stopped = stopped; text = report_text part (state_of part last.kept last.wrapped last.bytes) [] (memory_in part last.kept last.bytes) }
-    → text ≡ record { stopped = report.stopped; text = head ++ report.text } → text ≡ record { stopped = has_failed end; text = boot_text part attempts end last }
+    → text ≡ record { stopped = stopped; text = head ++ report_text part (state_of part last.kept last.wrapped last.bytes) [] (memory_of_bytes part last.kept last.bytes) } → text ≡ record { stopped = has_failed end; text = boot_text part attempts end last }
 unfolding boot_text
-ready_is part last attempts a end e f name head start stopped report text none begun named tried ends failed fs reports is =
-    let shown = report_text part (state_of part last.kept last.wrapped last.bytes) [] (memory_in part last.kept last.bytes) in
+ready_is part last attempts a end e f name head start stopped text none begun named tried ends failed fs is =
+    let shown = report_text part (state_of part last.kept last.wrapped last.bytes) [] (memory_of_bytes part last.kept last.bytes) in
     is
-    ∙ ap (λ (r : PlayTextState). record { stopped = r.stopped; text = head ++ r.text }) reports
     ∙ ap (λ (s : Bool). record { stopped = s; text = head ++ shown }) (failed ∙ ap has_failed fs)
     ∙ ap (λ (t : List ℕ). record { stopped = has_failed end; text = t ++ shown }) (head_is part attempts a end e name head start none begun named tried ends)
 

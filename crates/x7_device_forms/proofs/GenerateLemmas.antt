@@ -24,7 +24,7 @@ use Rattle.x7_planner.specs.FullStream.{full_stream}
 use Rattle.x7_planner.specs.FullStreamPieces.{FullStreamState, HasGiven, AppendsNext}
 use Rattle.x7_engine.specs.Kept.{on_the_bench}
 use Rattle.x7_engine.specs.Standing.{NoWordDue}
-use Rattle.x7_engine.specs.State.{memory_in, reads_of, state_of}
+use Rattle.x7_engine.specs.State.{memory_of_bytes, reads_of, state_of}
 use Rattle.x7_effects.proofs.FormLemmas.{full_length}
 use Rattle.x7_effects.proofs.PlannerLemmas.{full_same}
 use Rattle.x7_effects.specs.Played.{PlaysFull, device_after}
@@ -143,11 +143,11 @@ few_reads part plan stream is p e within s =
     omega (arith, none, all, ap length law.reads)
 
 pub summary_is : (p q : PartData) (name : List ℕ) (seed planned size phase total : ℕ) (frames : List (List ℕ)) (stream none text : List ℕ) → name ≡ p.name → p ≡ q → size ≡ length stream → phase ≡ (state_of q on_the_bench false stream).phase
-    → total ≡ words_sum (frame_at p frames) (addresses_in p) % 2 ^ 32 → HaveSameFrames (frame_at q frames) (memory_in q on_the_bench stream) → none ≡ []
+    → total ≡ words_sum (frame_at p frames) (addresses_in p) % 2 ^ 32 → HaveSameFrames (frame_at q frames) (memory_of_bytes q on_the_bench stream) → none ≡ []
     → text ≡ none ++ summary_text name seed (record { planned = planned; size = size; phase = phase; sum = total }) → text ≡ played_summary q seed planned stream
 summary_is p q name seed planned size phase total frames stream none text a d s f t same z e =
-    let sums : total ≡ words_sum (memory_in q on_the_bench stream) (addresses_in q) % 2 ^ 32 =
-    t ∙ ap (λ (x : PartData). words_sum (frame_at x frames) (addresses_in x) % 2 ^ 32) d ∙ ap (λ (n : ℕ). n % 2 ^ 32) (sum_same (frame_at q frames) (memory_in q on_the_bench stream) (addresses_in q) same) in
+    let sums : total ≡ words_sum (memory_of_bytes q on_the_bench stream) (addresses_in q) % 2 ^ 32 =
+    t ∙ ap (λ (x : PartData). words_sum (frame_at x frames) (addresses_in x) % 2 ^ 32) d ∙ ap (λ (n : ℕ). n % 2 ^ 32) (sum_same (frame_at q frames) (memory_of_bytes q on_the_bench stream) (addresses_in q) same) in
     e ∙ ap (λ (x : List ℕ). x ++ summary_text name seed (record { planned = planned; size = size; phase = phase; sum = total })) z
     ∙ ap (λ (x : List ℕ). summary_text x seed (record { planned = planned; size = size; phase = phase; sum = total })) (a ∙ ap (λ (x : PartData). x.name) d)
     ∙ ap (λ (n : ℕ). summary_text q.name seed (record { planned = planned; size = n; phase = phase; sum = total })) s
@@ -219,10 +219,10 @@ unfolding gen_text
 planned_is part seed text is e =
     let plan = generated part seed in
     let stream = full_stream part plan in
-    let sums = words_sum (memory_in part on_the_bench stream) (addresses_in part) % 2 ^ 32 in
+    let sums = words_sum (memory_of_bytes part on_the_bench stream) (addresses_in part) % 2 ^ 32 in
     let law = new_law part plan is (generated_plan part seed is) refl (generated_addressed part seed) in
     e ∙ ap (λ (n : ℕ). summary_text part.name seed (record { planned = length plan.rows; size = length stream; phase = n; sum = sums })) (law.phase false)
-    ∙ ap (λ (n : ℕ). summary_text part.name seed (record { planned = length plan.rows; size = length stream; phase = 7; sum = n % 2 ^ 32 })) (sum_same (memory_in part on_the_bench stream) (total part plan) (addresses_in part) law.memory)
+    ∙ ap (λ (n : ℕ). summary_text part.name seed (record { planned = length plan.rows; size = length stream; phase = 7; sum = n % 2 ^ 32 })) (sum_same (memory_of_bytes part on_the_bench stream) (total part plan) (addresses_in part) law.memory)
 
 -- ---- a stream that is played while it is written
 

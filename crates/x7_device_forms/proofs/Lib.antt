@@ -1,9 +1,9 @@
-pub mod BootTextLemmas
-pub mod DebugLemmas
-pub mod FlashLemmas
+mod BootTextLemmas
+mod DebugLemmas
+mod FlashLemmas
 pub mod GenerateLemmas
-pub mod PlayLemmas
-pub mod ReadyLemmas
-pub mod StopLemmas
-pub mod SvfLemmas
-pub mod UpdateLemmas
+mod PlayLemmas
+mod ReadyLemmas
+mod StopLemmas
+mod SvfLemmas
+mod UpdateLemmas

@@ -7,7 +7,7 @@ use Rattle.x7_memory.specs.FrameMap.{FrameMap}
 use Rattle.x7_engine.specs.declared.fault.Fault.{Fault}
 use Rattle.x7_engine.specs.Kept.{on_the_bench}
 use Rattle.x7_engine.specs.Standing.{DeviceState}
-use Rattle.x7_engine.specs.State.{why_stopped, memory_in, reads_of, state_of, first_stop_of_bytes}
+use Rattle.x7_engine.specs.State.{why_stopped, memory_of_bytes, reads_of, state_of, first_stop_of_bytes}
 use Rattle.x7_engine.specs.Stop.{fault_of_stop}
 use Rattle.x7_report.specs.Reports.{PlayTextState, report_text}
 use Rattle.x7_forms.specs.Event.{Event, event_of, no_memory, too_many_reads}
@@ -26,13 +26,13 @@ reported_over part bytes k =
     rw long refl
 
 pub reported_is : (part : PartData) (bytes : List ℕ) (d : DeviceState) (reads text : List ℕ) (fault : Option Fault) (stopped : Bool) → (p : IsPlayed part bytes d reads) → fault ≡ fault_of_stop (why_stopped (first_stop_of_bytes part on_the_bench p.prefix)) → stopped ≡ is_some fault
-    → text ≡ report_text part (state_of part on_the_bench false p.prefix) reads (memory_in part on_the_bench p.prefix) → reported part bytes ≡ Ok (record { stopped = stopped; text = text })
+    → text ≡ report_text part (state_of part on_the_bench false p.prefix) reads (memory_of_bytes part on_the_bench p.prefix) → reported part bytes ≡ Ok (record { stopped = stopped; text = text })
 unfolding reported
 reported_is part bytes d reads text fault stopped p f s t =
     let few : length (reads_of part on_the_bench bytes) ≤ reads_limit = subst (λ x. length x ≤ reads_limit) p.reads_are p.within_limit in
     let short : nat_lt reads_limit (length (reads_of part on_the_bench bytes)) ≡ false = grind (arith, few, nat_tests) in
     let stop : is_some (fault_of_stop (why_stopped (first_stop_of_bytes part on_the_bench bytes))) ≡ stopped = ap (λ x. is_some (fault_of_stop (why_stopped x))) p.stop ∙ sym (ap is_some f) ∙ sym s in
-    let memory : FrameMap = memory_in part on_the_bench bytes in
+    let memory : FrameMap = memory_of_bytes part on_the_bench bytes in
     let whole : report_text part (state_of part on_the_bench false bytes) (reads_of part on_the_bench bytes) memory ≡ text
     = ap (λ x. report_text part x (reads_of part on_the_bench bytes) memory) p.state ∙ ap (λ x. report_text part (state_of part on_the_bench false p.prefix) x memory) (sym p.reads_are)
     ∙ ap (report_text part (state_of part on_the_bench false p.prefix) reads) p.memory ∙ sym t in

@@ -6,7 +6,7 @@ use Rattle.x7_engine.specs.declared.fault.Fault.{Fault}
 use Rattle.x7_engine.specs.declared.regs.Regs.{Regs}
 use Rattle.x7_engine.specs.Kept.{on_the_bench}
 use Rattle.x7_engine.specs.Standing.{DeviceState, frames_due}
-use Rattle.x7_engine.specs.State.{memory_in, state_owing}
+use Rattle.x7_engine.specs.State.{memory_of_bytes, state_owing}
 use Rattle.x7_report.specs.Reports.{PlayTextState, report_text}
 use Rattle.x7_jtag.specs.declared.play.Differ.{Differ}
 use Rattle.x7_svf.specs.declared.statement.Statement.{Statement}
@@ -23,16 +23,15 @@ use Rattle.x7_outcome.specs.Play.{play_answer}
 abbrev pub played_to : PartData → List Statement → Option Differ → Port
 played_to part statements differ = port_after part (clocks_played statements differ)
 
-pub svf_is : (part : PartData) (statements : List Statement) (t : TapState) (d : DeviceState) (differ : Option Differ) (fault : Option Fault) (stopped : Bool) (line : List ℕ) (report text : PlayTextState)
+pub svf_is : (part : PartData) (statements : List Statement) (t : TapState) (d : DeviceState) (differ : Option Differ) (fault : Option Fault) (stopped : Bool) (line : List ℕ) (text : PlayTextState)
     → TapStandsFor part t d (clocks_played statements differ) → differ ≡ first_difference part statements → fault ≡ fault_shown part (played_to part statements differ) → stopped ≡ (is_some differ || is_some fault) → line ≡ play_text differ
-    → report ≡ record {
+    → text ≡ record {
       stopped = stopped;
-      text = report_text part (state_owing part on_the_bench false (bytes_taken part (played_to part statements differ)) (frames_due d.registers.due)) [] (memory_in part on_the_bench (bytes_taken part (played_to part statements differ)));
-    }
-    → text ≡ record { stopped = report.stopped; text = line ++ report.text } → play_answer text ≡ svf_answer part statements
-svf_is part statements t d differ fault stopped line report text s e f b l r is =
+      text = line ++ report_text part (state_owing part on_the_bench false (bytes_taken part (played_to part statements differ)) (frames_due d.registers.due)) [] (memory_of_bytes part on_the_bench (bytes_taken part (played_to part statements differ)));
+    } → play_answer text ≡ svf_answer part statements
+svf_is part statements t d differ fault stopped line text s e f b l is =
     let p : Port = played_to part statements differ in
-    ap play_answer is ∙ ap (λ (x : PlayTextState). record { stopped = x.stopped; text = line ++ x.text }) r
+    ap play_answer is
     ∙ ap (λ (x : List ℕ). record { stopped = stopped; text = x ++ report_text part (state_owing part on_the_bench false (bytes_taken part p) (frames_due d.registers.due)) [] (memory_shown part p) }) l
     ∙ ap (λ (x : Regs). record { stopped = stopped; text = play_text differ ++ report_text part x [] (memory_shown part p) }) (shows_is part t d (clocks_played statements differ) s)
     ∙ ap (λ (x : Bool). record { stopped = x; text = play_text differ ++ report_text part (state_shown part p) [] (memory_shown part p) }) (b ∙ ap (λ (x : Option Fault). is_some differ || is_some x) f)

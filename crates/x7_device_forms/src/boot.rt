@@ -63,8 +63,7 @@ fn ready_text(alloc: Global, booted: Booted) -> Result<PlayText, NoMemory>
         booted.end(),
     )?;
     let stopped = has_failed(booted.end());
-    let report = PlayText::new(alloc, booted.into_device(), &[], stopped)?;
-    report.after(head)
+    PlayText::new(alloc, head, booted.into_device(), &[], stopped)
 }
 
 /// The text of a boot, or want of memory.

@@ -6,8 +6,8 @@ ghost use Rattle.x7_debug.specs.Script.{IsScriptOf};
 ghost use Rattle.x7_debug.specs.declared.fault.ScriptFault.{ScriptFault as FaultData};
 ghost use Rattle.x7_device_forms.specs.Debug.{debug_given};
 ghost use Rattle.x7_forms.specs.Event.{event_of, no_memory};
-ghost use Rattle.x7_outcome.specs.Outcome.{DebuggedAs, debug_inputs, script_event, script_limit, shown_of};
-ghost use Rattle.x7_forms.specs.Known.{part_limit, stream_limit};
+ghost use Rattle.x7_outcome.specs.Outcome.{DebuggedAs, debug_inputs, script_event, shown_of};
+ghost use Rattle.x7_forms.specs.Known.{part_limit, stream_limit, script_limit};
 ghost use Rattle.x7_forms.specs.Turn.{IsLastAsked};
 ghost use Rattle.x7_outcome.specs.Ready.{text_answer};
 ghost use Rattle.x7_forms.specs.Form.{Debugging};
@@ -16,13 +16,10 @@ ghost use Rattle.x7_outcome.specs.Ending.{MakesReady};
 
 use std::alloc::Global;
 use x7_debug::{Script, ScriptFault, Session, script_of, transcript};
-use x7_forms::{InputFault, Refusal, Why, read_part, read_whole};
+use x7_forms::{InputFault, Refusal, SCRIPT_LIMIT, Why, read_part, read_whole};
 use x7_outcome::{Text, read_data};
 use x7_part::Part;
 use x7_words::Inputs;
-
-/// The most bytes of a script.
-const SCRIPT_LIMIT: usize = 1_048_576;
 
 /// What the command `debug` reads: a part, the data of a stream, and the text of a script.
 #[derive(Drop)]

@@ -27,7 +27,8 @@ fn text_of<'w>(alloc: Global, player: Player) -> Result<PlayText, Refusal<'w>>
         });
     }
     let stopped = player.device.fault().is_some();
-    Ok(PlayText::new(alloc, player.device, &player.reads, stopped)?)
+    let (device, reads) = player.into_parts();
+    Ok(PlayText::new(alloc, Vec::new(alloc), device, &reads, stopped)?)
 }
 
 /// The text of `play PART STREAM..`: the inputs are read in the order of the words, and the streams' data are played as

@@ -8,8 +8,8 @@ ghost use Rattle.x7_forms.specs.Form.{PlayingSvf};
 ghost use Rattle.x7_outcome.specs.Ending.{MakesReady};
 ghost use Rattle.x7_svf.specs.Svf.{IsSvfOf};
 ghost use Rattle.x7_svf.specs.declared.fault.SvfFault.{SvfFault as FaultData};
-ghost use Rattle.x7_outcome.specs.Outcome.{PlayedSvf, part_and_text, svf_answer, svf_event, text_limit};
-ghost use Rattle.x7_forms.specs.Known.{part_limit};
+ghost use Rattle.x7_outcome.specs.Outcome.{PlayedSvf, part_and_text, svf_answer, svf_event};
+ghost use Rattle.x7_forms.specs.Known.{part_limit, text_limit};
 ghost use Rattle.x7_forms.specs.Turn.{IsLastAsked};
 ghost use Rattle.x7_outcome.specs.Play.{play_answer};
 ghost use Rattle.x7_device_forms.specs.Svf.{svf_given};
@@ -93,8 +93,7 @@ fn played_text(alloc: Global, part: &Part, svf: &Svf) -> Result<PlayText, NoMemo
     let stopped = has_stopped(differ, device.fault());
     let mut line = Vec::new(alloc);
     play_line(&mut line, differ)?;
-    let report = PlayText::new(alloc, device, &[], stopped)?;
-    report.after(line)
+    PlayText::new(alloc, line, device, &[], stopped)
 }
 
 /// The text of `svf` for a part and an SVF text.

@@ -1,5 +1,5 @@
 //! The command `update`: a flash gets another update stream, and may lose its power at any moment.
-ghost use Rattle.std.specs.Prelude.{◌≡◌, ℕ, List, Some, false};
+ghost use Rattle.std.specs.Prelude.{◌≡◌, Some, false};
 ghost use Rattle.x7_forms.specs.Form.{UpdatingFlash};
 ghost use Rattle.x7_forms.specs.Event.{event_of};
 ghost use Rattle.x7_forms.specs.Step.{result_by};
@@ -7,7 +7,6 @@ ghost use Rattle.x7_outcome.specs.Leaving.{CallUsesFlash};
 ghost use Rattle.x7_outcome.specs.Outcome.{update_event};
 ghost use Rattle.x7_outcome.specs.Outside.{sources};
 ghost use Rattle.x7_outcome.specs.Ending.{AnsweredSilently};
-ghost use Rattle.x7_update.specs.declared.fault.UpdateFault.TheVariants.{Failed};
 
 use std::alloc::Global;
 use x7_forms::{InputFault, Refusal, Why};
@@ -15,25 +14,20 @@ use x7_outcome::{open_flash, read_stream};
 use x7_update::UpdateFault;
 use x7_words::{Flash, Inputs};
 
-/// A write of the flash failed, or a read.
-fn failed<'w>(flash: &'w str, writing: bool) -> Refusal<'w>
-    ensures { (stream : List ℕ) → event_of result ≡ update_event (record { flash = flash.now; stream = stream }) (Failed writing) }
-{
-    if writing {
-        return Refusal::unnamed(Why::WriteFault);
-    }
-    Refusal {
-        reason: Why::ReadFault,
-        name: flash,
-    }
-}
-
 /// Why a flash wasn't updated.
 fn refusal_of<'w>(flash: &'w str, stream: &'w str, fault: UpdateFault) -> Refusal<'w>
     ensures { event_of result ≡ update_event (record { flash = flash.now; stream = stream.now }) fault }
 {
     match fault {
-        UpdateFault::Failed { writing } => failed(flash, writing),
+        UpdateFault::Failed { writing } => {
+            if writing {
+                return Refusal::unnamed(Why::WriteFault);
+            }
+            Refusal {
+                reason: Why::ReadFault,
+                name: flash,
+            }
+        }
         UpdateFault::TooLong => Refusal {
             reason: Why::BadInput(InputFault::Long),
             name: stream,

@@ -16,7 +16,7 @@ use Rattle.x7_flow.specs.FrameMemory.{memory_of}
 use Rattle.x7_engine.specs.declared.kept.Kept.{Kept}
 use Rattle.x7_engine.specs.Rest.{AtRest}
 use Rattle.x7_engine.specs.Startup.{phase_by, phase_of, startup_progress}
-use Rattle.x7_engine.specs.State.{history_by, memory_in, reads_of, state_of, first_stop_of_bytes, taken_by}
+use Rattle.x7_engine.specs.State.{history_by, memory_of_bytes, reads_of, state_of, first_stop_of_bytes, taken_by}
 use Rattle.x7_engine.specs.Stop.{Stopped}
 use Rattle.x7_engine.specs.Value.{lines_by, read_out}
 use Rattle.x7_engine.proofs.UntilLemmas.{phase_going}
@@ -32,7 +32,7 @@ use Rattle.x7_effects.proofs.WalkLemmas.{IsReady, going_one, quiet_one}
 
 -- ---- where there is no stop, all of the history counts
 
-pub memory_all : (part : PartData) (kept : Kept) (bytes : List ℕ) → first_stop_of_bytes part kept bytes ≡ None → memory_in part kept bytes ≡ memory_of part (history_of bytes)
+pub memory_all : (part : PartData) (kept : Kept) (bytes : List ℕ) → first_stop_of_bytes part kept bytes ≡ None → memory_of_bytes part kept bytes ≡ memory_of part (history_of bytes)
 memory_all part kept bytes e = ap (λ o. memory_of part (history_by o (history_of bytes))) e
 
 pub reads_all : (part : PartData) (kept : Kept) (bytes : List ℕ) → first_stop_of_bytes part kept bytes ≡ None → reads_of part kept bytes ≡ read_out part kept (history_of bytes)
@@ -71,7 +71,7 @@ ready_check part kept startup h n m r = record {
 
 -- pieces through which the device goes on: what it has after them, DESYNC and the no-ops
 pub record HasPlayed (part : PartData) (kept : Kept) (startup : StartupProgress) (bytes stream : List ℕ) (m : FrameMap) : Type 0 where
-  pub memory : HaveSameFrames (memory_in part kept (bytes ++ stream)) m
+  pub memory : HaveSameFrames (memory_of_bytes part kept (bytes ++ stream)) m
   pub phase_is : (wrapped : Bool) → (state_of part kept wrapped (bytes ++ stream)).phase ≡ phase_by part startup
   pub lines_are : (wrapped : Bool) → (state_of part kept wrapped (bytes ++ stream)).lines ≡ lines_by part startup
   pub rests_again : AtRest part kept (bytes ++ stream)

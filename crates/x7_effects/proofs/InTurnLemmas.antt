@@ -16,7 +16,7 @@ use Rattle.x7_planner.specs.Fault.{CanRead}
 use Rattle.x7_planner.specs.Writer.{StreamPiece, Words, Check, bytes_of_words, check_words, stream_of, with_piece}
 use Rattle.x7_engine.specs.declared.kept.Kept.{Kept}
 use Rattle.x7_engine.specs.Rest.{AtRest}
-use Rattle.x7_engine.specs.State.{memory_in, reads_of}
+use Rattle.x7_engine.specs.State.{memory_of_bytes, reads_of}
 use Rattle.x7_effects.specs.Played.{PlaysBoth, PlaysFull, PlaysPartial, PlaysRead, ReadsBack, play_after, device_after, words_along}
 use Rattle.x7_effects.proofs.LawLemmas.{full_law, partial_law, read_law}
 use Rattle.x7_effects.proofs.ReadbackLemmas.{along_same}
@@ -46,13 +46,13 @@ partial_fits part bytes rows f =
 
 -- a read stream after bytes that read nothing out and left this memory
 reads_back : (part : PartData) (kept : Kept) (bytes written : List ℕ) (m : FrameMap) (far n : ℕ) → AreBytes written → AtRest part kept written → IsPart part → CanRead part far n
-    → reads_of part kept written ≡ reads_of part kept bytes → HaveSameFrames (memory_in part kept written) m → ReadsBack (device_after part kept bytes) written m far n
+    → reads_of part kept written ≡ reads_of part kept bytes → HaveSameFrames (memory_of_bytes part kept written) m → ReadsBack (device_after part kept bytes) written m far n
 reads_back part kept bytes written m far n f r is can none same =
     let read : PlaysRead (device_after part kept written) (read_stream part far n) far n = read_law part kept written far n f r is can in
     record {
       reads = read.reads
-          ∙ ap (λ t. t ++ words_along part (memory_in part kept written) far n) none
-          ∙ ap (λ t. reads_of part kept bytes ++ t) (along_same part (memory_in part kept written) m far n same);
+          ∙ ap (λ t. t ++ words_along part (memory_of_bytes part kept written) far n) none
+          ∙ ap (λ t. reads_of part kept bytes ++ t) (along_same part (memory_of_bytes part kept written) m far n same);
       same = λ x. read.memory x ∙ same x;
       phase = read.phase;
       rests = read.rests;
@@ -65,10 +65,10 @@ full_reads_back part kept bytes plan far n f r is p can =
     reads_back part kept bytes (bytes ++ full_stream part plan) (total part plan) far n (full_fits part bytes plan f) full.rests is can full.reads full.memory
 
 pub partial_reads_back : (part : PartData) (kept : Kept) (bytes : List ℕ) (plan : PlanData) (far n : ℕ) → AreBytes bytes → AtRest part kept bytes → IsPart part → IsPlanFor part plan → CanRead part far n
-    → ReadsBack (device_after part kept bytes) (bytes ++ partial_stream part plan.rows) (override (memory_in part kept bytes) (planned plan.rows)) far n
+    → ReadsBack (device_after part kept bytes) (bytes ++ partial_stream part plan.rows) (override (memory_of_bytes part kept bytes) (planned plan.rows)) far n
 partial_reads_back part kept bytes plan far n f r is p can =
     let partial : PlaysPartial (device_after part kept bytes) (partial_stream part plan.rows) plan = partial_law part kept bytes plan f r is p.is_plan p.width p.addressed in
-    reads_back part kept bytes (bytes ++ partial_stream part plan.rows) (override (memory_in part kept bytes) (planned plan.rows)) far n (partial_fits part bytes plan.rows f) partial.rests is can partial.reads partial.memory
+    reads_back part kept bytes (bytes ++ partial_stream part plan.rows) (override (memory_of_bytes part kept bytes) (planned plan.rows)) far n (partial_fits part bytes plan.rows f) partial.rests is can partial.reads partial.memory
 
 pub both_play : (part : PartData) (kept : Kept) (bytes : List ℕ) (plan later : PlanData) → AreBytes bytes → AtRest part kept bytes → IsPart part → IsPlanFor part plan → IsPlanFor part later
     → PlaysBoth (play_after part kept bytes plan) later

@@ -1,12 +1,13 @@
 -- What a planner writes: items, their words, and what they ask of the registers.
 use Rattle.std.specs.Prelude.{ℕ, ◌+◌, ◌*◌, ◌^◌, ◌<◌, List, [], ◌∷◌, ◌++◌, length, replicate}
 use Rattle.std.specs.List.{flat_map, AllByRecursion}
-use Rattle.x7_words.specs.Word.{AreWords, bytes_of_word}
+use Rattle.x7_words.specs.Word.{AreWords}
 use Rattle.x7_packets.specs.Appended.{LacksFirst}
 use Rattle.x7_packets.specs.PacketWords.{bus_width_detect, bus_width_sync, dummy_word, no_op, sync_word, type1_read_header, type1_write_header, type2_read_header, type2_write_header}
 use Rattle.x7_packets.specs.Packet.{NoneEnds}
 use Rattle.x7_packets.specs.History as access
 use Rattle.x7_packets.specs.History.{History, entry}
+pub use Rattle.x7_planner.specs.Writer.{bytes_of_words}
 
 -- no-op, dummy word, words written to a register by a type 1 packet, the same by an empty type 1 packet and a type 2
 -- packet, and reads of some words by either
@@ -65,10 +66,6 @@ items_entered place (i ∷ items) h = items_entered (place + 4 * length (item_wo
 -- DESYNC written to CMD
 abbrev pub desync : Item
 desync = Write 4 (13 ∷ [])
-
--- the bytes of words
-abbrev pub bytes_of_words : List ℕ → List ℕ
-bytes_of_words ws = flat_map bytes_of_word ws
 
 -- words before the sync word, the sync word and items
 abbrev pub opened : List ℕ → List Item → List ℕ

@@ -2,29 +2,29 @@ pub mod Items
 pub mod Checking
 pub mod Frames
 pub mod Streams
-pub mod Groups
-pub mod ItemLemmas
+mod Groups
+mod ItemLemmas
 pub mod StreamLemmas
-pub mod CheckingLemmas
+mod CheckingLemmas
 pub mod FrameLemmas
 pub mod FormLemmas
-pub mod GroupLemmas
-pub mod PlacedLemmas
-pub mod OnceLemmas
+mod GroupLemmas
+mod PlacedLemmas
+mod OnceLemmas
 pub mod CalmLemmas
 pub mod StillLemmas
 pub mod GoingLemmas
-pub mod WalkLemmas
-pub mod SectionLemmas
+mod WalkLemmas
+mod SectionLemmas
 pub mod RestingLemmas
-pub mod PlanLemmas
-pub mod ReadLemmas
+mod PlanLemmas
+mod ReadLemmas
 pub mod EndLemmas
-pub mod SilentLemmas
-pub mod KeptLemmas
+mod SilentLemmas
+mod KeptLemmas
 pub mod PartialLemmas
-pub mod ReadbackLemmas
-pub mod FullLemmas
+mod ReadbackLemmas
+mod FullLemmas
 pub mod PlannerLemmas
 pub mod LawLemmas
-pub mod InTurnLemmas
+mod InTurnLemmas

@@ -14,7 +14,7 @@ use Rattle.x7_startup.specs.declared.lines.Lines.{Lines}
 use Rattle.x7_engine.specs.declared.kept.Kept.{Kept}
 use Rattle.x7_engine.specs.declared.regs.Regs.{Regs}
 use Rattle.x7_engine.specs.Rest.{AtRest}
-use Rattle.x7_engine.specs.State.{memory_in, reads_of, state_of}
+use Rattle.x7_engine.specs.State.{memory_of_bytes, reads_of, state_of}
 use Rattle.x7_planner.specs.FullStream.{full_stream, zero_frame}
 use Rattle.x7_planner.specs.PartialStream.{partial_stream}
 use Rattle.x7_planner.specs.ReadStream.{read_stream}
@@ -64,7 +64,7 @@ bytes_with_both p later = bytes_with_full p ++ partial_stream p.device.part late
 
 -- the memory that the device's bytes left, with the plan over it
 abbrev pub memory_with_plan : PlannedPlay → FrameMap
-memory_with_plan p = override (memory_in p.device.part p.device.kept p.device.bytes) (planned p.plan.rows)
+memory_with_plan p = override (memory_of_bytes p.device.part p.device.kept p.device.bytes) (planned p.plan.rows)
 
 -- the words of a memory at a slot: its frame at an address, zeros at a pad
 abbrev pub slot_words : PartData → FrameMap → Slot → List ℕ
@@ -101,7 +101,7 @@ pub record KeepsSettings (old new : Regs) : Type 0 where
 -- planned stream writes are as they were. The stream reads nothing out, there is no stop, and the device is at rest
 -- again.
 pub record PlaysFull (d : DeviceAfter) (stream : List ℕ) (plan : PlanData) : Type 0 where
-  pub memory : HaveSameFrames (memory_in d.part d.kept (d.bytes ++ stream)) (total d.part plan)
+  pub memory : HaveSameFrames (memory_of_bytes d.part d.kept (d.bytes ++ stream)) (total d.part plan)
   pub phase : (wrapped : Bool) → (state_of d.part d.kept wrapped (d.bytes ++ stream)).phase ≡ last_phase
   pub lines : (wrapped : Bool) → (state_of d.part d.kept wrapped (d.bytes ++ stream)).lines ≡ all_high
   pub registers : (wrapped : Bool) → KeepsUnwritten (state_of d.part d.kept wrapped d.bytes) (state_of d.part d.kept wrapped (d.bytes ++ stream))
@@ -111,7 +111,7 @@ pub record PlaysFull (d : DeviceAfter) (stream : List ℕ) (plan : PlanData) : T
 -- After a partial stream the memory is that before it, overridden by the plan, and phase, lines and settings stay. It
 -- reads nothing out, there is no stop, and the device is at rest again.
 pub record PlaysPartial (d : DeviceAfter) (stream : List ℕ) (plan : PlanData) : Type 0 where
-  pub memory : HaveSameFrames (memory_in d.part d.kept (d.bytes ++ stream)) (override (memory_in d.part d.kept d.bytes) (planned plan.rows))
+  pub memory : HaveSameFrames (memory_of_bytes d.part d.kept (d.bytes ++ stream)) (override (memory_of_bytes d.part d.kept d.bytes) (planned plan.rows))
   pub phase : (wrapped : Bool) → (state_of d.part d.kept wrapped (d.bytes ++ stream)).phase ≡ (state_of d.part d.kept wrapped d.bytes).phase
   pub lines : (wrapped : Bool) → (state_of d.part d.kept wrapped (d.bytes ++ stream)).lines ≡ (state_of d.part d.kept wrapped d.bytes).lines
   pub registers : (wrapped : Bool) → KeepsSettings (state_of d.part d.kept wrapped d.bytes) (state_of d.part d.kept wrapped (d.bytes ++ stream))
@@ -121,8 +121,8 @@ pub record PlaysPartial (d : DeviceAfter) (stream : List ℕ) (plan : PlanData) 
 -- A read stream reads out the words of n slots from an address on; memory, phase, lines and settings stay. There is no
 -- stop, and the device is at rest again.
 pub record PlaysRead (d : DeviceAfter) (stream : List ℕ) (far n : ℕ) : Type 0 where
-  pub reads : reads_of d.part d.kept (d.bytes ++ stream) ≡ reads_of d.part d.kept d.bytes ++ words_along d.part (memory_in d.part d.kept d.bytes) far n
-  pub memory : HaveSameFrames (memory_in d.part d.kept (d.bytes ++ stream)) (memory_in d.part d.kept d.bytes)
+  pub reads : reads_of d.part d.kept (d.bytes ++ stream) ≡ reads_of d.part d.kept d.bytes ++ words_along d.part (memory_of_bytes d.part d.kept d.bytes) far n
+  pub memory : HaveSameFrames (memory_of_bytes d.part d.kept (d.bytes ++ stream)) (memory_of_bytes d.part d.kept d.bytes)
   pub phase : (wrapped : Bool) → (state_of d.part d.kept wrapped (d.bytes ++ stream)).phase ≡ (state_of d.part d.kept wrapped d.bytes).phase
   pub lines : (wrapped : Bool) → (state_of d.part d.kept wrapped (d.bytes ++ stream)).lines ≡ (state_of d.part d.kept wrapped d.bytes).lines
   pub registers : (wrapped : Bool) → KeepsSettings (state_of d.part d.kept wrapped d.bytes) (state_of d.part d.kept wrapped (d.bytes ++ stream))
@@ -134,12 +134,12 @@ pub record PlaysRead (d : DeviceAfter) (stream : List ℕ) (far n : ℕ) : Type 
 -- stream of n slots from an address on reads that memory out, and leaves it.
 pub record ReadsBack (d : DeviceAfter) (written : List ℕ) (memory : FrameMap) (far n : ℕ) : Type 0 where
   pub reads : reads_of d.part d.kept (written ++ read_stream d.part far n) ≡ reads_of d.part d.kept d.bytes ++ words_along d.part memory far n
-  pub same : HaveSameFrames (memory_in d.part d.kept (written ++ read_stream d.part far n)) memory
+  pub same : HaveSameFrames (memory_of_bytes d.part d.kept (written ++ read_stream d.part far n)) memory
   pub phase : (wrapped : Bool) → (state_of d.part d.kept wrapped (written ++ read_stream d.part far n)).phase ≡ (state_of d.part d.kept wrapped written).phase
   pub rests : AtRest d.part d.kept (written ++ read_stream d.part far n)
 
 -- After the full stream of a plan and the partial stream of a later one the memory is the later plan over the earlier
 -- one over zeros, and startup has ended.
 pub record PlaysBoth (p : PlannedPlay) (later : PlanData) : Type 0 where
-  pub memory : HaveSameFrames (memory_in p.device.part p.device.kept (bytes_with_both p later)) (override (total p.device.part p.plan) (planned later.rows))
+  pub memory : HaveSameFrames (memory_of_bytes p.device.part p.device.kept (bytes_with_both p later)) (override (total p.device.part p.plan) (planned later.rows))
   pub phase : (wrapped : Bool) → (state_of p.device.part p.device.kept wrapped (bytes_with_both p later)).phase ≡ last_phase

@@ -7,7 +7,7 @@ use Rattle.x7_packets.specs.Reading.{is_synced}
 use Rattle.x7_part.specs.Part.{PartData}
 use Rattle.x7_flow.specs.FrameMemory.{memory_of}
 use Rattle.x7_engine.specs.Course.{course_at}
-use Rattle.x7_engine.specs.State.{history_by, memory_in, state_by, state_of, first_stop_of_bytes, taken_by, why_stopped}
+use Rattle.x7_engine.specs.State.{history_by, memory_of_bytes, state_by, state_of, first_stop_of_bytes, taken_by, why_stopped}
 use Rattle.x7_engine.specs.Stop.{Stopped, first_stop_of_history}
 use Rattle.x7_engine.specs.declared.kept.Kept.{Kept}
 use Rattle.x7_engine.specs.declared.regs.Regs.{Regs}
@@ -16,7 +16,7 @@ module _ (part : PartData) (kept : Kept) (one other : List ℕ) (a : AreAlike on
   pub alike_stop : first_stop_of_bytes part kept one ≡ first_stop_of_bytes part kept other
   alike_stop = ap (λ (h : History). first_stop_of_history part kept h (length one)) a.history ∙ ap (first_stop_of_history part kept (history_of other)) a.count
 
-  pub alike_memory : memory_in part kept one ≡ memory_in part kept other
+  pub alike_memory : memory_of_bytes part kept one ≡ memory_of_bytes part kept other
   alike_memory = ap (λ (o : Option Stopped). memory_of part (history_by o (history_of one))) alike_stop ∙ ap (λ (h : History). memory_of part (history_by (first_stop_of_bytes part kept other) h)) a.history
 
   abbrev state_from : History → ℕ → Option Stopped → Bool → Bool → Regs

@@ -10,7 +10,7 @@ use Rattle.x7_part.specs.Part.{PartData}
 use Rattle.x7_flow.specs.FrameMemory.{memory_of}
 use Rattle.x7_engine.specs.Course.{course_at}
 use Rattle.x7_engine.specs.Kept.{AreFallbacks, is_fallback, without_kept}
-use Rattle.x7_engine.specs.State.{history_by, memory_in, state_by, state_of, first_stop_of_bytes, taken_by, why_stopped}
+use Rattle.x7_engine.specs.State.{history_by, memory_of_bytes, state_by, state_of, first_stop_of_bytes, taken_by, why_stopped}
 use Rattle.x7_engine.specs.Stop.{Stopped, first_stop_of_history, stop_at_place, stop_at_firing, why_at_access}
 use Rattle.x7_engine.specs.Watching.{first_firing, timer_held, turns_on}
 use Rattle.x7_engine.specs.declared.kept.Kept.{Kept}
@@ -42,7 +42,7 @@ module _ (part : PartData) (one other : Kept) (bytes : List ℕ) (f : AreFallbac
   pub kept_stop : first_stop_of_bytes part one bytes ≡ first_stop_of_bytes part other bytes
   kept_stop = same_stops (history_of bytes) (length bytes)
 
-  pub kept_memory : memory_in part one bytes ≡ memory_in part other bytes
+  pub kept_memory : memory_of_bytes part one bytes ≡ memory_of_bytes part other bytes
   kept_memory = ap (λ (o : Option Stopped). memory_of part (history_by o (history_of bytes))) kept_stop
 
   -- the registers but those that tell what was kept

@@ -17,7 +17,7 @@ use Rattle.x7_engine.specs.declared.stop.StopCause.{StopCause}
 use Rattle.x7_engine.specs.declared.stop.StopCause.TheVariants as stop
 use Rattle.x7_engine.specs.ReadBuffer.{ReadBufState, gathered, with_words}
 use Rattle.x7_engine.specs.Readout.{RegistersGaveWords, GotAllBut, DeviceGaveWords}
-use Rattle.x7_engine.specs.Past.{HasPast, Past, stop_at, AnswersAt, past_of}
+use Rattle.x7_engine.specs.Past.{HasPast, Past, first_stop_at, AnswersAt, past_of}
 use Rattle.x7_engine.specs.Standing.{DeviceStandsFor, DeviceState, NoWordDue, RegistersStandFor, RegistersState, due_count, answer_at_stop, frames_among, frames_due, taken_in, reads_given, words_still_due}
 use Rattle.x7_engine.specs.State.{first_stop_of_bytes, history_taken, reads_of}
 use Rattle.x7_engine.specs.Stop.{Stopped, stop_at_place}
@@ -96,16 +96,6 @@ now_given part kept wrapped d e first read next taken known g m = (
   g.given_are ∙ ap (λ t. t ++ g.more) m.2 ∙ append_assoc known m.0 g.more,
 )
 
--- the words given once a run more is taken, which gives none
-pub read_here : (part : PartData) (kept : Kept) (wrapped : Bool) (old new next : DeviceState) (first read last : ReadBufState) (bytes piece known : List ℕ) (from to : ℕ)
-    → DeviceGaveWords (record { part = part; kept = kept; wrapped = wrapped; bytes = bytes ++ take from piece }) old new read last → from ≤ to
-    → ((b : List ℕ) → DeviceStandsFor part kept wrapped new b → reads_given part kept next (b ++ between piece from to) ≡ reads_given part kept new b)
-    → ((more : List ℕ) × (read ≡ with_words first more) × (reads_given part kept old (bytes ++ take from piece) ≡ known ++ more))
-    → (more : List ℕ) × (last ≡ with_words first more) × (reads_given part kept next (bytes ++ take to piece) ≡ known ++ more)
-read_here part kept wrapped old new next first read last bytes piece known from to g f t m =
-    let now : (more : List ℕ) × (last ≡ with_words first more) × (reads_given part kept new (bytes ++ take from piece) ≡ known ++ more) = now_given part kept wrapped old new first read last (bytes ++ take from piece) known g m in
-    (now.0, now.1, given_on part kept wrapped new next bytes piece from to f t g.stands ∙ now.2)
-
 -- what is answered for a stop
 pub taken_by_stop : (why : StopCause) (n at : ℕ) → taken_in n (answer_at_stop why at) ≡ at
 taken_by_stop (stop.Fault f) n at = refl
@@ -126,7 +116,7 @@ stopped_here part kept wrapped d bytes s e = sym (same (length bytes) d.register
     same n (Some why) = refl
 
 -- the bytes of a device that stopped have a stop
-pub has_stop : (d : DeviceState) (p : Past) → HasPast d p → is_some d.registers.stop ≡ true → is_some (stop_at p) ≡ true
+pub has_stop : (d : DeviceState) (p : Past) → HasPast d p → is_some d.registers.stop ≡ true → is_some (first_stop_at p) ≡ true
 has_stop d p s e = ap (λ (o : Option Stopped). is_some o) s.stop_is ∙ (same (length p.bytes) d.registers.stop ∙ e)
   where
     same : (n : ℕ) (o : Option StopCause) → is_some (stop_at_place n o) ≡ is_some o

@@ -1,35 +1,36 @@
 pub mod AlikeLemmas
-pub mod BeginsLemmas
-pub mod BodyLemmas
+mod BeginsLemmas
+mod BodyLemmas
 pub mod BootLemmas
 pub mod CheckedLemmas
 pub mod ClockLemmas
-pub mod DataLemmas
-pub mod DeviceLemmas
+mod DataLemmas
+mod DeviceLemmas
 pub mod FallbackLemmas
 pub mod FeedLemmas
-pub mod FiringLemmas
+pub mod FeedingLemmas
+mod FiringLemmas
 pub mod FirstStopLemmas
 pub mod FrameLemmas
-pub mod GapLemmas
+mod GapLemmas
 pub mod MaskLemmas
-pub mod PassLemmas
-pub mod PastLemmas
+mod PassLemmas
+mod PastLemmas
 pub mod PassesLemmas
-pub mod PhaseLemmas
-pub mod PlainLemmas
+mod PhaseLemmas
+mod PlainLemmas
 pub mod ReadsLemmas
 pub mod RestLemmas
-pub mod RunningLemmas
+mod RunningLemmas
 pub mod SameLemmas
-pub mod SequenceLemmas
-pub mod SinceLemmas
+mod SequenceLemmas
+mod SinceLemmas
 pub mod StartupLemmas
 pub mod StateLemmas
-pub mod TimeoutLemmas
+mod TimeoutLemmas
 pub mod TurnLemmas
-pub mod UndoLemmas
+mod UndoLemmas
 pub mod UntilLemmas
-pub mod UntilReadLemmas
-pub mod WrapLemmas
-pub mod WriteLemmas
+mod UntilReadLemmas
+mod WrapLemmas
+mod WriteLemmas

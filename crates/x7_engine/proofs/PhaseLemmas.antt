@@ -9,7 +9,7 @@ use Rattle.x7_part.specs.Part.{PartData}
 use Rattle.x7_startup.specs.Phases.{first_tick_of, IsPhase, wait_of}
 use Rattle.x7_startup.specs.Startup.{Call, Arm, Byte, Desync, DropBack, StartupProgress, NotBegun, Begun, is_armed, progress_of, since_shutdown}
 use Rattle.x7_startup.proofs.CallLemmas.{progress_after_desync, further, progress_arm, progress_bytes, progress_desync, progress_drop}
-use Rattle.x7_startup.proofs.PhaseLemmas.{arrival_grows, phase_first}
+use Rattle.x7_startup.proofs.PhaseLemmas.{first_tick_grows, phase_first}
 use Rattle.x7_engine.specs.Registers.{takes_shutdown}
 use Rattle.x7_engine.specs.Startup.{phase_by, phase_of, startup_call, startup_calls, startup_progress}
 use Rattle.x7_engine.proofs.ClockLemmas.{startup_more}
@@ -90,12 +90,12 @@ reach_bytes p bytes (x ∷ more) k fits r =
 -- ---- phases
 
 -- a phase comes at its tick at the soonest
-arrival_late : (w : ℕ → ℕ) (p j : ℕ) → first_tick_of w p + j ≤ first_tick_of w (p + j)
-arrival_late w p zero = let e : p + 0 ≡ p = omega arith in rw e (omega arith)
-arrival_late w p (suc j) =
+first_tick_late : (w : ℕ → ℕ) (p j : ℕ) → first_tick_of w p + j ≤ first_tick_of w (p + j)
+first_tick_late w p zero = let e : p + 0 ≡ p = omega arith in rw e (omega arith)
+first_tick_late w p (suc j) =
     let e : p + suc j ≡ suc (p + j) = omega arith in
-    let h : first_tick_of w p + j ≤ first_tick_of w (p + j) = arrival_late w p j in
-    let g : first_tick_of w (p + j) + 1 ≤ first_tick_of w (suc (p + j)) = arrival_grows w (p + j) in
+    let h : first_tick_of w p + j ≤ first_tick_of w (p + j) = first_tick_late w p j in
+    let g : first_tick_of w (p + j) + 1 ≤ first_tick_of w (suc (p + j)) = first_tick_grows w (p + j) in
     rw e (omega arith)
 
 -- this many ticks later it is higher by as many at most
@@ -105,7 +105,7 @@ phase_within w t u d p q a b l = elim (cases_lt (p + d) q) [
   | inl high ↦
       let m : ℕ = q - d in
       let is : m + d ≡ q = omega arith in
-      let far : first_tick_of w m + d ≤ first_tick_of w (m + d) = arrival_late w m d in
+      let far : first_tick_of w m + d ≤ first_tick_of w (m + d) = first_tick_late w m d in
       let far' : first_tick_of w m + d ≤ first_tick_of w q = subst (λ (x : ℕ). first_tick_of w m + d ≤ first_tick_of w x) is far in
       let begun : first_tick_of w q ≤ u = b.begun in
       let last : q ≤ 7 = b.most in

@@ -10,9 +10,9 @@ use Rattle.x7_engine.specs.Startup.{greatest_begun, phase_at, phase_by}
 -- ---- the phase is the greatest that has begun
 
 -- the phase 0 has begun at once
-arrival_zero : (wait : ℕ → ℕ) → first_tick_of wait 0 ≡ 0
+first_tick_zero : (wait : ℕ → ℕ) → first_tick_of wait 0 ≡ 0
 unfolding first_tick_of
-arrival_zero wait = refl
+first_tick_zero wait = refl
 
 abbrev IsGreatest : (ℕ → ℕ) → ℕ → ℕ → ℕ → Type 0
 IsGreatest wait ticks last g = (g ≤ last) × (first_tick_of wait g ≤ ticks) × ((p : ℕ) → p ≤ last → first_tick_of wait p ≤ ticks → p ≤ g)
@@ -29,7 +29,7 @@ greatest_step wait ticks last g true e i = (omega arith, grind (arith, nat_tests
 greatest_step wait ticks last g false e i = (omega (arith, i.0), i.1, λ p l a. not_yet wait ticks last g p e i l a (last_or_before p last l))
 
 greatest_is : (wait : ℕ → ℕ) (ticks last : ℕ) → IsGreatest wait ticks last (greatest_begun wait ticks last)
-greatest_is wait ticks zero = (omega arith, omega (arith, arrival_zero wait), λ p l a. l)
+greatest_is wait ticks zero = (omega arith, omega (arith, first_tick_zero wait), λ p l a. l)
 greatest_is wait ticks (suc last) = greatest_step wait ticks last (greatest_begun wait ticks last) (nat_le (first_tick_of wait (suc last)) ticks) refl (greatest_is wait ticks last)
 
 phase_is_greatest : (wait : ℕ → ℕ) (ticks : ℕ) → IsPhase wait ticks (phase_at wait ticks)

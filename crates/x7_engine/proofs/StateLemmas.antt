@@ -18,7 +18,7 @@ use Rattle.x7_engine.specs.Standing.{DeviceStandsFor, DeviceState}
 use Rattle.x7_flow.specs.HistoryFlow.{Flow, far_in, flow_of}
 use Rattle.x7_flow.specs.FrameMemory.{memory_of}
 use Rattle.x7_flow.proofs.StandingLemmas.{no_less}
-use Rattle.x7_engine.specs.State.{history_by, history_taken, last_counted, why_stopped, reads_of, state_by, state_of, first_stop_of_bytes, taken_by, taken_of, memory_in, state_owing}
+use Rattle.x7_engine.specs.State.{history_by, history_taken, last_counted, why_stopped, reads_of, state_by, state_of, first_stop_of_bytes, taken_by, taken_of, memory_of_bytes, state_owing}
 use Rattle.x7_engine.specs.Stop.{Stopped, why_at_access, first_stop_of_history, stop_at_place, stop_at_firing}
 use Rattle.x7_engine.specs.Watching.{fired_or, watchdog_fires, first_firing}
 use Rattle.x7_engine.specs.Value.{read_out}
@@ -163,7 +163,7 @@ history_final part kept bytes more s f e =
 pub stop_is_final_reads : (part : PartData) (kept : Kept) (bytes more : List ℕ) (s : Stopped) → AreBytes (bytes ++ more) → first_stop_of_bytes part kept bytes ≡ Some s → reads_of part kept (bytes ++ more) ≡ reads_of part kept bytes
 stop_is_final_reads part kept bytes more s f e = ap (read_out part kept) (history_final part kept bytes more s f e)
 
-pub stop_is_final_memory : (part : PartData) (kept : Kept) (bytes more : List ℕ) (s : Stopped) → AreBytes (bytes ++ more) → first_stop_of_bytes part kept bytes ≡ Some s → memory_in part kept (bytes ++ more) ≡ memory_in part kept bytes
+pub stop_is_final_memory : (part : PartData) (kept : Kept) (bytes more : List ℕ) (s : Stopped) → AreBytes (bytes ++ more) → first_stop_of_bytes part kept bytes ≡ Some s → memory_of_bytes part kept (bytes ++ more) ≡ memory_of_bytes part kept bytes
 stop_is_final_memory part kept bytes more s f e = ap (memory_of part) (history_final part kept bytes more s f e)
 
 -- after a stop it doesn't matter whether the bytes end in a session

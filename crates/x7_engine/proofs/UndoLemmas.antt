@@ -20,7 +20,7 @@ use Rattle.x7_engine.specs.declared.stop.StopCause.{StopCause}
 use Rattle.x7_engine.specs.ReadBuffer.{IsFullBy, ReadBufState, dropping, with_words}
 use Rattle.x7_engine.specs.Past.{AnswersAt, Past}
 use Rattle.x7_engine.specs.Standing.{DeviceState, DeviceStandsFor, NoWordDue, frames_due}
-use Rattle.x7_engine.specs.State.{history_by, history_taken, last_counted, memory_in, first_stop_of_bytes}
+use Rattle.x7_engine.specs.State.{history_by, history_taken, last_counted, memory_of_bytes, first_stop_of_bytes}
 use Rattle.x7_engine.specs.Stop.{Stopped, stop_at_place}
 use Rattle.x7_engine.specs.Undo.{UndoLeadsBack, SavesDevice, UndoState}
 use Rattle.x7_engine.proofs.DeviceLemmas.{going_taken}
@@ -72,7 +72,7 @@ no_stop part kept bytes more (Some now) why f some e g = by why g
 
 -- ---- back
 
-memory_stands : (part : PartData) (kept : Kept) (wrapped : Bool) (d : DeviceState) (bytes : List ℕ) → DeviceStandsFor part kept wrapped d bytes → HaveSameFrames (frame_at part d.registers.frames.memory) (memory_in part kept bytes)
+memory_stands : (part : PartData) (kept : Kept) (wrapped : Bool) (d : DeviceState) (bytes : List ℕ) → DeviceStandsFor part kept wrapped d bytes → HaveSameFrames (frame_at part d.registers.frames.memory) (memory_of_bytes part kept bytes)
 memory_stands part kept wrapped d bytes s = λ far. s.registers_are.frames.stands.memory far ∙ s.registers_are.frames.memory_same far
 
 module _ (part : PartData) (kept : Kept) (wrapped : Bool) (u : UndoState) (old new : DeviceState) (bytes more : List ℕ) where
@@ -87,7 +87,7 @@ module _ (part : PartData) (kept : Kept) (wrapped : Bool) (u : UndoState) (old n
       subst (λ (k : ℕ). FramesStandFor part old.registers.frames h k) (none_frames old.registers.due none)
       (subst (λ (x : History). FramesStandFor part old.registers.frames x (frames_due old.registers.due)) taken
       (frames_of part old.registers.frames old.registers.stop (history_taken part kept bytes) (frames_due old.registers.due) (goes_on old.registers.stop going) s.registers_are.frames)) in
-      let memory : HaveSameFrames (frame_at part new.registers.frames.memory) (memory_in part kept (bytes ++ more)) = memory_stands part kept wrapped new (bytes ++ more) t in
+      let memory : HaveSameFrames (frame_at part new.registers.frames.memory) (memory_of_bytes part kept (bytes ++ more)) = memory_stands part kept wrapped new (bytes ++ more) t in
       elim (taken_one part kept bytes more new.registers.stop t.fits few some t.stop_is) [
         | inl same ↦
             back_same part u.frames old.registers.frames new.registers.frames k o n
@@ -100,7 +100,7 @@ module _ (part : PartData) (kept : Kept) (wrapped : Bool) (u : UndoState) (old n
   frames_none k o n e s t =
       let all : bytes ++ more ≡ bytes = ap (λ (m : List ℕ). bytes ++ m) e ∙ append-nil bytes in
       back_same part u.frames old.registers.frames new.registers.frames k o n
-      (λ far. memory_stands part kept wrapped new (bytes ++ more) t far ∙ ap (λ (b : List ℕ). memory_in part kept b far) all ∙ sym (memory_stands part kept wrapped old bytes s far))
+      (λ far. memory_stands part kept wrapped new (bytes ++ more) t far ∙ ap (λ (b : List ℕ). memory_of_bytes part kept b far) all ∙ sym (memory_stands part kept wrapped old bytes s far))
 
 pub frames_back : (part : PartData) (kept : Kept) (wrapped : Bool) (u : UndoState) (old new : DeviceState) (bytes more : List ℕ) → SavesFrames part u.frames old.registers.frames → FramesFit part old.registers.frames → FramesFit part new.registers.frames
     → NoWordDue old → length more ≤ 4 → DeviceStandsFor part kept wrapped old bytes → DeviceStandsFor part kept wrapped new (bytes ++ more) → FramesBack part u.frames new.registers.frames old.registers.frames

@@ -3,6 +3,7 @@ pub mod Clock
 pub mod Course
 pub mod DeviceFields
 pub mod Entering
+pub mod Feeding
 pub mod FirstStop
 pub mod Kept
 pub mod Past

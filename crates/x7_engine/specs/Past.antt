@@ -1,16 +1,16 @@
 -- Pasts. A past is all that the state of a device is a function of: the part, what the last reset kept,
--- whether the flash has ended since then, and the bytes taken since then. A clause on a device speaks of each
+-- whether the flash has ended since then, and the bytes since then. A clause on a device speaks of each
 -- past that the device has (this project's choice).
+-- What ends in `_at` takes a past. It is a definition of State.antt, Standing.antt or UntilStarted.antt, which takes the
+-- past's values one by one: `state_at` is `state_of`, and `first_stop_at` is `first_stop_of_bytes`.
 use Rattle.std.specs.Prelude.{◌≡◌, ℕ, ◌<◌, ◌==◌, ◌++◌, Bool, false, List, length, take, Option, None, Some}
 use Rattle.x7_words.specs.Word.{AreBytes}
 use Rattle.x7_packets.specs.History.{Access, History}
-use Rattle.x7_regs.specs.declared.boot_status.Cause.{Cause}
 use Rattle.x7_regs.specs.declared.boot_status.Kind.TheVariants.{Bench}
 use Rattle.x7_memory.specs.FrameMap.{FrameMap}
 use Rattle.x7_part.specs.Part.{PartData}
 use Rattle.x7_startup.specs.Phases.{last_phase}
 use Rattle.x7_engine.specs.Checked.{StandsIn}
-use Rattle.x7_engine.specs.Value.{failure_of}
 use Rattle.x7_engine.specs.declared.fault.Fault.{Fault}
 use Rattle.x7_engine.specs.declared.fed.Fed.{Fed}
 use Rattle.x7_engine.specs.declared.fed.Fed.TheVariants as fed
@@ -19,13 +19,14 @@ use Rattle.x7_engine.specs.declared.kept.Kept.{Kept}
 use Rattle.x7_engine.specs.declared.regs.Regs.{Regs}
 use Rattle.x7_engine.specs.declared.until_started.UntilStarted.{UntilStarted}
 use Rattle.x7_engine.specs.declared.until_started.UntilStarted.TheVariants as until
-use Rattle.x7_engine.specs.ReadBuffer.{IsFull, ReadBufState, with_words}
+use Rattle.x7_engine.specs.ReadBuffer.{IsFull, ReadBufState}
 use Rattle.x7_engine.specs.Standing.{DeviceStandsFor, DeviceState, NoWordDue, due_count, due_of, taken_in, reads_given}
-use Rattle.x7_engine.specs.State.{history_taken, why_stopped, memory_in, reads_of, state_of, first_stop_of_bytes, taken_of}
-use Rattle.x7_engine.specs.Stop.{Stopped, fault_of_stop}
+use Rattle.x7_engine.specs.State.{cause_of, history_taken, why_stopped, memory_of_bytes, reads_of, state_of, first_stop_of_bytes, taken_of}
+use Rattle.x7_engine.specs.Stop.{Stopped}
 use Rattle.x7_engine.specs.UntilStarted.{has_started, taken_until}
 
--- a past: the part, what the last reset kept, whether the flash has ended since then, and the bytes taken since then
+-- a past: the part, what the last reset kept, whether the flash has ended since then, and the bytes since then; of a
+-- past that a device has, just those that it took
 pub record Past : Type 0 where
   pub part : PartData
   pub kept : Kept
@@ -59,8 +60,8 @@ abbrev pub state_at : Past → Regs
 state_at p = state_of p.part p.kept p.wrapped p.bytes
 
 -- the first stop in the bytes of a past
-abbrev pub stop_at : Past → Option Stopped
-stop_at p = first_stop_of_bytes p.part p.kept p.bytes
+abbrev pub first_stop_at : Past → Option Stopped
+first_stop_at p = first_stop_of_bytes p.part p.kept p.bytes
 
 -- the words that a device of a past reads out
 abbrev pub reads_at : Past → List ℕ
@@ -68,11 +69,11 @@ reads_at p = reads_of p.part p.kept p.bytes
 
 -- the memory of a device of a past
 abbrev pub memory_at : Past → FrameMap
-memory_at p = memory_in p.part p.kept p.bytes
+memory_at p = memory_of_bytes p.part p.kept p.bytes
 
 -- the history of the bytes that a device of a past takes
-abbrev pub history_at : Past → History
-history_at p = history_taken p.part p.kept p.bytes
+abbrev pub history_taken_at : Past → History
+history_taken_at p = history_taken p.part p.kept p.bytes
 
 -- how many of the bytes of a past are taken
 abbrev pub taken_at : Past → ℕ
@@ -92,10 +93,6 @@ started_at p = has_started p.part p.kept p.bytes
 
 -- ---- stops
 
--- the cause of a fallback that bytes come to
-abbrev pub cause_in : PartData → Kept → List ℕ → Option Cause
-cause_in part kept bytes = failure_of (fault_of_stop (why_stopped (first_stop_of_bytes part kept bytes))) false
-
 -- an attempt of a boot
 abbrev pub IsBootAttempt : Kept → Type 0
 IsBootAttempt kept = kept.kind ≡ Bench → ⊥
@@ -103,12 +100,13 @@ IsBootAttempt kept = kept.kind ≡ Bench → ⊥
 -- the device stopped, and then more bytes came
 pub record HasStoppedBefore (p : Past) (more : List ℕ) (s : Stopped) : Type 0 where
   pub fits : AreBytes (p.bytes ++ more)
-  pub stop : stop_at p ≡ Some s
+  pub stop : first_stop_at p ≡ Some s
 
--- an access stands after older ones, before the stop
+-- an access stands after older ones, and ends before the last byte that is taken, which is that of the stop where there
+-- is one
 pub record StandsBefore (p : Past) (access : Access) (place : ℕ) (older : History) : Type 0 where
   pub fits : AreBytes p.bytes
-  pub stands : StandsIn (history_at p) access place older
+  pub stands : StandsIn (history_taken_at p) access place older
   pub before : place < taken_at p
 
 -- the attempt of a boot goes on: startup hasn't ended, and neither a fault that
@@ -116,8 +114,8 @@ pub record StandsBefore (p : Past) (access : Access) (place : ℕ) (older : Hist
 pub record BootGoesOn (p : Past) : Type 0 where
   pub boots : IsBootAttempt p.kept
   pub not_started : ((state_at p).phase == last_phase) ≡ false
-  pub not_failed : cause_in p.part p.kept p.bytes ≡ None
-  pub not_left : why_stopped (stop_at p) ≡ Some stop.Iprog → ⊥
+  pub not_failed : cause_of p.part p.kept p.bytes ≡ None
+  pub not_left : why_stopped (first_stop_at p) ≡ Some stop.Iprog → ⊥
 
 -- ---- what a call does that takes bytes
 
@@ -125,26 +123,17 @@ pub record BootGoesOn (p : Past) : Type 0 where
 abbrev pub TakesJust : DeviceState → DeviceState → List ℕ → Type 0
 TakesJust old new more = ForEachPast old (λ p. HasPast new (later p more))
 
--- no byte was taken of a piece, as their number `taken` says, and the device and the buffer are as they were
-abbrev pub TakesNothing : DeviceState → DeviceState → ReadBufState → ReadBufState → ℕ → Type 0
-TakesNothing old new before after taken = (new ≡ old) × (after ≡ before) × (taken ≡ 0)
-
 -- the bytes `more` give no word: the words given so far are those given before
 abbrev pub GivesNoWord : DeviceState → DeviceState → List ℕ → Type 0
 GivesNoWord old new more = ForEachPast old (λ p. reads_given_at new (later p more) ≡ reads_given_at old p)
 
--- the bytes `more` give the buffer words: the words given so far are those given before, and then these
-abbrev pub GivesWordsNext : DeviceState → DeviceState → List ℕ → ReadBufState → ReadBufState → Type 0
-GivesWordsNext old new more before after =
-    ForEachPast old (λ p. (words : List ℕ) × (after ≡ with_words before words) × (reads_given_at new (later p more) ≡ reads_given_at old p ++ words))
-
 -- what a feed answers: that nothing stopped the device and no word is due, the stop at the last byte, with no word due
 -- either, or that nothing stopped it, a word is due and the buffer full
 abbrev pub AnswersAt : Past → DeviceState → ReadBufState → Fed → Type 0
-AnswersAt p d read fed.All = (stop_at p ≡ None) × NoWordDue d
-AnswersAt p d read (fed.Stopped n) = (f : Fault) × (stop_at p ≡ Some (record { place = length p.bytes; why = stop.Fault f })) × NoWordDue d
-AnswersAt p d read (fed.Iprog n) = (stop_at p ≡ Some (record { place = length p.bytes; why = stop.Iprog })) × NoWordDue d
-AnswersAt p d read (fed.ReadFull n) = (stop_at p ≡ None) × (0 < due_count d.registers.due) × IsFull read
+AnswersAt p d read fed.All = (first_stop_at p ≡ None) × NoWordDue d
+AnswersAt p d read (fed.Stopped n) = (f : Fault) × (first_stop_at p ≡ Some (record { place = length p.bytes; why = stop.Fault f })) × NoWordDue d
+AnswersAt p d read (fed.Iprog n) = (first_stop_at p ≡ Some (record { place = length p.bytes; why = stop.Iprog })) × NoWordDue d
+AnswersAt p d read (fed.ReadFull n) = (first_stop_at p ≡ None) × (0 < due_count d.registers.due) × IsFull read
 
 -- what a feed up to the end of startup answers: where it says that startup has ended, no word is due; and else what a
 -- feed answers

@@ -94,8 +94,8 @@ controlling_registers = Crc ∷ Far ∷ Cmd ∷ Ctl0 ∷ Lout ∷ Idcode ∷ Tim
 abbrev pub is_controlling : ℕ → Bool
 is_controlling register = list_any (λ reg. register == number_of reg) controlling_registers
 
--- the registers in which a written word does more than stay and be folded into the check: those above, those of frame
--- data, and CBC, which asks for decryption
+-- the registers in which a written word does more than stay and be folded into the check: the controlling ones, those
+-- of frame data, and CBC, which asks for decryption
 abbrev pub effective_registers : List Reg
 effective_registers = Fdri ∷ Mfwr ∷ Cbc ∷ controlling_registers
 

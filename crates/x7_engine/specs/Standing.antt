@@ -243,8 +243,8 @@ NoWordDue d = due_count d.registers.due ≡ 0
 abbrev pub with_wrap : DeviceState → DeviceState
 with_wrap d = record d { wrapped = true }
 
--- the flash may end here: the attempt is one of a boot that hasn't started,
--- failed or left by an IPROG, and no word is due
+-- the flash may end here: the attempt is one of a boot, in which startup hasn't ended and which no fault that a
+-- fallback follows and no IPROG has ended, and no word is due
 pub record MayWrapWith (d : RegistersState) : Type 0 where
   pub boots : d.kind ≡ Bench → ⊥
   pub not_started : (d.clock.startup.phase == last_phase) ≡ false

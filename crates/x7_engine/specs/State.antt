@@ -1,16 +1,17 @@
 -- The state of a device as a function of all bytes since its reset, of what the reset kept, and of whether the flash
 -- has ended (this project's choice where UG470 leaves it open).
--- What ends in `_by` here is a function of the first stop, if there is one, or of why it came; what ends in `_of` or
--- `_in`, of all bytes since the reset, with the part and what the reset kept (`memory_of` and `attempt_of`, of other
--- files, take a history); what ends in `_taken`, of the bytes up to that stop. So `state_of` is `state_by` of the
--- course up to the first stop in the bytes, and of why that came.
-use Rattle.std.specs.Prelude.{ℕ, ◌-◌, Bool, if◌then◌else◌, List, length, Option, None, Some}
+-- What ends in `_by` here, `last_counted` and `why_stopped` take the first stop, where there is one, or why it came. Each
+-- other definition takes the part, what the reset kept and all bytes since then one by one; what comes after the first
+-- stop doesn't count. Past.antt has those that contracts cite over a past, which is these in one value: there each ends
+-- in `_at`.
+use Rattle.std.specs.Prelude.{ℕ, ◌-◌, Bool, false, if◌then◌else◌, List, length, Option, None, Some}
 use Rattle.x7_packets.specs.ByHand.{reading_of}
 use Rattle.x7_packets.specs.History.{History, history_of, until}
 use Rattle.x7_packets.specs.Reading.{is_synced}
 use Rattle.x7_part.specs.Part.{PartData}
 use Rattle.x7_regs.specs.Register.{number_of}
 use Rattle.x7_regs.specs.declared.boot_status.Attempt.{Attempt}
+use Rattle.x7_regs.specs.declared.boot_status.Cause.{Cause}
 use Rattle.x7_regs.specs.declared.boot_status.Kind.{Kind}
 use Rattle.x7_regs.specs.declared.register.Reg.TheVariants.{Crc, Far, Cmd, Ctl0, Mask, Stat, Cor0, Idcode, Axss, Cor1, Wbstar, Timer, Bootsts, Ctl1, Bspi}
 use Rattle.x7_memory.specs.FrameMap.{FrameMap}
@@ -27,7 +28,7 @@ use Rattle.x7_engine.specs.declared.stop.StopCause.TheVariants as stop
 use Rattle.x7_engine.specs.Registers.{word_held}
 use Rattle.x7_engine.specs.Startup.{phase_by, startup_progress}
 use Rattle.x7_engine.specs.Stop.{Stopped, fault_of_stop, first_stop_of_history}
-use Rattle.x7_engine.specs.Value.{attempt_of, lines_by, read_out, register_value}
+use Rattle.x7_engine.specs.Value.{attempt_of, failure_of, lines_by, read_out, register_value}
 
 -- the first stop in the bytes, where there is one
 abbrev pub first_stop_of_bytes : PartData → Kept → List ℕ → Option Stopped
@@ -91,22 +92,19 @@ taken_of part kept bytes = taken_by (first_stop_of_bytes part kept bytes) (lengt
 abbrev pub history_taken : PartData → Kept → List ℕ → History
 history_taken part kept bytes = history_by (first_stop_of_bytes part kept bytes) (history_of bytes)
 
--- the course of a device after these bytes
-abbrev pub course_in : PartData → Kept → List ℕ → Course
-course_in part kept bytes = course_at part kept (history_taken part kept bytes) (taken_of part kept bytes)
-
 -- the state of a device after these bytes, whose attempt the end of the flash has wrapped or not
 abbrev pub state_of : PartData → Kept → Bool → List ℕ → Regs
 state_of part kept wrapped bytes =
-    state_by (course_in part kept bytes) wrapped (why_stopped (first_stop_of_bytes part kept bytes)) (is_synced (reading_of bytes).place)
+    state_by (course_at part kept (history_taken part kept bytes) (taken_of part kept bytes)) wrapped (why_stopped (first_stop_of_bytes part kept bytes))
+    (is_synced (reading_of bytes).place)
 
--- the word of BOOTSTS after these bytes
-abbrev pub bootsts_in : PartData → Kept → Bool → List ℕ → ℕ
-bootsts_in part kept wrapped bytes = (state_of part kept wrapped bytes).bootsts
+-- what the attempt of a boot failed by, where it failed, before the flash has ended: a fault that a fallback follows
+abbrev pub cause_of : PartData → Kept → List ℕ → Option Cause
+cause_of part kept bytes = failure_of (fault_of_stop (why_stopped (first_stop_of_bytes part kept bytes))) false
 
 -- the present boot attempt, with what it failed by
-abbrev pub attempt_in : PartData → Kept → Bool → List ℕ → Attempt
-attempt_in part kept wrapped bytes = attempt_of kept wrapped (fault_of_stop (why_stopped (first_stop_of_bytes part kept bytes))) (history_taken part kept bytes)
+abbrev pub attempt_of_bytes : PartData → Kept → Bool → List ℕ → Attempt
+attempt_of_bytes part kept wrapped bytes = attempt_of kept wrapped (fault_of_stop (why_stopped (first_stop_of_bytes part kept bytes))) (history_taken part kept bytes)
 
 -- what a next attempt of this kind keeps: WBSTAR, TIMER and BSPI as they are, and this attempt as the one before
 abbrev pub kept_after : PartData → Kept → Bool → List ℕ → Kind → Kept
@@ -115,7 +113,7 @@ kept_after part kept wrapped bytes kind = record {
   timer = (state_of part kept wrapped bytes).timer;
   bspi = (state_of part kept wrapped bytes).bspi;
   kind = kind;
-  before = Some (attempt_in part kept wrapped bytes);
+  before = Some (attempt_of_bytes part kept wrapped bytes);
 }
 
 -- the words read out by a device that took these bytes
@@ -123,8 +121,8 @@ abbrev pub reads_of : PartData → Kept → List ℕ → List ℕ
 reads_of part kept bytes = read_out part kept (history_taken part kept bytes)
 
 -- the memory of a device that took these bytes: zero frames, and over them all that the history put there
-abbrev pub memory_in : PartData → Kept → List ℕ → FrameMap
-memory_in part kept bytes = memory_of part (history_taken part kept bytes)
+abbrev pub memory_of_bytes : PartData → Kept → List ℕ → FrameMap
+memory_of_bytes part kept bytes = memory_of part (history_taken part kept bytes)
 
 -- the state while `due` words of frame data of the last read are still to be given, which FAR alone shows
 abbrev pub state_owing : PartData → Kept → Bool → List ℕ → ℕ → Regs

@@ -129,8 +129,8 @@ impl Clock {
         self.watchdog.byte(eos)
     }
 
-    /// Takes `count` bytes, up to the one at which the watchdog fires: the number of that byte, from 1. One by one, as
-    /// the name says, only those come up to the end of startup; the rest come at once.
+    /// Takes `count` bytes, up to the one at which the watchdog fires: the number of that byte, from 1. Up to the end
+    /// of startup the bytes come one by one, and the rest at once.
     fn bytes_one_by_one(&mut self, part: &Part, count: usize) -> Option<usize>
         ensures { ClockTakesInAny part.now (clock_in self.old) (clock_in self.new) count result }
     {

@@ -1,21 +1,19 @@
 //! A device.
-ghost use Rattle.std.specs.Prelude.{◌≡◌, ◌≤◌, ◌<◌, ◌+◌, ◌-◌, ◌++◌, [], false, true, length, IfOk, IsSome, IsTrue, ◌↔◌, ◌==◌, Option, None, Some};
+ghost use Rattle.std.specs.Prelude.{◌≡◌, ◌<◌, ◌+◌, ◌-◌, ◌++◌, [], false, true, length, IfOk, IsTrue, ◌↔◌, ◌==◌, Option, None, Some};
 ghost use Rattle.x7_packets.specs.Cutter.{between, IsNeed};
 ghost use Rattle.x7_packets.specs.History.{history_of};
 ghost use Rattle.x7_memory.specs.FrameMap.{HaveSameFrames};
 ghost use Rattle.x7_memory.specs.PartFrames.{AreFramesOf, frame_at};
 ghost use Rattle.x7_startup.specs.Phases.{last_phase};
-ghost use Rattle.x7_engine.specs.UntilRead.{RoomBefore};
 ghost use Rattle.x7_engine.specs.Kept.{on_the_bench};
-ghost use Rattle.x7_engine.specs.Readout.{DeviceGaveWords};
-ghost use Rattle.x7_engine.specs.ReadBuffer.{HoldsWithinMost, IsFull};
-ghost use Rattle.x7_engine.specs.Standing.{CanBeGiven, DeviceStandsFor, MayWrap, NoWordDue, due_count, answer_at_stop, fed_more, fed_of, frames_due, taken_in, with_wrap};
-ghost use Rattle.x7_engine.specs.State.{attempt_in, end_by, kept_after, why_stopped, memory_in, state_owing};
+ghost use Rattle.x7_engine.specs.Standing.{CanBeGiven, DeviceStandsFor, MayWrap, NoWordDue, answer_at_stop, fed_of, frames_due, taken_in, with_wrap};
+ghost use Rattle.x7_engine.specs.State.{attempt_of_bytes, end_by, kept_after, why_stopped, memory_of_bytes, state_owing};
 ghost use Rattle.x7_engine.specs.Stop.{fault_of_stop};
 ghost use Rattle.x7_engine.specs.Turns.{MayTakePiece, TurnAnswers, TurnMoves};
 ghost use Rattle.x7_engine.specs.Value.{failure_of};
 ghost use Rattle.x7_engine.specs.declared.fault.Fault.{Fault as FaultData};
-ghost use Rattle.x7_engine.specs.Past.{AnswersFor, HasSomePast, ForEachPast, TakesJust, TakesNothing, GivesWordsNext, prefix_taken, state_at, stop_at, reads_given_at};
+ghost use Rattle.x7_engine.specs.Feeding.{GivesWordsDue, GivesWordsOf, TakesFirst, with_buffer};
+ghost use Rattle.x7_engine.specs.Past.{AnswersFor, HasSomePast, ForEachPast, prefix_taken, state_at, first_stop_at};
 
 mod boot;
 mod started;
@@ -48,7 +46,6 @@ const WRITE_BYTES: usize = 8;
 
 /// A device of a part: its state is a function of all bytes since its reset, of what the reset kept, and of whether the
 /// flash has ended.
-#[derive(Drop)]
 pub struct Device {
     part: Part,
     cutter: Cutter,
@@ -58,6 +55,19 @@ pub struct Device {
     taken: u64,
     // how many bytes were ever fed, counted up to the last number of 64 bits
     fed: u64,
+}
+
+impl Drop for Device {
+    fn drop(self) {
+        let Device {
+            part: _,
+            cutter: _,
+            registers: _,
+            wrapped: _,
+            taken: _,
+            fed: _,
+        } = self;
+    }
 }
 
 impl Model for Device {
@@ -158,7 +168,7 @@ impl Device {
 
     /// The present boot attempt.
     fn attempt(&self) -> Attempt
-        ensures { ForEachPast self.now (λ p. result ≡ attempt_in p.part p.kept p.wrapped p.bytes) }
+        ensures { ForEachPast self.now (λ p. result ≡ attempt_of_bytes p.part p.kept p.wrapped p.bytes) }
     {
         let attempt = self.registers.attempt();
         Attempt {
@@ -204,18 +214,11 @@ impl Device {
         self.registers.stop
     }
 
-    /// Gives the words due to a buffer, as many as it has room for, and says whether none is left.
+    /// Gives a buffer the words that are due, as many as it has room for, and says whether none is left.
     fn give(&mut self, read: &mut ReadBuf) -> bool
         requires going { self.old.registers.stop ≡ None }
         ensures none_left { IsTrue result ↔ NoWordDue self.new }
-        ensures full { 0 < due_count self.new.registers.due → IsFull read.new }
-        ensures within_most { HoldsWithinMost read.new.most read.new.words }
-        ensures going { self.new.registers.stop ≡ None }
-        ensures taken { self.new.taken ≡ self.old.taken }
-        ensures part { self.new.part ≡ self.old.part }
-        ensures fed { self.new.fed ≡ self.old.fed }
-        ensures cutter { self.new.cutter ≡ self.old.cutter }
-        ensures given { ForEachPast self.old (λ p. DeviceGaveWords p self.old self.new read.old read.new) }
+        ensures gives { GivesWordsDue (with_buffer self.old read.old) (with_buffer self.new read.new) }
     {
         self.registers.give(&self.part, read)
     }
@@ -309,16 +312,9 @@ impl Device {
     /// a stop the device takes nothing.
     pub fn feed(&mut self, piece: &[u8], read: &mut ReadBuf) -> Fed
         requires { CanBeGiven self.old (length piece.now) }
-        ensures within { taken_in (length piece.now) result ≤ length piece.now }
-        ensures part { self.new.part ≡ self.old.part }
-        ensures taken { self.new.taken ≡ self.old.taken + taken_in (length piece.now) result }
-        ensures fed { fed_of self.new ≡ fed_more self.old (taken_in (length piece.now) result) }
-        ensures takes { TakesJust self.old self.new (prefix_taken piece.now result) }
+        ensures takes { TakesFirst self.old self.new piece.now (taken_in (length piece.now) result) }
+        ensures gives { GivesWordsOf (with_buffer self.old read.old) (with_buffer self.new read.new) piece.now (taken_in (length piece.now) result) }
         ensures answer { AnswersFor self.old self.new (prefix_taken piece.now result) read.new result }
-        ensures reads { GivesWordsNext self.old self.new (prefix_taken piece.now result) read.old read.new }
-        ensures within_most { HoldsWithinMost read.new.most read.new.words }
-        ensures room { ForEachPast self.old (λ p. RoomBefore p piece.now (taken_in (length piece.now) result) (reads_given_at self.old p) read.old) }
-        ensures stopped { ForEachPast self.old (λ p. IsSome (stop_at p) → TakesNothing self.old self.new read.old read.new (taken_in (length piece.now) result)) }
         ensures answers_stop { (why : StopCause) → self.old.registers.stop ≡ Some why → result ≡ answer_at_stop why 0 }
     {
         read.holds_within_most();
@@ -340,7 +336,7 @@ impl Device {
     pub fn memory(&self) -> &Memory
         ensures stored { result.now ≡ self.now.registers.frames.memory }
         ensures frames { AreFramesOf self.now.part result.now }
-        ensures shows { ForEachPast self.now (λ p. HaveSameFrames (frame_at p.part result.now) (memory_in p.part p.kept p.bytes)) }
+        ensures shows { ForEachPast self.now (λ p. HaveSameFrames (frame_at p.part result.now) (memory_of_bytes p.part p.kept p.bytes)) }
     {
         self.registers.frames.memory()
     }
@@ -395,7 +391,7 @@ impl Device {
 
     /// The fault that stopped the device.
     pub fn fault(&self) -> Option<Fault>
-        ensures { ForEachPast self.now (λ p. result ≡ fault_of_stop (why_stopped (stop_at p))) }
+        ensures { ForEachPast self.now (λ p. result ≡ fault_of_stop (why_stopped (first_stop_at p))) }
     {
         match self.registers.stop {
             Some(StopCause::Fault(fault)) => Some(fault),

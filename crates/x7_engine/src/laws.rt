@@ -16,12 +16,12 @@ ghost use Rattle.x7_engine.specs.FirstStop.{IsFirstStop, why_at_byte};
 ghost use Rattle.x7_flow.specs.Controls.{masked_register, same_idcode};
 ghost use Rattle.x7_flow.specs.Standing.{word_to};
 ghost use Rattle.x7_engine.specs.Registers.{HasMaskedBits, cor0_held, has_ghigh, clears_check, is_pending, takes_shutdown};
-ghost use Rattle.x7_engine.specs.Past.{HasPast, HasStoppedBefore, IsBootAttempt, ForEachPast, Past, StandsBefore, cause_in, due_at, history_at, later, memory_at, reads_at, state_at, stop_at, taken_at, reads_given_at};
+ghost use Rattle.x7_engine.specs.Past.{HasPast, HasStoppedBefore, IsBootAttempt, ForEachPast, Past, StandsBefore, due_at, history_taken_at, later, memory_at, reads_at, state_at, first_stop_at, taken_at, reads_given_at};
 ghost use Rattle.x7_engine.specs.Rest.{AtRest, LastGapGoesOn};
 ghost use Rattle.x7_engine.specs.Sequence.{StartupBegins, HasGhigh, IsPending};
 ghost use Rattle.x7_engine.specs.Standing.{DeviceState, HasStopped, NoWordDue};
 ghost use Rattle.x7_engine.specs.Startup.{phase_of, startup_progress};
-ghost use Rattle.x7_engine.specs.State.{memory_in, reads_of, state_of, first_stop_of_bytes, bootsts_in};
+ghost use Rattle.x7_engine.specs.State.{memory_of_bytes, reads_of, state_of, first_stop_of_bytes, cause_of};
 ghost use Rattle.x7_engine.specs.Stop.{Stopped, why_at_access};
 ghost use Rattle.x7_engine.specs.Timeout.{before_byte, times_out_at};
 ghost use Rattle.x7_engine.specs.Watching.{watchdog_fires};
@@ -32,18 +32,18 @@ ghost use Rattle.x7_engine.specs.declared.kept.Kept.{Kept};
 pub fn stops_are_final()
     ensures place { (part : PartData) (kept : Kept) (bytes : List ℕ) (s : Stopped) → AreBytes bytes → first_stop_of_bytes part kept bytes ≡ Some s
         → (0 < s.place) × (s.place ≤ length bytes) }
-    ensures before { (p : Past) (more : List ℕ) (s : Stopped) → AreBytes (p.bytes ++ more) → stop_at (later p more) ≡ Some s
-        → length p.bytes < s.place → stop_at p ≡ None }
-    ensures stop { (p : Past) (more : List ℕ) (s : Stopped) → HasStoppedBefore p more s → stop_at (later p more) ≡ Some s }
+    ensures before { (p : Past) (more : List ℕ) (s : Stopped) → AreBytes (p.bytes ++ more) → first_stop_at (later p more) ≡ Some s
+        → length p.bytes < s.place → first_stop_at p ≡ None }
+    ensures stop { (p : Past) (more : List ℕ) (s : Stopped) → HasStoppedBefore p more s → first_stop_at (later p more) ≡ Some s }
     ensures state { (p : Past) (more : List ℕ) (s : Stopped) → HasStoppedBefore p more s → state_at (later p more) ≡ state_at p }
     ensures reads { (p : Past) (more : List ℕ) (s : Stopped) → HasStoppedBefore p more s → reads_at (later p more) ≡ reads_at p }
     ensures memory { (p : Past) (more : List ℕ) (s : Stopped) → HasStoppedBefore p more s → memory_at (later p more) ≡ memory_at p }
 {}
 
-/// A device that something stopped has a first stop in the bytes of each of its pasts; so what `feed` says of such a
-/// past (`stopped`) holds of each device that has stopped, as each has a past (`Device::past_exists`).
+/// Something stopped a device just where the bytes of its past have a stop; each device has a past
+/// (`Device::past_exists`).
 pub fn stopped_devices_have_a_stop()
-    ensures { (d : DeviceState) (p : Past) → HasPast d p → HasStopped d → IsSome (stop_at p) }
+    ensures { (d : DeviceState) (p : Past) → HasPast d p → HasStopped d ↔ IsSome (first_stop_at p) }
 {}
 
 /// Each bit of a register under MASK is that of the last word written to it while MASK had that bit.
@@ -89,9 +89,9 @@ pub fn watchdog_fires()
 
 /// Startup has begun only where START was executed after the part's IDCODE was written, and DESYNC after it. Each check
 /// and each IDCODE written before the stop was right, whether startup began or not, and no access before the stop stops
-/// the device.
+/// the device; of a device that hasn't stopped this is said of the accesses before the last byte.
 pub fn checks_before_startup()
-    ensures started { (p : Past) → AreBytes p.bytes → 0 < (state_at p).phase → HasStartAndDesync p.part.idcode (history_at p) (taken_at p) }
+    ensures started { (p : Past) → AreBytes p.bytes → 0 < (state_at p).phase → HasStartAndDesync p.part.idcode (history_taken_at p) (taken_at p) }
     ensures checks { (p : Past) (w place : ℕ) (older : History) → StandsBefore p (word_to Crc w) place older → w ≡ running_check older }
     ensures idcodes { (p : Past) (w place : ℕ) (older : History) → StandsBefore p (word_to Idcode w) place older → IsTrue (same_idcode p.part.idcode w) }
     ensures no_stop { (p : Past) (access : Access) (place : ℕ) (older : History) → StandsBefore p access place older → why_at_access p.part p.kept older access ≡ None }
@@ -122,15 +122,15 @@ pub fn reads_grow()
 pub fn wraps_show_in_bootsts()
     ensures alone { (part : PartData) (kept : Kept) (bytes : List ℕ)
         → state_of part kept true bytes ≡ record (state_of part kept false bytes) { bootsts = (state_of part kept true bytes).bootsts } }
-    ensures bit { (part : PartData) (kept : Kept) (bytes : List ℕ) → IsBootAttempt kept → cause_in part kept bytes ≡ None
-        → bootsts_in part kept true bytes ≡ bootsts_in part kept false bytes + cause_bits_of (Some Wrap) }
+    ensures bit { (part : PartData) (kept : Kept) (bytes : List ℕ) → IsBootAttempt kept → cause_of part kept bytes ≡ None
+        → (state_of part kept true bytes).bootsts ≡ (state_of part kept false bytes).bootsts + cause_bits_of (Some Wrap) }
 {}
 
 /// Bytes that ask the same at the same places, as those after two gaps do, bring a
 /// device to the same stop, state and memory.
 pub fn alike_bytes_do_alike()
     ensures stop { (part : PartData) (kept : Kept) (one other : List ℕ) → AreAlike one other → first_stop_of_bytes part kept one ≡ first_stop_of_bytes part kept other }
-    ensures memory { (part : PartData) (kept : Kept) (one other : List ℕ) → AreAlike one other → memory_in part kept one ≡ memory_in part kept other }
+    ensures memory { (part : PartData) (kept : Kept) (one other : List ℕ) → AreAlike one other → memory_of_bytes part kept one ≡ memory_of_bytes part kept other }
     ensures state { (part : PartData) (kept : Kept) (one other : List ℕ) → AreAlike one other → (wrapped : Bool)
         → state_of part kept wrapped one ≡ state_of part kept wrapped other }
 {}
@@ -139,7 +139,7 @@ pub fn alike_bytes_do_alike()
 /// words show in their own registers alone.
 pub fn fallbacks_do_alike()
     ensures stop { (part : PartData) (one other : Kept) (bytes : List ℕ) → AreFallbacks one other → first_stop_of_bytes part one bytes ≡ first_stop_of_bytes part other bytes }
-    ensures memory { (part : PartData) (one other : Kept) (bytes : List ℕ) → AreFallbacks one other → memory_in part one bytes ≡ memory_in part other bytes }
+    ensures memory { (part : PartData) (one other : Kept) (bytes : List ℕ) → AreFallbacks one other → memory_of_bytes part one bytes ≡ memory_of_bytes part other bytes }
     ensures registers { (part : PartData) (one other : Kept) (bytes : List ℕ) → AreFallbacks one other → (wrapped : Bool)
         → without_kept (state_of part one wrapped bytes) ≡ without_kept (state_of part other wrapped bytes) }
 {}

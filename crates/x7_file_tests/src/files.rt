@@ -1,12 +1,11 @@
 //! Real files and writers; and inputs in memory, read in pieces and put anew while one is read.
 use crate::paths::{filled, path_of};
-use std::alloc::Global;
 use std::io::{ErrorKind, Write};
 use std::rt::Files;
 use std::{env, fs, io};
 use x7_files::{FileFlash, FileInputs, KnownSink, StdSink};
 use x7_in_memory::MemoryInputs;
-use x7_words::{Failed, Flash, Inputs, SelectFault, Sink, write_all};
+use x7_words::{Failed, Flash, Inputs, NoMemory, SelectFault, Sink, write_all};
 
 /// What three reads of an input give: how many bytes each, and its buffer of four bytes.
 type Reads = Result<[(usize, [u8; 4]); 3], SelectFault>;
@@ -27,15 +26,11 @@ fn three_reads<I: Inputs>(inputs: &mut I, name: &str) -> Reads {
     }
 }
 
-/// Inputs in memory: `one` of five bytes, put in place of three others, and `two` of one byte.
-fn two_inputs(alloc: Global) -> Option<MemoryInputs> {
-    let mut inputs = MemoryInputs::new(alloc);
-    inputs.put("one", &[1, 2, 3]).ok()?;
-    inputs.put("two", &[7]).ok()?;
-    match inputs.put("one", &[1, 2, 3, 4, 5]) {
-        Ok(()) => Some(inputs),
-        Err(_) => None,
-    }
+/// Puts two inputs: `one` of five bytes, in place of three others, and `two` of one byte.
+fn put_two(inputs: &mut MemoryInputs) -> Result<(), NoMemory> {
+    inputs.put("one", &[1, 2, 3])?;
+    inputs.put("two", &[7])?;
+    inputs.put("one", &[1, 2, 3, 4, 5])
 }
 
 #[test]
@@ -59,9 +54,8 @@ fn inputs_are_read_in_pieces(rt: HostRuntime) {
         ),
         ("two", 9, [(1, [7, 0, 0, 0]), (0, [0; 4]), (0, [0; 4])]),
     ];
-    let Some(mut inputs) = two_inputs(rt.alloc()) else {
-        panic!(rt; "no memory")
-    };
+    let mut inputs = MemoryInputs::new(rt.alloc());
+    assert!(rt; put_two(&mut inputs) == Ok(()));
     for (name, most, reads) in cases {
         inputs.piece(most);
         assert!(rt; three_reads(&mut inputs, name) == Ok(reads));
@@ -70,8 +64,7 @@ fn inputs_are_read_in_pieces(rt: HostRuntime) {
 
 /// Reads an input of three bytes in pieces of two, once before two other bytes are put under its name and once after,
 /// and then those from their start: the counts, and the buffer after the last two reads. None where a call is refused.
-fn reads_around_a_put(alloc: Global) -> Option<([usize; 3], [[u8; 4]; 2])> {
-    let mut inputs = MemoryInputs::new(alloc);
+fn reads_around_a_put(inputs: &mut MemoryInputs) -> Option<([usize; 3], [[u8; 4]; 2])> {
     inputs.put("one", &[1, 2, 3]).ok()?;
     inputs.piece(2);
     inputs.select("one").ok()?;
@@ -88,7 +81,8 @@ fn reads_around_a_put(alloc: Global) -> Option<([usize; 3], [[u8; 4]; 2])> {
 #[test]
 fn a_put_leaves_what_is_being_read(rt: HostRuntime) {
     let wanted = ([2, 1, 2], [[3, 2, 0, 0], [8, 9, 0, 0]]);
-    assert!(rt; reads_around_a_put(rt.alloc()) == Some(wanted));
+    let mut inputs = MemoryInputs::new(rt.alloc());
+    assert!(rt; reads_around_a_put(&mut inputs) == Some(wanted));
 }
 
 /// What a flash gives: its size, and three bytes from a place on, zeros where it has fewer there.
@@ -124,23 +118,34 @@ fn found<I: Inputs, F: Flash>(
 /// What these lead to, one after another, by the same inputs and the same flash: the path of a new file of five bytes,
 /// with the place 2 and with the place 0, the path without the last byte of its name, one below the file, its folder,
 /// and the path once the file is removed. None where a file can't be made or removed.
-fn found_around(
-    rt: &HostRuntime,
+fn found_by<R: Files, I: Inputs, F: Flash>(
+    rt: &R,
+    inputs: &mut I,
+    flash: &mut F,
     path: &str,
     below: &str,
     folder: &str,
 ) -> Option<[(Reads, Bytes); 6]> {
     fs::write(rt, path, b"hello").ok()?;
-    let mut inputs = FileInputs::new(rt);
-    let mut flash = FileFlash::new(rt);
-    let late = found(&mut inputs, &mut flash, path, 2);
-    let early = found(&mut inputs, &mut flash, path, 0);
-    let trimmed = found(&mut inputs, &mut flash, path.trim_end(), 0);
-    let lower = found(&mut inputs, &mut flash, below, 0);
-    let no_file = found(&mut inputs, &mut flash, folder, 0);
+    let late = found(inputs, flash, path, 2);
+    let early = found(inputs, flash, path, 0);
+    let trimmed = found(inputs, flash, path.trim_end(), 0);
+    let lower = found(inputs, flash, below, 0);
+    let no_file = found(inputs, flash, folder, 0);
     fs::remove_file(rt, path).ok()?;
-    let gone = found(&mut inputs, &mut flash, path, 0);
+    let gone = found(inputs, flash, path, 0);
     Some([late, early, trimmed, lower, no_file, gone])
+}
+
+/// What these lead to by new inputs and a new flash over files, as `found_by` says.
+fn found_around<R: Files>(
+    rt: &R,
+    path: &str,
+    below: &str,
+    folder: &str,
+) -> Option<[(Reads, Bytes); 6]> {
+    let (mut inputs, mut flash) = (FileInputs::new(rt), FileFlash::new(rt));
+    found_by(rt, &mut inputs, &mut flash, path, below, folder)
 }
 
 /// What `found_around` finds about a file with a space at the end of its name.
@@ -166,11 +171,12 @@ fn files_are_found_by_their_whole_names(rt: HostRuntime) {
     assert!(rt; found_by_names(&rt) == Some([late, early, missing, failed, failed, missing]));
 }
 
-/// Attaches a file of five bytes, reads its bytes 2 to 4, cuts it to three bytes, and reads 2 to 4 and 0 to 2: what
-/// each read gave, if it succeeded. None where the file can't be written, attached or removed.
-fn reads_of_a_cut_file<R: Files>(rt: &R, name: &str) -> Option<[Option<[u8; 3]>; 3]> {
-    fs::write(rt, name, b"hello").ok()?;
-    let mut flash = FileFlash::new(rt);
+/// What three reads of three bytes gave, each if it succeeded.
+type Triples = [Option<[u8; 3]>; 3];
+
+/// Attaches a file of five bytes, reads its bytes 2 to 4, cuts it to three bytes, and reads 2 to 4 and 0 to 2. None where
+/// the file can't be attached or written.
+fn reads_around_a_cut<R: Files, F: Flash>(rt: &R, flash: &mut F, name: &str) -> Option<Triples> {
     flash.attach(name).ok()?;
     if flash.size() != 5 {
         return None;
@@ -182,7 +188,6 @@ fn reads_of_a_cut_file<R: Files>(rt: &R, name: &str) -> Option<[Option<[u8; 3]>;
     let is_cut = flash.read_at(2, &mut cut).is_ok();
     let mut left = [0; 3];
     let is_left = flash.read_at(0, &mut left).is_ok();
-    fs::remove_file(rt, name).ok()?;
     Some([
         is_whole.then_some(whole),
         is_cut.then_some(cut),
@@ -190,8 +195,16 @@ fn reads_of_a_cut_file<R: Files>(rt: &R, name: &str) -> Option<[Option<[u8; 3]>;
     ])
 }
 
-/// The reads of a new file that is cut, as `reads_of_a_cut_file` has them.
-fn reads_of_a_new_file(rt: &HostRuntime) -> Option<[Option<[u8; 3]>; 3]> {
+/// The reads of a new file that is cut, as `reads_around_a_cut` has them. None where the file can't be made or removed.
+fn reads_of_a_cut_file<R: Files>(rt: &R, name: &str) -> Option<Triples> {
+    fs::write(rt, name, b"hello").ok()?;
+    let reads = reads_around_a_cut(rt, &mut FileFlash::new(rt), name);
+    fs::remove_file(rt, name).ok()?;
+    reads
+}
+
+/// What `reads_of_a_cut_file` says of a path that no other test has.
+fn reads_of_a_new_file(rt: &HostRuntime) -> Option<Triples> {
     let path = path_of(rt, "shrunk")?;
     reads_of_a_cut_file(rt, path.as_path().as_str())
 }
@@ -225,11 +238,16 @@ fn written_bytes<F: Flash>(flash: &mut F, name: &str) -> Option<[u8; 5]> {
     }
 }
 
-/// Writes a new file as a flash: the bytes that are read of the flash, and all of the file.
+/// Writes a new file of these bytes as a flash: the bytes that are read of the flash.
+fn written_as_flash<R: Files>(rt: &R, name: &str, bytes: &[u8]) -> Option<[u8; 5]> {
+    fs::write(rt, name, bytes).ok()?;
+    written_bytes(&mut FileFlash::new(rt), name)
+}
+
+/// Writes a new file of two sectors as a flash: the bytes that are read of the flash, and all of the file.
 fn written(rt: &HostRuntime, name: &str) -> Option<([u8; 5], Vec<u8>)> {
     let bytes = filled(rt.alloc(), &[(131072, 0x3C)])?;
-    fs::write(rt, name, bytes.as_slice()).ok()?;
-    let found = written_bytes(&mut FileFlash::new(rt), name)?;
+    let found = written_as_flash(rt, name, &bytes)?;
     let kept = fs::read(rt, name).ok()?;
     match fs::remove_file(rt, name) {
         Ok(()) => Some((found, kept)),

@@ -1,2 +1,2 @@
-pub mod FileFlashLemmas
-pub mod FilesLemmas
+mod FileFlashLemmas
+mod FilesLemmas

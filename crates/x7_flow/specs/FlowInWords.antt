@@ -1,4 +1,5 @@
--- The flow of a history in other words: each of its values by a recursion of its own (this project's choice).
+-- The flow that HistoryFlow defines, in other words: each of its values by a recursion of its own (law
+-- `flows_go_by_accesses`; this project's choice).
 use Rattle.std.specs.Prelude.{ℕ, ◌+◌, ◌==◌, ◌&&◌, if◌then◌else◌, List, [], ◌∷◌, Option, None}
 use Rattle.x7_packets.specs.History.{Access, Write, Read, History, command_held, writes}
 use Rattle.x7_part.specs.Part.{PartData, frame_words}

@@ -1,4 +1,5 @@
--- The accesses that concern frames (UG470, frame data registers and the multi-frame write register).
+-- The accesses that concern frames (UG470, frame data registers and the multi-frame write register): what HistoryFlow
+-- has accesses ask, in other words (law `accesses_do_what_they_ask`).
 use Rattle.std.specs.Prelude.{ℕ, ◌==◌, ◌&&◌, Bool, false, not}
 use Rattle.x7_packets.specs.History.{Access, Read, History, command_held, writes}
 use Rattle.x7_regs.specs.declared.command.Command.TheVariants as command

@@ -1,5 +1,5 @@
--- The memory of a history: zero frames, over which each access puts its frames (UG470, frame data input and multi-frame
--- write registers).
+-- The memory of a history, the definition: zero frames, over which each access puts its frames (UG470, frame data input
+-- and multi-frame write registers). Stretches restates it, by a law.
 use Rattle.std.specs.Prelude.{ℕ, ◌&&◌, if◌then◌else◌, List, [], ◌∷◌, length, slice_index_or}
 use Rattle.x7_packets.specs.History.{History}
 use Rattle.x7_part.specs.Part.{PartData, frame_words}

@@ -1,5 +1,5 @@
--- The flow of frames of a history: what a frame pipeline stands for (UG470, frame address register and frame data
--- registers).
+-- What an access asks of the frame pipeline, and the flow and the faults of a history: the definitions (UG470, frame
+-- address register and frame data registers). FrameAccess, FlowInWords and NeedsAddress restate them, by laws.
 use Rattle.std.specs.Prelude.{◌≡◌, ℕ, ◌+◌, ◌==◌, ◌&&◌, not, Bool, true, false, if◌then◌else◌, List, [], ◌∷◌, Option, None}
 use Rattle.x7_packets.specs.History.{Access, Write, Read, Bad, History}
 use Rattle.x7_part.specs.Part.{PartData}

@@ -1,4 +1,5 @@
--- When an access needs an address to begin at (UG470, frame address register and frame data registers).
+-- The faults that HistoryFlow defines, in other words: what an access lacks (law `refusals_have_causes`; UG470, frame
+-- address register and frame data registers).
 use Rattle.std.specs.Prelude.{◌≡◌, ℕ, ◌==◌, ◌&&◌, not, Bool, true, false, List, [], ◌∷◌, is_some}
 use Rattle.x7_packets.specs.History.{Access, History}
 use Rattle.x7_part.specs.Part.{PartData}

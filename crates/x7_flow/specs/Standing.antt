@@ -1,5 +1,5 @@
--- A pipeline and a memory that stand for a history, and the words of frame data that are read out (this project's
--- choice).
+-- What it is for a pipeline and a memory to stand for a history, and the words of frame data that are read out (this
+-- project's choice).
 use Rattle.std.specs.Prelude.{◌≡◌, ℕ, zero, suc, ◌+◌, ◌-◌, ◌<◌, ◌≤◌, false, true, List, [], ◌∷◌, Option, None, Some}
 use Rattle.x7_packets.specs.History.{Access, Entry, History, Read, Write, entry}
 use Rattle.x7_regs.specs.declared.register.Reg.{Reg}

@@ -1,5 +1,6 @@
--- The memory of a history by its stretches. A stretch is the accesses from the beginning of a history, or after a write
--- to CMD or FAR, up to the next such write: within it the command and the base stay (this project's choice of words).
+-- The memory that FrameMemory defines, in other words: by the stretches of a history (law
+-- `stretches_override_in_order`). A stretch is the accesses from the beginning of a history, or after a write to CMD or
+-- FAR, up to the next such write: within it the command and the base stay (this project's choice of words).
 use Rattle.std.specs.Prelude.{◌||◌, Bool, if◌then◌else◌, List, [], ◌∷◌, ◌++◌}
 use Rattle.x7_packets.specs.History.{Access, History, writes}
 use Rattle.x7_part.specs.Part.{PartData}

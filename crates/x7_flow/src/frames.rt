@@ -23,10 +23,18 @@ use x7_regs::Reg;
 use x7_words::NoMemory;
 
 /// A pipeline and a memory of one part, which stand for a history of accesses.
-#[derive(Drop)]
 pub struct Frames {
     pipeline: Pipeline,
     memory: Memory,
+}
+
+impl Drop for Frames {
+    fn drop(self) {
+        let Frames {
+            pipeline: _,
+            memory: _,
+        } = self;
+    }
 }
 
 impl Model for Frames {
@@ -89,7 +97,7 @@ impl Frames {
     }
 
     /// Takes words written to FDRI or MFWR, four bytes each, up to the first that is refused. The answer is the number
-    /// of words looked at, a refused one included, and the fault.
+    /// of words looked at, a refused one included, and its fault, if one was.
     pub fn write_bytes(
         &mut self,
         settings: FrameSettings,

@@ -16,7 +16,8 @@ use x7_part::Part;
 use x7_pipeline::{Pipeline, RunFault};
 use x7_regs::{Reg, command_of};
 
-/// Does what a word written to a register asks, and says why it can't.
+/// Does what a word written to a register asks of the pipeline and the memory. The answer is the fault by which the word
+/// is refused.
 pub(crate) fn take_written_word(
     settings: FrameSettings,
     reg: Reg,

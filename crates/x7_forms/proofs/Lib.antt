@@ -1,7 +1,7 @@
 pub mod BeginningLemmas
-pub mod FormLemmas
-pub mod HeadLemmas
-pub mod PartLemmas
+mod FormLemmas
+mod HeadLemmas
+mod PartLemmas
 pub mod ReadLemmas
 pub mod ResultLemmas
 pub mod AskedLemmas

@@ -52,7 +52,8 @@ placed_key name (Some row) = name ++ codes " in row " ++ decimal row
 abbrev pub which_text : Which → List ℕ
 which_text place = placed_key (name_of place.key) place.row
 
--- why a part file was refused; want of memory comes as a reason of its own (`part_event` in `Known`)
+-- why a part file was refused, as the line of the refusal says it; want of memory comes as a reason of its own
+-- (`part_event` in `Known`)
 abbrev pub part_fault_text : PartFault → List ℕ
 part_fault_text part.Toml = codes "toml"
 part_fault_text (part.Key place) = codes "key " ++ which_text place
@@ -61,8 +62,8 @@ part_fault_text (part.SameRow row) = codes "same row " ++ decimal row
 part_fault_text (part.TooMany frames) = codes "too many " ++ decimal frames
 part_fault_text part.NoMemory = codes "no memory"
 
--- why an input has no reading, what the part lacks of what is asked of it, or why a flash or an image can't hold the
--- stream
+-- why an input has no reading, what the part lacks of what is asked of it, or why a flash can't be updated, or a flash
+-- or an image can't hold the stream, as the line of the refusal says it
 abbrev pub input_fault_text : InputFault → List ℕ
 input_fault_text (input.Byte place) = codes "byte " ++ decimal place
 input_fault_text (input.Line line) = codes "line " ++ decimal line

@@ -57,9 +57,21 @@ data_in name bytes = data_by name bytes (header_at bytes)
 abbrev pub if_within : List ℕ → ℕ → List ℕ → Result (List ℕ) Event
 if_within name limit bytes = if nat_lt limit (length bytes) then Err (too_large name) else Ok bytes
 
--- the most bytes of a stream
+-- the most bytes of a stream, and of all streams of one `play` together
 abbrev pub stream_limit : ℕ
 stream_limit = 67108864
+
+-- the most bytes of an assembly, Intel HEX, frames or SVF text
+abbrev pub text_limit : ℕ
+text_limit = 536870912
+
+-- the most bytes of a script
+abbrev pub script_limit : ℕ
+script_limit = 1048576
+
+-- the most bytes of a part file
+abbrev pub part_limit : ℕ
+part_limit = 1048576
 
 -- the bytes of an input that is read whole and has no more than `limit` of them; one that
 -- fails may be over the limit before it does
@@ -74,10 +86,6 @@ abbrev pub whole_known : Known → ℕ → List ℕ → Result (List ℕ) Event
 whole_known known limit name = taken_whole name limit (known.inputs name)
 
 -- ---- a part file, and streams
-
--- the most bytes of a part file
-abbrev pub part_limit : ℕ
-part_limit = 1048576
 
 -- the event of a part file that gave no part
 abbrev pub part_event : List ℕ → PartFault → Event

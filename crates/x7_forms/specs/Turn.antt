@@ -10,7 +10,7 @@ use Rattle.x7_forms.specs.Known.{stream_limit}
 use Rattle.x7_listing.specs.Listing.{listing_of}
 use Rattle.x7_listing.specs.StreamListing.{stream_listing}
 
--- the most bytes that one turn of a whole input or of a listing reads
+-- the most bytes that one turn of an input reads, but for a stream that is played
 abbrev pub turn_size : ℕ
 turn_size = 65536
 

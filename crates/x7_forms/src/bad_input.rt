@@ -1,7 +1,7 @@
 //! Why an input is refused.
 
-/// Why an input has no reading, what the part lacks of what is asked of it, or why a flash or an image can't hold the
-/// stream. Lines count from 1, bytes and places in a flash from 0.
+/// Why an input has no reading, what the part lacks of what is asked of it, or why a flash can't be updated, or a flash
+/// or an image can't hold the stream. Lines count from 1, bytes and places in a flash from 0.
 #[derive(Clone, Copy, Drop)]
 pub enum InputFault {
     /// The byte of a stream's header that should be a field's letter and is not, or the

@@ -59,7 +59,6 @@ fn judge<'w>(
 }
 
 /// The first bytes of a stream, by which its header was judged.
-#[derive(Drop)]
 pub struct Beginning {
     /// The bytes that were read.
     pub bytes: Vec<u8>,
@@ -69,6 +68,17 @@ pub struct Beginning {
     pub start: usize,
     /// Whether the stream ends after these bytes.
     pub last: bool,
+}
+
+impl Drop for Beginning {
+    fn drop(self) {
+        let Beginning {
+            bytes: _,
+            line: _,
+            start: _,
+            last: _,
+        } = self;
+    }
 }
 
 /// Reads the first bytes of the open input until its header is judged, field by field: none after a header, nor after a

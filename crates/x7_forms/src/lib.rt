@@ -16,7 +16,8 @@ pub use beginning::{Beginning, read_beginning};
 pub use form::{Form, words_of};
 pub use part::read_part;
 pub use read::{
-    STREAM_LIMIT, TEXT_LIMIT, TURN_SIZE, Turn, data_start, next_turn, open, read_whole, skip_rest,
+    SCRIPT_LIMIT, STREAM_LIMIT, TEXT_LIMIT, TURN_SIZE, Turn, data_start, next_turn, open,
+    read_whole, skip_rest,
 };
 pub use refusal::{Refusal, Why};
 pub use status::Status;

@@ -6,14 +6,11 @@ ghost use Rattle.x7_forms.specs.Known.{part_event, part_known, part_limit};
 ghost use Rattle.x7_forms.specs.Turn.{IsLastAsked};
 ghost use Rattle.x7_forms.specs.Step.{AnswersAs, IsNoPart, result_by, step_over};
 
-use crate::read::read_whole;
+use crate::read::{PART_LIMIT, read_whole};
 use crate::refusal::{Refusal, Why};
 use std::alloc::Global;
 use x7_part::{Part, PartFault, part_of};
 use x7_words::Inputs;
-
-/// The most bytes of a part file.
-const PART_LIMIT: usize = 1_048_576;
 
 /// Why there is no part of the part file of this name.
 fn refusal_of<'w>(name: &'w str, fault: PartFault) -> Refusal<'w>

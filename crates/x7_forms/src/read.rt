@@ -17,10 +17,16 @@ use x7_words::{Inputs, SelectFault};
 /// The most bytes of a stream, and of all streams of one `play` together.
 pub const STREAM_LIMIT: usize = 67_108_864;
 
-/// The most bytes of a text: of an assembly, Intel HEX, frames or SVF text.
+/// The most bytes of an assembly, Intel HEX, frames or SVF text.
 pub const TEXT_LIMIT: usize = 536_870_912;
 
-/// The most bytes that one turn of a whole input or of a listing reads.
+/// The most bytes of a script.
+pub const SCRIPT_LIMIT: usize = 1_048_576;
+
+/// The most bytes of a part file.
+pub(crate) const PART_LIMIT: usize = 1_048_576;
+
+/// The most bytes that one turn of an input reads, but for a stream that is played.
 pub const TURN_SIZE: usize = 65_536;
 
 /// How many bytes a turn asks for, where `left` bytes are still within the limit and the buffer holds `room`: at most

@@ -15,8 +15,8 @@ pub enum Status {
     Missing,
     /// A part file was refused.
     BadPart,
-    /// An input has no reading, the part lacks what is asked of it (the part file is named then), or a flash or an
-    /// image can't hold the stream.
+    /// An input has no reading, the part lacks what is asked of it (the part file is named then), a flash can't be
+    /// updated, or a flash or an image can't hold the stream.
     BadInput,
     /// An input or the flash could not be opened or read.
     ReadFault,

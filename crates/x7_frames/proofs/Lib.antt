@@ -1,11 +1,11 @@
-pub mod DigitLemmas
-pub mod LineLemmas
-pub mod GoodLemmas
-pub mod OrderLemmas
-pub mod EveryTextLemmas
-pub mod TextLemmas
-pub mod OneFaultLemmas
+mod DigitLemmas
+mod LineLemmas
+mod GoodLemmas
+mod OrderLemmas
+mod EveryTextLemmas
+mod TextLemmas
+mod OneFaultLemmas
 pub mod OneLemmas
-pub mod BackLemmas
-pub mod FrameLinesLemmas
-pub mod WantLemmas
+mod BackLemmas
+mod FrameLinesLemmas
+mod WantLemmas

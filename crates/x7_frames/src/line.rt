@@ -1,13 +1,13 @@
 //! One line of a frames text.
-ghost use Rattle.std.specs.Prelude.{◌≡◌, ◌+◌, ◌*◌, ◌%◌, ◌<◌, ◌≤◌, ◌++◌, length, take, Some, None, MatchBool, MatchOption, vec_capacity};
+ghost use Rattle.std.specs.Prelude.{◌≡◌, ◌+◌, ◌*◌, ◌<◌, ◌≤◌, ◌++◌, length, take, Some, None, MatchBool, MatchOption, vec_capacity};
 ghost use Rattle.x7_text.specs.EitherCase.{bytes_of_pairs};
-ghost use Rattle.x7_words.specs.Word.{AreWholeWords, words_of_bytes};
 ghost use Rattle.x7_memory.specs.Plan.{PlanRow};
 ghost use Rattle.x7_part.specs.Limits.{most_frame_words};
 ghost use Rattle.x7_frames.specs.FramesText.{HasNoFrameHead, frame_head, IsFrameLine};
 
+use x7_memory::set_frame;
 use x7_text::{block_of_hex, read_pairs, word_of_hex};
-use x7_words::{are_bytes, is_same, word_of};
+use x7_words::{are_bytes, is_same};
 
 /// The most bytes of a frame: four for each of its words.
 const MOST_FRAME_SIZE: usize = 4 * x7_part::MOST_FRAME_WORDS as usize;
@@ -54,7 +54,8 @@ fn write_block(bytes: &mut [u8], at: usize, block: &[u8])
     bytes[at..at + 32].copy_from_slice(block);
 }
 
-/// Reads the blocks of 64 upper-case digits that stand first, 32 bytes each. The answer is the number of bytes read.
+/// Reads blocks of 64 upper-case digits that stand first, 32 bytes each; it may stop before one that could be read. The
+/// answer is the number of bytes read.
 fn read_blocks(bytes: &mut [u8], digits: &[u8]) -> usize
     requires { length digits.now ≡ 2 * length bytes.old }
     ensures value { bytes_of_pairs (take (2 * result) digits.now) ≡ Some (take result bytes.new) }
@@ -82,22 +83,6 @@ fn read_digits(bytes: &mut [u8], digits: &[u8]) -> bool
     read_pairs(&mut bytes[read..], &digits[2 * read..])
 }
 
-/// Makes the vector, which has room for them, hold the words of these bytes, four bytes each.
-fn replace(words: &mut Vec<u32>, bytes: &[u8])
-    requires whole { AreWholeWords bytes.now }
-    requires room { length bytes.now ≤ 4 * vec_capacity words.old }
-    ensures items { words.new.items ≡ words_of_bytes bytes.now }
-    ensures room { vec_capacity words.old ≤ vec_capacity words.new }
-{
-    words.clear();
-    let (groups, _) = bytes.as_chunks::<4>();
-    for group in groups {
-        let Ok(()) = words.push(word_of(*group)) else {
-            unreachable!()
-        };
-    }
-}
-
 /// Reads a frame's line: gives its address and puts its words into `frame`, which has room for them. `None`: it is no
 /// frame's line.
 pub(crate) fn read_frame(frame: &mut Vec<u32>, width: u32, line: &[u8]) -> Option<u32>
@@ -115,6 +100,6 @@ pub(crate) fn read_frame(frame: &mut Vec<u32>, width: u32, line: &[u8]) -> Optio
     if !read_digits(bytes, found.digits) {
         return None;
     }
-    replace(frame, bytes);
+    set_frame(frame, bytes);
     Some(found.far)
 }

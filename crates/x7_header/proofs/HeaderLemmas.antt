@@ -5,7 +5,7 @@ use Rattle.std.proofs.lemmas.Bool.{false≢true, eqb-true, leb-true, le-leb}
 use Rattle.std.proofs.lemmas.List.{take_at, drop_at, length-take-le}
 use Rattle.std.proofs.lemmas.Bool.Decides.{Decides-eqb}
 use Rattle.std.proofs.lemmas.Slice.Eq.{starts_is}
-use Rattle.std.specs.List.{AllByRecursion, starts_with}
+use Rattle.std.specs.List.{AllByRecursion, AllZip, starts_with}
 use Rattle.x7_words.specs.Word.{AreBytes, bytes_of_word, word_of_bytes}
 use Rattle.x7_words.proofs.ListLemmas.{all_prefix, all_back}
 use Rattle.x7_words.proofs.WordLemmas.{bytes_words, words_fit}
@@ -24,10 +24,6 @@ bind_ok (Err d) f y e = absurd cc
 test_ok : {A : Type 0} (b : Bool) (d : HeaderFault) (x y : A) → cond b (Ok x) (Err d) ≡ Ok y → (b ≡ true) × (x ≡ y)
 test_ok true d x y e = (refl, cc)
 test_ok false d x y e = absurd cc
-
--- bytes written after others, and some before those
-pub before : (old mid new xs ys : List ℕ) → mid ≡ old ++ xs → new ≡ mid ++ ys → new ≡ old ++ (xs ++ ys)
-before old mid new xs ys e f = f ∙ ap (λ (t : List ℕ). t ++ ys) e ∙ append_assoc old xs ys
 
 -- ---- what is written is read again
 
@@ -466,3 +462,20 @@ header_after bytes after e = rw e refl
 pub header_none : (bytes : List ℕ) (d : HeaderFault) → after_fixed_bytes bytes ≡ Err d → header_at bytes ≡ Err d
 unfolding header_at
 header_none bytes d e = rw e refl
+
+-- ---- a header is written as one list of pieces
+
+-- items that are clones place by place are the same list
+same_items : (xs ys : List ℕ) → AllZip (λ x y. y ≡ x) xs ys → ys ≡ xs
+same_items [] [] h = refl
+same_items [] (y ∷ ys) h = absurd h
+same_items (x ∷ xs) [] h = absurd h
+same_items (x ∷ xs) (y ∷ ys) h = rw (h.0, same_items xs ys h.1) refl
+
+-- the pieces of a header one after another are its bytes
+pub pieces_joined : (x : HeaderContents) (a b c d last made : List ℕ)
+    → a ≡ 97 ∷ bytes_of_count FieldKind.Counted x.a → b ≡ 98 ∷ bytes_of_count FieldKind.Counted x.b → c ≡ 99 ∷ bytes_of_count FieldKind.Counted x.c → d ≡ 100 ∷ bytes_of_count FieldKind.Counted x.d → last ≡ bytes_of_word x.data_length
+    → AllZip (λ x y. y ≡ x) (fixed_bytes ++ (a ++ (x.a ++ (b ++ (x.b ++ (c ++ (x.c ++ (d ++ (x.d ++ (101 ∷ (last ++ []))))))))))) made
+    → made ≡ header_bytes x
+pieces_joined x a b c d last made ea eb ec ed el zipped =
+    same_items (fixed_bytes ++ (a ++ (x.a ++ (b ++ (x.b ++ (c ++ (x.c ++ (d ++ (x.d ++ (101 ∷ (last ++ []))))))))))) made zipped ∙ (rw (ea, eb, ec, ed, el) refl)

@@ -1,4 +1,4 @@
 pub mod CutLemmas
 pub mod HeaderLemmas
-pub mod StepLemmas
-pub mod WaitLemmas
+mod StepLemmas
+mod WaitLemmas

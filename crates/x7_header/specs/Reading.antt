@@ -1,5 +1,5 @@
--- Reading a header from left to right, field by field, with the first fault that is met (not in UG470:
--- the form that the vendor's tool writes).
+-- Reading a header from left to right, field by field, with the first fault that is met (not in UG470: the form that the
+-- vendor's tool writes).
 use Rattle.std.specs.Prelude.{◌≡◌, ℕ, ◌+◌, ◌-◌, ◌*◌, ◌<◌, List, [], ◌∷◌, ◌++◌, length, take, drop, Result, Ok, Err, nat_le, nat_lt, nat_eq, max, ◌==◌, if◌then◌else◌}
 use Rattle.std.specs.List.{starts_with}
 use Rattle.x7_words.specs.Word.{word_of_bytes}

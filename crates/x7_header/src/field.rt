@@ -1,7 +1,7 @@
 //! The fields of a header one by one, for a caller who reads an input piece by piece.
 //!
-//! Each call reads at the beginning of what is left of an input; `total` is how many bytes the input
-//! has, or how many of it were read so far. A `Cut` is final only where the input has ended.
+//! Each call reads at the beginning of what is left of an input; `total` is how many bytes the input has, or how many of
+//! it were read so far. A `Cut` is final only where the input has ended.
 ghost use Rattle.std.specs.Prelude.{◌≡◌, ◌≤◌, ◌<◌, ◌+◌, ◌++◌, ℕ, List, length, IfOk, IsErrOf, Ok, Err};
 ghost use Rattle.x7_words.specs.Word.{bytes_of_word, word_of_bytes};
 ghost use Rattle.x7_header.specs.Header.{fixed_size};

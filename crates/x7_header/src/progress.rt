@@ -79,8 +79,8 @@ pub fn wanted(bytes: &[u8]) -> usize
     ensures not_zero { 0 < result }
     // Where fewer bytes are there than the fixed ones, those that are missing are wanted.
     ensures fixed { length bytes.now < fixed_size → length bytes.now + result ≡ fixed_size }
-    // With fewer bytes more the input would still end inside the header, so none is
-    // read after it, nor after a wrong letter.
+    // With fewer bytes more the input would still end inside the header, so none is read after it, nor after a wrong
+    // letter.
     ensures waits { EndsInHeader bytes.now → HeaderWaits bytes.now result }
     // All that is lacked is wanted at once.
     ensures lacks { result ≡ wanted bytes.now }

@@ -38,13 +38,13 @@ pub fn header_of(bytes: &[u8]) -> Result<Head<'_>, HeaderFault>
         IsOkAnd result (λ head. contents_of head ≡ x) }
     // `Raw` comes exactly where the input doesn't begin with the fixed bytes.
     ensures raw { IsErrOf result HeaderFault.Raw ↔ ((rest : List ℕ) → bytes.now ≢ fixed_bytes ++ rest) }
-    // `Cut` comes, with the input's length, exactly where the input begins some header,
-    // has its fixed bytes, and ends inside it.
+    // `Cut` comes, with the input's length, exactly where the input begins some header, has its fixed bytes, and ends
+    // inside it.
     ensures cut { (place : ℕ) → IsErrOf result (HeaderFault.Cut place) ↔ (place ≡ length bytes.now) × EndsInHeader bytes.now }
-    // `Field` comes exactly where the bytes before the place begin a header, a letter is
-    // due there, and another byte stands there.
+    // `Field` comes exactly where the bytes before the place begin a header, a letter is due there, and another byte
+    // stands there.
     ensures field { (place : ℕ) → IsErrOf result (HeaderFault.Field place) ↔ HasOtherLetterAt bytes.now place }
-    // Which fault it is, field by field.
+    // Which header or which fault it is, field by field.
     ensures exact { ReturnsAs (λ head. (contents_of head, head.size)) result (header_at bytes.now) }
 {
     read_fields(after_fixed_bytes(bytes)?, bytes.len())

@@ -1,5 +1,5 @@
-pub mod MemoryFlashLemmas
-pub mod FoundSinceLemmas
-pub mod NamedBytesLemmas
-pub mod RecordLemmas
-pub mod TornLemmas
+mod MemoryFlashLemmas
+mod FoundSinceLemmas
+mod NamedBytesLemmas
+mod RecordLemmas
+mod TornLemmas

@@ -21,7 +21,6 @@ struct Torn {
 /// A flash in memory under one name, known whole.
 ///
 /// Each attach, read, erase and program has the next number, from 1, and those that are to fail fail.
-#[derive(Drop)]
 pub struct MemoryFlash {
     name: String,
     bytes: Vec<u8>,
@@ -44,6 +43,27 @@ pub struct MemoryFlash {
     tear: Option<Torn>,
     // whether a write was torn: all calls fail from then on
     stopped: bool,
+}
+
+impl Drop for MemoryFlash {
+    fn drop(self) {
+        let MemoryFlash {
+            name: _,
+            bytes: _,
+            attached: _,
+            asked: _,
+            seen_from: _,
+            seen_to: _,
+            absences: _,
+            calls: _,
+            read_faults: _,
+            write_faults: _,
+            writes: _,
+            target: _,
+            tear: _,
+            stopped: _,
+        } = self;
+    }
 }
 
 impl Model for MemoryFlash {

@@ -13,7 +13,6 @@ use x7_words::{Failed, Inputs, NoMemory, SelectFault, ends_counted, raised};
 /// Inputs in memory, known whole: what was put under each name last is what a select of it gives.
 ///
 /// Each select and each read has the next number, from 1, and those that are to fail fail.
-#[derive(Drop)]
 pub struct MemoryInputs {
     // what was put, the last first
     named: Vec<NamedBytes>,
@@ -32,6 +31,23 @@ pub struct MemoryInputs {
     // how many selects and reads failed
     faults: u64,
     alloc: Global,
+}
+
+impl Drop for MemoryInputs {
+    fn drop(self) {
+        let MemoryInputs {
+            named: _,
+            selected: _,
+            given: _,
+            asked: _,
+            selects: _,
+            ends: _,
+            most: _,
+            calls: _,
+            faults: _,
+            alloc: _,
+        } = self;
+    }
 }
 
 impl Model for MemoryInputs {

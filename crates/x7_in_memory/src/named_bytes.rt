@@ -6,10 +6,15 @@ ghost use Rattle.x7_in_memory.specs.Memory.{bytes_under, name_under};
 ghost use Rattle.x7_in_memory.specs.NamedBytes.{entry_of, left_of, name_of_place};
 
 /// A name and what was put under it.
-#[derive(Drop)]
 pub(crate) struct NamedBytes {
     pub(crate) name: String,
     pub(crate) bytes: Vec<u8>,
+}
+
+impl Drop for NamedBytes {
+    fn drop(self) {
+        let NamedBytes { name: _, bytes: _ } = self;
+    }
 }
 
 /// The place in the list, from 0, of the first bytes under this name.

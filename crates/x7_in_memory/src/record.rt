@@ -15,7 +15,6 @@ pub(crate) struct WriteRange {
 
 /// The ranges of all writes so far, and of all their bytes those before the write and those that it was to bring.
 /// The room for further ones is made ahead.
-#[derive(Drop)]
 pub(crate) struct Record {
     write_ranges: Vec<WriteRange>,
     before: Vec<u8>,
@@ -24,6 +23,18 @@ pub(crate) struct Record {
     writes_left: usize,
     // how many bytes the ranges of further writes may have in all
     bytes_left: usize,
+}
+
+impl Drop for Record {
+    fn drop(self) {
+        let Record {
+            write_ranges: _,
+            before: _,
+            target: _,
+            writes_left: _,
+            bytes_left: _,
+        } = self;
+    }
 }
 
 impl Model for Record {

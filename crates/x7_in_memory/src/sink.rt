@@ -12,7 +12,6 @@ use x7_words::{Failed, NoMemory, Sink, raised};
 ///
 /// Each write has the next number, from 1. Those that are to fail fail, and so does one of a byte or more once the room
 /// is full.
-#[derive(Drop)]
 pub struct MemorySink {
     // what was written
     bytes: Vec<u8>,
@@ -23,6 +22,18 @@ pub struct MemorySink {
     calls: Calls,
     // how many writes failed
     faults: u64,
+}
+
+impl Drop for MemorySink {
+    fn drop(self) {
+        let MemorySink {
+            bytes: _,
+            room: _,
+            most: _,
+            calls: _,
+            faults: _,
+        } = self;
+    }
 }
 
 impl Model for MemorySink {

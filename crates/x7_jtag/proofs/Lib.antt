@@ -1,10 +1,10 @@
-pub mod EventLemmas
-pub mod GiveLemmas
+mod EventLemmas
+mod GiveLemmas
 pub mod LawLemmas
-pub mod PlayLemmas
-pub mod PortLemmas
+mod PlayLemmas
+mod PortLemmas
 pub mod QueueLemmas
-pub mod ShiftLemmas
-pub mod ShortLemmas
-pub mod StandingLemmas
-pub mod TookLemmas
+mod ShiftLemmas
+mod ShortLemmas
+mod StandingLemmas
+mod TookLemmas

@@ -172,14 +172,14 @@ pub fed : (part : PartData) (k n : QueueState) (d e : DeviceState) (given held p
     → DeviceStandsFor part on_the_bench false e (h.bytes ++ take (taken_in (length piece) f) piece)
     → AnswersAt (past_of part on_the_bench false (h.bytes ++ take (taken_in (length piece) f) piece)) e read f
     → ((more : List ℕ) × (read ≡ read_with old more) × (words_taken part e (h.bytes ++ take (taken_in (length piece) f) piece) ≡ words_taken part d h.bytes ++ more))
-    → (IsSome (first_stop_of_bytes part on_the_bench h.bytes) → (e ≡ d) × (read ≡ old) × (taken_in (length piece) f ≡ 0))
+    → (IsSome (first_stop_of_bytes part on_the_bench h.bytes) → taken_in (length piece) f ≡ 0)
     → old ≡ record { most = Some 1; words = [] } → words ≡ read.words → HoldsWithinMost read.most words → n ≡ with_word_taken k words → QueueStandsFor part n e (queue_of (given ++ piece) held out)
 fed part k n d e given held piece words out old read f h z fits few none w stands a reads stopped is there holds with =
     let more : List ℕ = reads.0 in
     let all : read ≡ record { most = Some 1; words = more } = reads.1 ∙ ap (λ (b : ReadBufState). read_with b more) is in
     let same : words ≡ more = there ∙ ap (λ (b : ReadBufState). b.words) all in
     let count : length words ≤ 1 = subst (λ (m : Option ℕ). HoldsWithinMost m words) (ap (λ (b : ReadBufState). b.most) all) holds in
-    fed_by part k n d e given held piece more out read f h z fits few none w stands a reads.2 (λ s. (stopped s).2) all (omega (arith, count, ap length same)) (with ∙ ap (with_word_taken k) same)
+    fed_by part k n d e given held piece more out read f h z fits few none w stands a reads.2 stopped all (omega (arith, count, ap length same)) (with ∙ ap (with_word_taken k) same)
 
 -- ---- all that is held is given, and what is read of it dropped
 
@@ -187,7 +187,7 @@ pub all_dropped : (part : PartData) (k n : QueueState) (d e : DeviceState) (give
     → DeviceStandsFor part on_the_bench false e (s.holds.bytes ++ take (taken_in (length piece) f) piece)
     → AnswersAt (past_of part on_the_bench false (s.holds.bytes ++ take (taken_in (length piece) f) piece)) e read f
     → ((more : List ℕ) × (read ≡ read_with old more) × (words_taken part e (s.holds.bytes ++ take (taken_in (length piece) f) piece) ≡ words_taken part d s.holds.bytes ++ more))
-    → (IsSome (first_stop_of_bytes part on_the_bench s.holds.bytes) → (e ≡ d) × (read ≡ old) × (taken_in (length piece) f ≡ 0))
+    → (IsSome (first_stop_of_bytes part on_the_bench s.holds.bytes) → taken_in (length piece) f ≡ 0)
     → old ≡ record { most = None; words = [] } → n ≡ record { held = []; word = k.word; bits_left = 0 } → QueueStandsFor part n e (queue_of (given ++ held) [] (bits_read (words_read_out part) (given ++ held)))
 all_dropped part k n d e given held piece out old read f s there stands a reads stopped is with =
     let h : QueueHolds part k d (queue_of given held out) = s.holds in
@@ -196,7 +196,7 @@ all_dropped part k n d e given held piece out old read f s there stands a reads 
     let full : IsFull read → ⊥ = λ u. subst (λ (m : Option ℕ). IsFullBy m (length read.words)) none u in
     let new : List ℕ = h.bytes ++ take (taken_in (length piece) f) piece in
     let took : TookOfGiven part (given ++ piece) new =
-    took_more part given h.bytes piece (taken_in (length piece) f) (subst AreBytes (sym all) h.held_fits) h.took (λ s. (stopped s).2) (goes_on_dropping part e h.bytes piece read f a full) in
+    took_more part given h.bytes piece (taken_in (length piece) f) (subst AreBytes (sym all) h.held_fits) h.took stopped (goes_on_dropping part e h.bytes piece read f a full) in
     let due : NoWordDue e = none_given part e h.bytes piece read f a full in
     let took_held : TookOfGiven part (given ++ held) new = subst (λ p. TookOfGiven part (given ++ p) new) all took in
     let whole : length (words_read_out part (given ++ held)) ≡ length (words_taken part e new) = ap length (reads_took part (given ++ held) new took_held) ∙ ap length (sym (taken_all part e new due)) in

@@ -102,15 +102,17 @@ abbrev pub after_idle : PartData → Instruction → Port → Port
 after_idle part instruction.Jstart p = record p { count = next_of_eight p.count; queue = if is_eighth p.count then offered (words_read_out part) p.queue startup_byte else p.queue }
 after_idle part _ p = p
 
--- the port after Capture-DR: the register takes the idcode, the user code or 0; under CFG_IN the next bit is a byte's first
+-- the port after Capture-DR: the register takes the idcode, the user code or 0; under CFG_IN the next bit is a byte's
+-- first
 abbrev pub after_capture : PartData → Instruction → Port → Port
 after_capture part instruction.Idcode p = record p { register = part.idcode }
 after_capture part instruction.Usercode p = record p { register = user_code }
 after_capture part instruction.CfgIn p = record p { register = 0; count = 0 }
 after_capture part _ p = record p { register = 0 }
 
--- the port after one bit in Shift-DR: under CFG_IN each eighth completes a byte, which is offered; under CFG_OUT one of the words read
--- out goes out; IDCODE and USERCODE shift the register of 32 bits, and any other instruction the one bit of bypass
+-- the port after one bit in Shift-DR: under CFG_IN each eighth completes a byte, which is offered; under CFG_OUT one of
+-- the words read out goes out; IDCODE and USERCODE shift the register of 32 bits, and any other instruction the one bit
+-- of bypass
 abbrev pub after_shift : PartData → Instruction → Port → Bool → Port
 after_shift part instruction.CfgIn p tdi = record p {
   register = with_bit p.register tdi;

@@ -4,7 +4,7 @@ use Rattle.x7_part.specs.Part.{PartData}
 use Rattle.x7_engine.specs.declared.regs.Regs.{Regs}
 use Rattle.x7_engine.specs.Kept.{on_the_bench}
 use Rattle.x7_engine.specs.Standing.{frames_among}
-use Rattle.x7_engine.specs.State.{history_taken, why_stopped, memory_in, state_owing, first_stop_of_bytes, taken_of}
+use Rattle.x7_engine.specs.State.{history_taken, why_stopped, memory_of_bytes, state_owing, first_stop_of_bytes, taken_of}
 use Rattle.x7_engine.specs.Stop.{fault_of_stop}
 use Rattle.x7_engine.specs.declared.fault.Fault.{Fault}
 use Rattle.x7_memory.specs.FrameMap.{FrameMap}
@@ -32,4 +32,4 @@ fault_shown part p = fault_of_stop (why_stopped (first_stop_of_bytes part on_the
 
 -- the device's frames
 abbrev pub memory_shown : PartData → Port → FrameMap
-memory_shown part p = memory_in part on_the_bench (bytes_taken part p)
+memory_shown part p = memory_of_bytes part on_the_bench (bytes_taken part p)

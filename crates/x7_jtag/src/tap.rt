@@ -296,7 +296,8 @@ impl Tap {
 
     /// One clock: gives TDO, does the action of the present state, and moves to the next.
     ///
-    /// The tap is new, or was clocked with this device alone since the device was new.
+    /// The clauses speak of a tap and a device that were new together, and of which the tap was clocked with this device
+    /// alone since.
     pub fn clock(&mut self, tms: bool, tdi: bool, device: &mut Device) -> bool
         requires { CanBeOffered device.old }
         ensures clocks { MakesClocks self.old device.old self.new device.new (λ p. clock_of tms tdi ∷ []) }

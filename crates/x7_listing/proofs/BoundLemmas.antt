@@ -16,13 +16,13 @@ use Rattle.x7_regs.specs.declared.command.Command.{Command}
 use Rattle.x7_regs.specs.Register.{reg_name}
 use Rattle.x7_packets.proofs.ByHandLemmas.{reading_is_found}
 use Rattle.x7_text.proofs.LineLemmas.{bytes_closed, open_text_append}
-use Rattle.x7_listing.specs.Line.{Cmd, Data, cmd_line, ended_text, ended_texts}
-use Rattle.x7_listing.specs.HeadLine.{line_as, line_of_head, text_of_head}
+use Rattle.x7_listing.specs.Line.{Bytes, Check, Cmd, Comment, Data, Empty, Line, Read2, Sync, Word, Write, Write2, cmd_line, ended_text, ended_texts, IsWordLine}
+use Rattle.x7_listing.specs.Line as line
+use Rattle.x7_listing.specs.HeadLine.{line_of_head, text_of_head}
 use Rattle.x7_listing.specs.Listing.{gap_and_sync_lines, gap_lines, listing_of, packet_lines, packets_lines, place_lines, session_lines, sessions_text}
 use Rattle.x7_listing.specs.Lister.{GapListed, ListerStandsFor, ListerState, HasListedAt, TakerStandsFor, open_payload, in_line_after_word, open_session_word, open_words, in_line_after_words, written_of}
 use Rattle.x7_packets.specs.Mode.{Mode}
-use Rattle.x7_listing.specs.declared.line.head_line.HeadLine.{HeadLine}
-use Rattle.x7_listing.specs.declared.line.head_line.HeadLine.TheVariants as line
+use Rattle.x7_listing.proofs.line.LineTextLemmas.{head_is_one}
 use Rattle.x7_listing.proofs.ListingLemmas.{gap_and_sync_text, gap_text, packets_text, place_after, texts_append}
 use Rattle.x7_listing.proofs.PrefixLemmas.{place_sure, session_over, sure_after, sure_place, sure_text, listed_after}
 use Rattle.x7_listing.proofs.SessionLemmas.{session_closed}
@@ -36,15 +36,24 @@ bytes_long i (x ∷ xs) =
     let all : length (open_text 32 (codes "bytes ") hex_byte i (x ∷ xs)) ≡ length ((first ++ line_end 32 i) ++ more) = refl in
     omega (arith, all, bytes_long (next_in_line 32 i) xs, length-append (first ++ line_end 32 i) more, length-append first (line_end 32 i), length-append (line_start (codes "bytes ") i) (hex_byte x))
 
--- the line of a header word has at least four bytes
-line_long : (l : HeadLine) → 4 ≤ length (ended_text (line_as l))
-line_long line.Nop = omega arith
-line_long line.Sync = omega arith
-line_long (line.Write register count) = omega (arith, length-append (codes "write ") (reg_name register ++ 32 ∷ decimal count ++ 10 ∷ []))
-line_long (line.Read register count) = omega (arith, length-append (codes "read ") (reg_name register ++ 32 ∷ decimal count ++ 10 ∷ []))
-line_long (line.Write2 count) = omega (arith, length-append (codes "write2 ") (decimal count ++ 10 ∷ []))
-line_long (line.Read2 count) = omega (arith, length-append (codes "read2 ") (decimal count ++ 10 ∷ []))
-line_long (line.Word w) = omega arith
+-- the line of one word has at least four bytes
+line_long : (l : Line) → IsWordLine l → 4 ≤ length (ended_text l)
+line_long Empty h = absurd h
+line_long (Comment text) h = absurd h
+line_long (Bytes bytes) h = absurd h
+line_long Sync h = omega arith
+line_long line.Nop h = omega arith
+line_long (Write register count) h = omega (arith, length-append (codes "write ") (reg_name register ++ 32 ∷ decimal count ++ 10 ∷ []))
+line_long (line.Read register count) h = omega (arith, length-append (codes "read ") (reg_name register ++ 32 ∷ decimal count ++ 10 ∷ []))
+line_long (Write2 count) h = omega (arith, length-append (codes "write2 ") (decimal count ++ 10 ∷ []))
+line_long (Read2 count) h = omega (arith, length-append (codes "read2 ") (decimal count ++ 10 ∷ []))
+line_long (Word w) h = omega arith
+line_long (Data words) h = absurd h
+line_long (Cmd command) h = omega arith
+line_long Check h = absurd h
+
+head_long : (i w : ℕ) (s : Step) → 4 ≤ length (close i ++ text_of_head s w)
+head_long i w s = omega (arith, line_long (line_of_head s w) (head_is_one s w), length-append (close i) (text_of_head s w))
 
 command_by_case : (b : Bool) (c : Command) (w : ℕ) → 4 ≤ length (ended_text (if b then Cmd c else Data (w ∷ [])))
 command_by_case true c w = omega arith
@@ -63,11 +72,11 @@ payload_by false i w =
 -- what a word adds has at least its four bytes
 word_long : (i w : ℕ) (step : Step) → 4 ≤ length (open_session_word i w step)
 word_long i w (Payload register x) = payload_by (register == 4) i w
-word_long i w Filler = omega (arith, line_long (line_of_head Filler w), length-append (close i) (text_of_head Filler w))
-word_long i w Nop = omega (arith, line_long (line_of_head Nop w), length-append (close i) (text_of_head Nop w))
-word_long i w (Open r n) = omega (arith, line_long (line_of_head (Open r n) w), length-append (close i) (text_of_head (Open r n) w))
-word_long i w (Read r n) = omega (arith, line_long (line_of_head (Read r n) w), length-append (close i) (text_of_head (Read r n) w))
-word_long i w (Bad x) = omega (arith, line_long (line_of_head (Bad x) w), length-append (close i) (text_of_head (Bad x) w))
+word_long i w Filler = head_long i w Filler
+word_long i w Nop = head_long i w Nop
+word_long i w (Open r n) = head_long i w (Open r n)
+word_long i w (Read r n) = head_long i w (Read r n)
+word_long i w (Bad x) = head_long i w (Bad x)
 
 words_long : (i : ℕ) (ss : List (ℕ × Step)) → 4 * length ss ≤ length (open_words i ss)
 words_long i [] = omega arith

@@ -1,18 +1,18 @@
-pub mod AssemblingLemmas
+mod AssemblingLemmas
 pub mod BitLemmas
 pub mod BoundLemmas
-pub mod EveryAsmLemmas
+mod EveryAsmLemmas
 pub mod PrefixLemmas
-pub mod GapLemmas
-pub mod GuessLemmas
-pub mod LineLemmas
-pub mod ListedBytesLemmas
-pub mod ListingLemmas
+mod GapLemmas
+mod GuessLemmas
+mod LineLemmas
+mod ListedBytesLemmas
+mod ListingLemmas
 pub mod ListingLengthLemmas
-pub mod NameLemmas
+mod NameLemmas
 pub mod OutcomeLemmas
-pub mod RoundLemmas
-pub mod RunLemmas
-pub mod SessionLemmas
+mod RoundLemmas
+mod RunLemmas
+mod SessionLemmas
 pub mod StreamLemmas
-pub mod TellingLemmas
+mod TellingLemmas

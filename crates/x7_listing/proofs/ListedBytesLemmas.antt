@@ -4,24 +4,18 @@ use Rattle.std.proofs.lemmas.Grind.{flat_map-append}
 use Rattle.std.specs.List.{AllByRecursion, flat_map}
 use Rattle.x7_words.specs.Word.{AreBytes, AreWords, bytes_of_word}
 use Rattle.x7_words.proofs.ListLemmas.{all_append, all_back, all_prefix}
-use Rattle.x7_packets.specs.Packet.{register_named_by, Packet, register_of, type1_count_of, type2_count_of, header_kind_of, words}
-use Rattle.x7_packets.specs.PacketWords.{no_op, sync_word, type1_read_header, type1_write_header, type2_read_kind, type2_write_kind}
+use Rattle.x7_packets.specs.Packet.{register_named_by, Packet, words}
 use Rattle.x7_packets.specs.Reading.{EndedSession, IsEndedSession, IsPlace, IsReading, packet_bytes, Place, place_bytes, Searching, session_bytes, Synced}
 use Rattle.x7_packets.specs.SyncWord.{sync_bytes}
 use Rattle.x7_packets.specs.ByHand.{reading_of}
-use Rattle.x7_packets.specs.declared.header.Step.{Step}
-use Rattle.x7_packets.specs.declared.header.Step.TheVariants as step
 use Rattle.x7_packets.proofs.ByHandLemmas.{reading_is_found}
 use Rattle.x7_packets.proofs.UniqueLemmas.{each_fits}
 use Rattle.x7_text.specs.Row.{AreFullButLast, rows}
 use Rattle.x7_text.proofs.RowLemmas.{rows_full, rows_joined}
-use Rattle.x7_listing.specs.HeadLine.{best_line, line_of_head, line_word, line_as}
-use Rattle.x7_listing.specs.declared.line.head_line.HeadLine.{HeadLine}
-use Rattle.x7_listing.specs.declared.line.head_line.HeadLine.TheVariants as head
+use Rattle.x7_listing.specs.HeadLine.{line_of_head}
 use Rattle.x7_listing.specs.Line.{Line, Bytes, Sync, Data, line_bytes, cmd_line}
 use Rattle.x7_listing.specs.Listing.{gap_and_sync_lines, gap_lines, listing_lines, packet_lines, packets_lines, payload_lines, place_lines, session_lines}
-use Rattle.x7_listing.proofs.line.LineTextLemmas.{Listed, IsLineOf, cmd_stands, is_eq}
-use Rattle.x7_regs.specs.Register.{reg_number_count}
+use Rattle.x7_listing.proofs.line.LineTextLemmas.{Listed, IsLineOf, IsLineOfWord, cmd_stands, head_is_of_word, head_is_one, word_bytes}
 
 -- each is a line of a listing, and these are their bytes
 pub record Stands (lines : List Line) (bytes : List ℕ) : Type 0 where
@@ -74,43 +68,11 @@ payload_by : (b : Bool) (ws : List ℕ) → AreWords ws → Stands (if b then ma
 payload_by true ws a = cmds_stand ws a
 payload_by false ws a = data_stands ws a
 
-as_bytes : (h : HeadLine) → line_bytes 0 (line_as h) ≡ bytes_of_word (line_word h)
-as_bytes head.Nop = refl
-as_bytes head.Sync = refl
-as_bytes (head.Write r c) = refl
-as_bytes (head.Read r c) = refl
-as_bytes (head.Write2 c) = refl
-as_bytes (head.Read2 c) = refl
-as_bytes (head.Word w) = refl
-
-abbrev pub IsHeadOf : ℕ → HeadLine → Type 0
-IsHeadOf w h = (line_word h ≡ w) × Listed (line_as h)
-
-pick : (P : HeadLine → Type 0) (b : Bool) (x y : HeadLine) → (b ≡ true → P x) → P y → P (if b then x else y)
-pick P true x y f g = f refl
-pick P false x y f g = g
-
-best : (w : ℕ) → w < 2 ^ 32 → IsHeadOf w (best_line w)
-best w h =
-    let r : register_of w < reg_number_count = omega arith in
-    pick (IsHeadOf w) (w == no_op) head.Nop _ (λ e. (sym (is_eq w no_op e), (tt, tt)))
-    (pick (IsHeadOf w) (w == sync_word) head.Sync _ (λ e. (sym (is_eq w sync_word e), (tt, tt)))
-    (pick (IsHeadOf w) (w == type1_write_header (register_of w) (type1_count_of w)) (head.Write (register_of w) (type1_count_of w)) _ (λ e. (sym (is_eq w (type1_write_header (register_of w) (type1_count_of w)) e), ((r, omega arith), tt)))
-    (pick (IsHeadOf w) (w == type1_read_header (register_of w) (type1_count_of w)) (head.Read (register_of w) (type1_count_of w)) _ (λ e. (sym (is_eq w (type1_read_header (register_of w) (type1_count_of w)) e), ((r, omega arith), tt)))
-    (pick (IsHeadOf w) (header_kind_of w == type2_write_kind) (head.Write2 (type2_count_of w)) _ (λ e. let k : header_kind_of w ≡ type2_write_kind = is_eq (header_kind_of w) type2_write_kind e in (omega arith, (omega arith, tt)))
-    (pick (IsHeadOf w) (header_kind_of w == type2_read_kind) (head.Read2 (type2_count_of w)) (head.Word w) (λ e. let k : header_kind_of w ≡ type2_read_kind = is_eq (header_kind_of w) type2_read_kind e in (omega arith, (omega arith, tt))) (refl, (h, tt)))))))
-
-head_of : (s : Step) (w : ℕ) → w < 2 ^ 32 → IsHeadOf w (line_of_head s w)
-head_of (step.Bad x) w h = (refl, (h, tt))
-head_of step.Filler w h = best w h
-head_of step.Nop w h = best w h
-head_of (step.Open r c) w h = best w h
-head_of (step.Payload r x) w h = best w h
-head_of (step.Read r c) w h = best w h
-
 packet_stands : (p : Packet) → AreWords (words p) → Stands (packet_lines p) (flat_map bytes_of_word (words p))
-packet_stands p a = let q : IsHeadOf p.head (line_of_head p.step p.head) = head_of p.step p.head a.0 in
-    one_stands (line_as (line_of_head p.step p.head)) (payload_lines (register_named_by p.step) p.payload) (bytes_of_word p.head) (flat_map bytes_of_word p.payload) (as_bytes (line_of_head p.step p.head) ∙ ap bytes_of_word q.0) q.1 (payload_by (register_named_by p.step == 4) p.payload a.1)
+packet_stands p a =
+    let q : IsLineOfWord p.head (line_of_head p.step p.head) = head_is_of_word p.step p.head a.0 in
+    one_stands (line_of_head p.step p.head) (payload_lines (register_named_by p.step) p.payload) (bytes_of_word p.head) (flat_map bytes_of_word p.payload)
+    (sym (word_bytes 0 (line_of_head p.step p.head) (head_is_one p.step p.head)) ∙ ap bytes_of_word q.0) q.1 (payload_by (register_named_by p.step == 4) p.payload a.1)
 
 packets_stand : (ps : List Packet) → AreWords (flat_map words ps) → Stands (flat_map packet_lines ps) (packet_bytes ps)
 packets_stand [] a = none_stand

@@ -26,15 +26,13 @@ use Rattle.x7_text.proofs.ReadRowLemmas.{length_spaced}
 use Rattle.x7_text.proofs.RowLemmas.{rows_full}
 use Rattle.x7_text.proofs.WholeLineLemmas.{length_hex_bytes}
 use Rattle.x7_listing.specs.BitLine.{bit_text, field_text}
-use Rattle.x7_listing.specs.HeadLine.{line_of_head, line_as}
-use Rattle.x7_listing.specs.declared.line.head_line.HeadLine.{HeadLine}
-use Rattle.x7_listing.specs.declared.line.head_line.HeadLine.TheVariants as head
-use Rattle.x7_listing.specs.Line.{Line, Bytes, Cmd, Comment, Check, Data, Empty, Nop, Read, Read2, Sync, Word, Write, Write2, line_bytes, FitsLine, cmd_line, ended_text, ended_texts}
+use Rattle.x7_listing.specs.HeadLine.{line_of_head}
+use Rattle.x7_listing.specs.Line.{Line, Bytes, Cmd, Comment, Check, Data, Empty, Nop, Read, Read2, Sync, Word, Write, Write2, line_bytes, FitsLine, IsWordLine, cmd_line, ended_text, ended_texts}
 use Rattle.x7_listing.specs.Listing.{gap_and_sync_lines, gap_lines, listing_of, packet_lines, packets_lines, place_lines, session_lines}
 use Rattle.x7_listing.specs.StreamListing.{listing_by, stream_listing}
 use Rattle.x7_listing.proofs.GuessLemmas.{each_holds, each_name}
 use Rattle.x7_listing.proofs.ListedBytesLemmas.{listing_stands}
-use Rattle.x7_listing.proofs.line.LineTextLemmas.{Listed}
+use Rattle.x7_listing.proofs.line.LineTextLemmas.{Listed, head_is_one}
 use Rattle.x7_packets.specs.PacketWords.{type1_count_bound, type2_count_bound}
 
 -- names are short
@@ -129,14 +127,20 @@ gap_short : (bs : List ℕ) → length (ended_texts (gap_lines bs)) ≤ 5 * leng
 gap_short bs = rows_short (rows 32 bs) (rows_full 32 [] bs (omega arith))
 
 -- packets have no `bytes` line
-head_whole : (h : HeadLine) → IsWhole (line_as h)
-head_whole head.Nop = tt
-head_whole head.Sync = tt
-head_whole (head.Write r c) = tt
-head_whole (head.Read r c) = tt
-head_whole (head.Write2 c) = tt
-head_whole (head.Read2 c) = tt
-head_whole (head.Word w) = tt
+word_whole : (l : Line) → IsWordLine l → IsWhole l
+word_whole Empty h = h
+word_whole (Comment text) h = h
+word_whole (Bytes bytes) h = h
+word_whole Sync h = tt
+word_whole Nop h = tt
+word_whole (Write n c) h = tt
+word_whole (Read n c) h = tt
+word_whole (Write2 c) h = tt
+word_whole (Read2 c) h = tt
+word_whole (Word w) h = tt
+word_whole (Data ws) h = tt
+word_whole (Cmd c) h = tt
+word_whole Check h = h
 
 cmd_by : (b : Bool) (w : ℕ) → IsWhole (if b then Cmd (command_by w) else Data (w ∷ []))
 cmd_by true w = tt
@@ -156,7 +160,7 @@ payload_by false ws = data_whole (rows 8 ws)
 
 packets_whole : (ps : List Packet) → AllByRecursion IsWhole (flat_map packet_lines ps)
 packets_whole [] = tt
-packets_whole (p ∷ ps) = all_append IsWhole (packet_lines p) (flat_map packet_lines ps) (head_whole (line_of_head p.step p.head), payload_by (register_named_by p.step == 4) p.payload) (packets_whole ps)
+packets_whole (p ∷ ps) = all_append IsWhole (packet_lines p) (flat_map packet_lines ps) (word_whole (line_of_head p.step p.head) (head_is_one p.step p.head), payload_by (register_named_by p.step == 4) p.payload) (packets_whole ps)
 
 -- a gap, the sync word and packets
 session_short : (gap : List ℕ) (packets : List Packet) → AllByRecursion Listed (packets_lines gap packets) → length (ended_texts (packets_lines gap packets)) + 11 ≤ 5 * length (flat_map (line_bytes 0) (packets_lines gap packets))

@@ -11,16 +11,14 @@ abbrev pub field_text : List ℕ → List ℕ
 field_text [] = codes "-"
 field_text (x ∷ xs) = flat_map hex_byte (x ∷ xs)
 
--- a header's line, without its end: four texts, and the length of the data in bytes
+-- a line as a header has it, without its end: four texts, and the length of the data in bytes
 abbrev pub bit_line : List ℕ → List ℕ → List ℕ → List ℕ → ℕ → List ℕ
 bit_line a b c d data_length =
     codes "bit " ++ (a ++ space_byte ∷ (b ++ space_byte ∷ (c ++ space_byte ∷ (d ++ space_byte ∷ decimal data_length))))
 
 -- the text of a header's line, without its end: the four fields and the length of the data in bytes
 abbrev pub bit_text : HeaderContents → List ℕ
-bit_text x =
-    codes "bit " ++ (field_text x.a ++ space_byte ∷ (field_text x.b ++ space_byte ∷ (field_text x.c ++ space_byte
-    ∷ (field_text x.d ++ space_byte ∷ decimal x.data_length))))
+bit_text x = bit_line (field_text x.a) (field_text x.b) (field_text x.c) (field_text x.d) x.data_length
 
 -- a header can hold these contents: each field fits its length, and is of bytes
 pub record FitsHeader (x : HeaderContents) : Type 0 where

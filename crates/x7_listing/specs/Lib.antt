@@ -7,6 +7,5 @@ pub mod Line
 pub mod Lister
 pub mod ListerOfRuns
 pub mod Listing
-pub mod OneWord
 pub mod Pens
 pub mod StreamListing

@@ -11,8 +11,8 @@ use Rattle.x7_text.specs.Digits.{hex_byte, hex_word}
 use Rattle.x7_words.specs.Characters.{line_end_byte, space_byte}
 use Rattle.x7_text.specs.Row.{IsByteRow, IsWordRow, spaced}
 
--- a line: nothing, a comment, bytes, a header word, payload words, a command, or
--- the check of the bytes of the lines before
+-- a line: nothing, a comment, bytes, the sync word, a header word, payload words, a command, or the check of the bytes
+-- of the lines before
 pub data Line : Type 0 where
   Empty : Line
   Comment : (text : List ℕ) → Line
@@ -29,8 +29,8 @@ pub data Line : Type 0 where
   Check : Line
 
 -- the fields of a type 1 header, a register's number and a word count, are each within their bits
-abbrev pub IsType1 : ℕ × ℕ → Type 0
-IsType1 a = (a.0 < reg_number_count) × (a.1 < type1_count_bound)
+abbrev pub FitsType1 : ℕ × ℕ → Type 0
+FitsType1 a = (a.0 < reg_number_count) × (a.1 < type1_count_bound)
 
 -- the fields of a type 1 header as text: the register's name, a space and the word count
 abbrev pub type1_text : ℕ × ℕ → List ℕ
@@ -56,8 +56,8 @@ text_of Check = codes "crc"
 -- row's at most
 abbrev pub FitsLine : Line → Type 0
 FitsLine (Bytes bytes) = IsByteRow bytes
-FitsLine (Write register count) = IsType1 (register, count)
-FitsLine (Read register count) = IsType1 (register, count)
+FitsLine (Write register count) = FitsType1 (register, count)
+FitsLine (Read register count) = FitsType1 (register, count)
 FitsLine (Write2 count) = count < type2_count_bound
 FitsLine (Read2 count) = count < type2_count_bound
 FitsLine (Word word) = word < 2 ^ 32
@@ -69,35 +69,17 @@ pub record IsLine (text : List ℕ) (line : Line) : Type 0 where
   pub fits : FitsLine line
   pub text_is : text ≡ text_of line
 
--- the bytes that a line stands for, where the bytes of the lines before have this check
-abbrev pub line_bytes : ℕ → Line → List ℕ
-line_bytes check Empty = []
-line_bytes check (Comment text) = []
-line_bytes check (Bytes bytes) = bytes
-line_bytes check Sync = bytes_of_word sync_word
-line_bytes check Nop = bytes_of_word no_op
-line_bytes check (Write register count) = bytes_of_word (type1_write_header register count)
-line_bytes check (Read register count) = bytes_of_word (type1_read_header register count)
-line_bytes check (Write2 count) = bytes_of_word (type2_write_header count)
-line_bytes check (Read2 count) = bytes_of_word (type2_read_header count)
-line_bytes check (Word word) = bytes_of_word word
-line_bytes check (Data words) = flat_map bytes_of_word words
-line_bytes check (Cmd command) = bytes_of_word (code_of command)
-line_bytes check Check = bytes_of_word (type1_write_header (number_of Crc) 1) ++ bytes_of_word check
+-- a line of a kind that always stands for one word: the sync word, a header word or a command; a row of payload words
+-- isn't one, even of one word
+abbrev pub IsWordLine : Line → Type 0
+IsWordLine Empty = ⊥
+IsWordLine (Comment text) = ⊥
+IsWordLine (Bytes bytes) = ⊥
+IsWordLine (Data words) = ⊥
+IsWordLine Check = ⊥
+IsWordLine _ = Unit {0}
 
--- a line that stands for one word, whatever the lines before it; its numbers are within the bits of their fields
-abbrev pub FitsWordLine : Line → Type 0
-FitsWordLine Sync = Unit {0}
-FitsWordLine Nop = Unit {0}
-FitsWordLine (Write register count) = IsType1 (register, count)
-FitsWordLine (Read register count) = IsType1 (register, count)
-FitsWordLine (Write2 count) = count < type2_count_bound
-FitsWordLine (Read2 count) = count < type2_count_bound
-FitsWordLine (Word word) = word < 2 ^ 32
-FitsWordLine (Cmd command) = Unit {0}
-FitsWordLine _ = ⊥
-
--- the word that a line stands for; 0 for a line that doesn't stand for one word
+-- the word that a line of such a kind stands for; 0 for any other line
 abbrev pub word_of_line : Line → ℕ
 word_of_line Sync = sync_word
 word_of_line Nop = no_op
@@ -108,6 +90,23 @@ word_of_line (Read2 count) = type2_read_header count
 word_of_line (Word word) = word
 word_of_line (Cmd command) = code_of command
 word_of_line _ = 0
+
+-- a line that always stands for one word, whose numbers are within the bits of their fields
+abbrev pub FitsWordLine : Line → Type 0
+FitsWordLine l = IsWordLine l × FitsLine l
+
+-- the text is that of a line of one word, which stands for this word
+abbrev pub IsWordOfText : List ℕ → ℕ → Type 0
+IsWordOfText text word = (l : Line) × FitsWordLine l × (text ≡ text_of l) × (word ≡ word_of_line l)
+
+-- the bytes that a line stands for, where the bytes of the lines before have this check
+abbrev pub line_bytes : ℕ → Line → List ℕ
+line_bytes check Empty = []
+line_bytes check (Comment text) = []
+line_bytes check (Bytes bytes) = bytes
+line_bytes check (Data words) = flat_map bytes_of_word words
+line_bytes check Check = bytes_of_word (type1_write_header (number_of Crc) 1) ++ bytes_of_word check
+line_bytes check l = bytes_of_word (word_of_line l)
 
 -- the line is neither a comment nor the check: an empty one, or one as a listing has
 abbrev pub IsNeitherCommentNorCheck : Line → Type 0

@@ -7,7 +7,7 @@ use Rattle.x7_packets.specs.ByHand.{reading_of}
 use Rattle.x7_regs.specs.Register.{number_of}
 use Rattle.x7_regs.specs.declared.register.Reg.TheVariants.{Cmd}
 use Rattle.x7_text.specs.Row.{bytes_row_size, row_words, rows}
-use Rattle.x7_listing.specs.HeadLine.{line_as, line_of_head}
+use Rattle.x7_listing.specs.HeadLine.{line_of_head}
 use Rattle.x7_listing.specs.Line.{Line, Bytes, Sync, Data, cmd_line, ended_texts}
 
 -- the lines of a payload: one a word where the register is CMD, else one for each row of words
@@ -16,7 +16,7 @@ payload_lines register ws = if register == number_of Cmd then map cmd_line ws el
 
 -- the lines of a packet
 abbrev pub packet_lines : Packet → List Line
-packet_lines p = line_as (line_of_head p.step p.head) ∷ payload_lines (register_named_by p.step) p.payload
+packet_lines p = line_of_head p.step p.head ∷ payload_lines (register_named_by p.step) p.payload
 
 -- the lines of the bytes of a gap, or of no whole word: 32 bytes a line
 abbrev pub gap_lines : List ℕ → List Line

@@ -67,10 +67,3 @@ abbrev pub EndsWith : WrittenSoFar → List ℕ → List ℕ → Type 0
 EndsWith w kept text = (given before : List ℕ) (sessions : List EndedSession) (place : Place)
     → HasListedAll (written_of w.is_synced w.in_line w.held (given ++ w.text)) before sessions place → kept ≡ tail_of place
     → given ++ text ≡ before ++ reading_text sessions place
-
--- with this text a listing is whole, whatever texts were given before: it is what is written, and then what is held,
--- which in a session are the bytes of no whole word at the end
-abbrev pub EndsHeld : WrittenSoFar → List ℕ → Type 0
-EndsHeld w text = (given before : List ℕ) (sessions : List EndedSession) (place : Place)
-    → HasListedAll (written_of w.is_synced w.in_line w.held (given ++ w.text)) before sessions place → (w.is_synced ≡ true → w.held ≡ tail_of place)
-    → given ++ text ≡ before ++ reading_text sessions place

@@ -1,15 +1,17 @@
 //! Laws of listings and of texts that are assembled.
-ghost use Rattle.std.specs.Prelude.{◌≡◌, ◌+◌, ◌*◌, ◌≤◌, ℕ, List, ◌++◌, length, true, Result, Ok};
+ghost use Rattle.std.specs.Prelude.{◌≡◌, ◌+◌, ◌*◌, ◌<◌, ◌^◌, ◌≤◌, ℕ, List, ◌++◌, length, true, Result, Ok};
 ghost use Rattle.x7_words.specs.Word.{AreBytes};
 ghost use Rattle.x7_text.specs.Lines.{has_no_end};
 ghost use Rattle.x7_listing.specs.Assembly.{asm_limit, HasOutcome, IsAsm};
 ghost use Rattle.x7_listing.specs.declared.assembler.AsmFault.{AsmFault};
-ghost use Rattle.x7_listing.specs.Line.{FitsLine, IsLine, IsNeitherCommentNorCheck, Line, text_of};
+ghost use Rattle.x7_listing.specs.Line.{FitsLine, IsLine, IsNeitherCommentNorCheck, Line, text_of, word_of_line};
+ghost use Rattle.x7_listing.specs.HeadLine.{line_of_head};
 ghost use Rattle.x7_listing.specs.BitLine.{bit_text, FitsHeader};
 ghost use Rattle.x7_listing.specs.Listing.{IsListing, IsTextPrefix, listing_of};
 ghost use Rattle.x7_listing.specs.StreamListing.{stream_listing};
 ghost use Rattle.x7_header.specs.Header.{HeaderContents};
 ghost use Rattle.x7_packets.specs.Mode.{Mode};
+ghost use Rattle.x7_packets.specs.declared.header.Step.{Step};
 ghost use Rattle.x7_listing.specs.Lister.{TakerStandsFor, ListerStandsFor, ListerState};
 
 /// A list of bytes has at most one listing.
@@ -47,12 +49,17 @@ pub fn one_line()
     ensures { (text : List ℕ) (a b : Line) → IsLine text a → IsLine text b → a ≡ b }
 {}
 
+/// The line of a word in a header's place stands for just that word, its reserved bits included.
+pub fn head_line_leads_back()
+    ensures { (step : Step) (w : ℕ) → w < 2 ^ 32 → word_of_line (line_of_head step w) ≡ w }
+{}
+
 /// The text of a line of a listing holds no line end.
 pub fn lines_hold_no_end()
     ensures { (line : Line) → FitsLine line → IsNeitherCommentNorCheck line → has_no_end (text_of line) ≡ true }
 {}
 
-/// The listing of a stream assembles back to the stream, its header included.
+/// The listing of a stream of at most 64 MiB assembles back to the stream, its header included.
 pub fn listing_assembles_back()
     ensures { (bytes text : List ℕ) → AreBytes bytes → length bytes ≤ asm_limit → stream_listing bytes ≡ Ok text → IsAsm text (Ok bytes) }
 {}

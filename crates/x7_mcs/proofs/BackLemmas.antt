@@ -12,7 +12,7 @@ use Rattle.x7_text.proofs.RowLemmas.{rows_full, rows_joined}
 use Rattle.x7_mcs.specs.Lines.{lines_of}
 use Rattle.x7_mcs.specs.DataRecords.{DataRecord, byte_at, covered, covers, extent, records_image, overlap, unless_covered, with_record}
 use Rattle.x7_mcs.specs.Flash.{FlashReading, after_lines, flash_in, mcs_of, with_end}
-use Rattle.x7_mcs.specs.Image.{mcs_reading}
+use Rattle.x7_mcs.specs.Flash.{mcs_reading}
 use Rattle.x7_mcs.specs.Text.{base_line, block_start, data_line, mcs_text, row_lines}
 use Rattle.x7_mcs.proofs.PlaceLemmas.{within, end_is}
 use Rattle.x7_mcs.proofs.ReadLemmas.{read_base, read_free}

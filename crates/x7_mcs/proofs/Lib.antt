@@ -1,14 +1,14 @@
 pub mod BackLemmas
-pub mod GoesLemmas
-pub mod LawLemmas
-pub mod LineLemmas
-pub mod LongLemmas
-pub mod OutcomeLemmas
-pub mod PlaceLemmas
-pub mod ReadLemmas
-pub mod McsLinesLemmas
-pub mod RoundLemmas
-pub mod RowLemmas
-pub mod RowsLemmas
+mod GoesLemmas
+mod LawLemmas
+mod LineLemmas
+mod LongLemmas
+mod OutcomeLemmas
+mod PlaceLemmas
+mod ReadLemmas
+mod McsLinesLemmas
+mod RoundLemmas
+mod RowLemmas
+mod RowsLemmas
 pub mod SizeLemmas
-pub mod BlockLemmas
+mod BlockLemmas

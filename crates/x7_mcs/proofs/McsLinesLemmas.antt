@@ -7,12 +7,13 @@ use Rattle.x7_text.specs.Digits.{hex_byte}
 use Rattle.x7_text.specs.Lines.{has_no_end, split}
 use Rattle.x7_text.proofs.PieceLemmas.{hex_free}
 use Rattle.x7_text.proofs.SplitLemmas.{split_line, split_some}
-use Rattle.x7_mcs.specs.Flash.{FlashReading, after_data, after_line, after_lines, and_then, of_no_line}
-use Rattle.x7_mcs.specs.Lines.{bare, lines_of, without_return}
+use Rattle.x7_mcs.specs.Flash.{FlashReading, after_data, after_line, after_lines, and_then, mcs_reading, of_no_line}
+use Rattle.x7_mcs.specs.Lines.{bare_lines, lines_of, without_return}
 use Rattle.x7_mcs.specs.DataRecords.{DataRecord}
-use Rattle.x7_mcs.specs.McsLines.{AreGoodMcsLines, HasMcsFault, HasReadRecords, flash_of_lines}
+use Rattle.x7_mcs.specs.McsLines.{AreGoodMcsLines, HasMcsFault, HasReadRecords, LinesCameTo, flash_of_lines}
 use Rattle.x7_mcs.specs.Record.{sum_byte}
-use Rattle.x7_mcs.specs.Image.{McsLinesState, FailsAsReading, TookRecords, mcs_reading}
+use Rattle.x7_mcs.specs.Readings.{FailsAsReading}
+use Rattle.x7_mcs.specs.declared.mcs_lines.McsLines.{McsLines}
 use Rattle.x7_mcs.specs.Text.{data_line}
 use Rattle.x7_mcs.specs.declared.fault.McsFault.{McsFault}
 use Rattle.x7_mcs.specs.declared.fault.McsFault.TheVariants as fault
@@ -23,7 +24,7 @@ use Rattle.x7_mcs.proofs.ReadLemmas.{read_data}
 
 -- ---- lines without their ends
 
-bare_more : (t : List ℕ) (ts : List (List ℕ)) → (ts ≡ [] → ⊥) → bare (t ∷ ts) ≡ without_return t ∷ bare ts
+bare_more : (t : List ℕ) (ts : List (List ℕ)) → (ts ≡ [] → ⊥) → bare_lines (t ∷ ts) ≡ without_return t ∷ bare_lines ts
 bare_more t [] h = absurd (h refl)
 bare_more t (u ∷ ts) h = refl
 
@@ -31,7 +32,7 @@ after_some : (ls ts : List (List ℕ)) → (ts ≡ [] → ⊥) → ls ++ ts ≡ 
 after_some [] ts h e = h e
 after_some (l ∷ ls) ts h e = cc
 
-bare_after : (ls ts : List (List ℕ)) → (ts ≡ [] → ⊥) → bare (ls ++ ts) ≡ map without_return ls ++ bare ts
+bare_after : (ls ts : List (List ℕ)) → (ts ≡ [] → ⊥) → bare_lines (ls ++ ts) ≡ map without_return ls ++ bare_lines ts
 bare_after [] ts h = refl
 bare_after (l ∷ ls) ts h = bare_more l (ls ++ ts) (after_some ls ts h) ∙ ap (λ us. without_return l ∷ us) (bare_after ls ts h)
 
@@ -44,68 +45,68 @@ then_ok (Err f) = refl
 
 -- ---- a line after those that were read
 
-module _ (b : McsLinesState) (lines : List (List ℕ)) (n : ℕ) (m : n ≡ length lines + 1) (t : HasReadRecords b lines) where
-  read_after : (ts : List (List ℕ)) → after_lines 1 of_no_line (map without_return lines ++ ts) ≡ after_lines n (mcs_reading b.base b.has_ended t.records) ts
+module _ (b : McsLines) (lines : List (List ℕ)) (n : ℕ) (m : n ≡ length lines + 1) (t : HasReadRecords b lines) where
+  read_after : (ts : List (List ℕ)) → after_lines 1 of_no_line (map without_return lines ++ ts) ≡ after_lines n (mcs_reading b.context.base b.context.has_ended t.records) ts
   read_after ts =
       let k : 1 + length (map without_return lines) ≡ n = omega (arith, m, length-map lines without_return) in
       in_turn (map without_return lines) 1 of_no_line ts ∙ ap (λ r. and_then r (λ s. after_lines (1 + length (map without_return lines)) s ts)) t.came
-      ∙ ap (λ (j : ℕ). after_lines j (mcs_reading b.base b.has_ended t.records) ts) k
+      ∙ ap (λ (j : ℕ). after_lines j (mcs_reading b.context.base b.context.has_ended t.records) ts) k
 
-  pub line_read : (d : McsLinesState) (line : List ℕ) → TookRecords (after_line n (mcs_reading b.base b.has_ended t.records) (without_return line)) d → HasReadRecords d (lines ++ line ∷ [])
+  pub line_read : (d : McsLines) (line : List ℕ) → LinesCameTo (after_line n (mcs_reading b.context.base b.context.has_ended t.records) (without_return line)) d → HasReadRecords d (lines ++ line ∷ [])
   line_read d line w = record {
     records = w.records;
-    came = ap (after_lines 1 of_no_line) (map_push without_return lines line) ∙ read_after (without_return line ∷ []) ∙ then_ok (after_line n (mcs_reading b.base b.has_ended t.records) (without_return line)) ∙ w.came;
+    came = ap (after_lines 1 of_no_line) (map_push without_return lines line) ∙ read_after (without_return line ∷ []) ∙ then_ok (after_line n (mcs_reading b.context.base b.context.has_ended t.records) (without_return line)) ∙ w.came;
     holds = w.holds;
   }
 
-  pub line_fails : (f : McsFault) (line more : List ℕ) → FailsAsReading (after_line n (mcs_reading b.base b.has_ended t.records) (without_return line)) f → HasMcsFault f (lines ++ line ∷ split more)
+  pub line_fails : (f : McsFault) (line more : List ℕ) → FailsAsReading (after_line n (mcs_reading b.context.base b.context.has_ended t.records) (without_return line)) f → HasMcsFault f (lines ++ line ∷ split more)
   line_fails f line more (inl none) = inl none.0
   line_fails f line more (inr h) = gives_fault (lines ++ line ∷ split more) f (inr (
       ap (after_lines 1 of_no_line) (bare_after lines (line ∷ split more) (some_after line (split more)) ∙ ap (λ ts. map without_return lines ++ ts) (bare_more line (split more) (split_some more)))
-      ∙ read_after (without_return line ∷ bare (split more)) ∙ ap (λ r. and_then r (λ s. after_lines (n + 1) s (bare (split more)))) h
+      ∙ read_after (without_return line ∷ bare_lines (split more)) ∙ ap (λ r. and_then r (λ s. after_lines (n + 1) s (bare_lines (split more)))) h
       ))
 
-  pub line_came : {A : Type 0} (r : Result A McsFault) (d : McsLinesState) (line bare : List ℕ) → bare ≡ without_return line
-      → MatchResult r (λ _. TookRecords (after_line n (mcs_reading b.base b.has_ended t.records) bare) d) (λ f. FailsAsReading (after_line n (mcs_reading b.base b.has_ended t.records) bare) f)
+  pub line_came : {A : Type 0} (r : Result A McsFault) (d : McsLines) (line cut : List ℕ) → cut ≡ without_return line
+      → MatchResult r (λ _. LinesCameTo (after_line n (mcs_reading b.context.base b.context.has_ended t.records) cut) d) (λ f. FailsAsReading (after_line n (mcs_reading b.context.base b.context.has_ended t.records) cut) f)
       → MatchResult r (λ _. HasReadRecords d (lines ++ line ∷ [])) (λ f. (more : List ℕ) → HasMcsFault f (lines ++ line ∷ split more))
-  line_came (Ok _) d line bare e w = line_read d line (subst (λ l. TookRecords (after_line n (mcs_reading b.base b.has_ended t.records) l) d) e w)
-  line_came (Err f) d line bare e w = λ more. line_fails f line more (subst (λ l. FailsAsReading (after_line n (mcs_reading b.base b.has_ended t.records) l) f) e w)
+  line_came (Ok _) d line cut e w = line_read d line (subst (λ l. LinesCameTo (after_line n (mcs_reading b.context.base b.context.has_ended t.records) l) d) e w)
+  line_came (Err f) d line cut e w = λ more. line_fails f line more (subst (λ l. FailsAsReading (after_line n (mcs_reading b.context.base b.context.has_ended t.records) l) f) e w)
 
   -- memory is wanting at a good line
-  pub line_wants : (f : McsFault) (line : List ℕ) → FailsAsReading (after_line n (mcs_reading b.base b.has_ended t.records) (without_return line)) f → f ≡ fault.NoMemory → AreGoodMcsLines lines line
+  pub line_wants : (f : McsFault) (line : List ℕ) → FailsAsReading (after_line n (mcs_reading b.context.base b.context.has_ended t.records) (without_return line)) f → f ≡ fault.NoMemory → AreGoodMcsLines lines line
   line_wants f line (inl none) want =
-      inl (none.1.0, ap (after_lines 1 of_no_line) (map_push without_return lines line) ∙ read_after (without_return line ∷ []) ∙ then_ok (after_line n (mcs_reading b.base b.has_ended t.records) (without_return line)) ∙ none.1.1)
-  line_wants f line (inr h) want = absurd (reported_one (without_return line) n (mcs_reading b.base b.has_ended t.records) (h ∙ ap Err want))
+      inl (none.1.0, ap (after_lines 1 of_no_line) (map_push without_return lines line) ∙ read_after (without_return line ∷ []) ∙ then_ok (after_line n (mcs_reading b.context.base b.context.has_ended t.records) (without_return line)) ∙ none.1.1)
+  line_wants f line (inr h) want = absurd (reported_one (without_return line) n (mcs_reading b.context.base b.context.has_ended t.records) (h ∙ ap Err want))
 
-  pub line_wanted : {A : Type 0} (r : Result A McsFault) (d : McsLinesState) (line bare : List ℕ) → bare ≡ without_return line
-      → MatchResult r (λ _. TookRecords (after_line n (mcs_reading b.base b.has_ended t.records) bare) d) (λ f. FailsAsReading (after_line n (mcs_reading b.base b.has_ended t.records) bare) f)
+  pub line_wanted : {A : Type 0} (r : Result A McsFault) (d : McsLines) (line cut : List ℕ) → cut ≡ without_return line
+      → MatchResult r (λ _. LinesCameTo (after_line n (mcs_reading b.context.base b.context.has_ended t.records) cut) d) (λ f. FailsAsReading (after_line n (mcs_reading b.context.base b.context.has_ended t.records) cut) f)
       → IfErr r (λ f. f ≡ fault.NoMemory → AreGoodMcsLines lines line)
-  line_wanted (Ok _) d line bare e w = tt
-  line_wanted (Err f) d line bare e w = line_wants f line (subst (λ l. FailsAsReading (after_line n (mcs_reading b.base b.has_ended t.records) l) f) e w)
+  line_wanted (Ok _) d line cut e w = tt
+  line_wanted (Err f) d line cut e w = line_wants f line (subst (λ l. FailsAsReading (after_line n (mcs_reading b.context.base b.context.has_ended t.records) l) f) e w)
 
   -- the last line
   module _ (line : List ℕ) where
-    last_is : after_lines 1 of_no_line (bare (lines ++ line ∷ [])) ≡ after_line n (mcs_reading b.base b.has_ended t.records) line
+    last_is : after_lines 1 of_no_line (bare_lines (lines ++ line ∷ [])) ≡ after_line n (mcs_reading b.context.base b.context.has_ended t.records) line
     last_is =
         ap (after_lines 1 of_no_line) (bare_after lines (line ∷ []) (some_after line []))
-        ∙ read_after (line ∷ []) ∙ then_ok (after_line n (mcs_reading b.base b.has_ended t.records) line)
+        ∙ read_after (line ∷ []) ∙ then_ok (after_line n (mcs_reading b.context.base b.context.has_ended t.records) line)
 
-    last_took : (d : McsLinesState) → TookRecords (after_line n (mcs_reading b.base b.has_ended t.records) line) d → TookRecords (after_lines 1 of_no_line (bare (lines ++ line ∷ []))) d
+    last_took : (d : McsLines) → LinesCameTo (after_line n (mcs_reading b.context.base b.context.has_ended t.records) line) d → LinesCameTo (after_lines 1 of_no_line (bare_lines (lines ++ line ∷ []))) d
     last_took d w = record { records = w.records; came = last_is ∙ w.came; holds = w.holds }
 
-    pub last_bytes : (d : McsLinesState) → TookRecords (after_line n (mcs_reading b.base b.has_ended t.records) line) d → d.has_ended ≡ true → flash_of_lines (lines ++ line ∷ []) ≡ Ok d.bytes
+    pub last_bytes : (d : McsLines) → LinesCameTo (after_line n (mcs_reading b.context.base b.context.has_ended t.records) line) d → d.context.has_ended ≡ true → flash_of_lines (lines ++ line ∷ []) ≡ Ok d.image.bytes.items
     last_bytes d w e = gives_bytes (lines ++ line ∷ []) d (last_took d w) e
 
-    pub last_no_end : (d : McsLinesState) → TookRecords (after_line n (mcs_reading b.base b.has_ended t.records) line) d → d.has_ended ≡ false → HasMcsFault fault.NoEnd (lines ++ line ∷ [])
+    pub last_no_end : (d : McsLines) → LinesCameTo (after_line n (mcs_reading b.context.base b.context.has_ended t.records) line) d → d.context.has_ended ≡ false → HasMcsFault fault.NoEnd (lines ++ line ∷ [])
     last_no_end d w e = inr (gives_no_end (lines ++ line ∷ []) d (last_took d w) e)
 
-    pub last_fault : (f : McsFault) → FailsAsReading (after_line n (mcs_reading b.base b.has_ended t.records) line) f → HasMcsFault f (lines ++ line ∷ [])
+    pub last_fault : (f : McsFault) → FailsAsReading (after_line n (mcs_reading b.context.base b.context.has_ended t.records) line) f → HasMcsFault f (lines ++ line ∷ [])
     last_fault f (inl none) = inl none.0
     last_fault f (inr h) = gives_fault (lines ++ line ∷ []) f (inr (last_is ∙ h))
 
-    pub last_wants : (f : McsFault) → FailsAsReading (after_line n (mcs_reading b.base b.has_ended t.records) line) f → f ≡ fault.NoMemory → AreGoodMcsLines lines line
+    pub last_wants : (f : McsFault) → FailsAsReading (after_line n (mcs_reading b.context.base b.context.has_ended t.records) line) f → f ≡ fault.NoMemory → AreGoodMcsLines lines line
     last_wants f (inl none) want = inr (none.1.0, last_is ∙ none.1.1)
-    last_wants f (inr h) want = absurd (reported_one line n (mcs_reading b.base b.has_ended t.records) (h ∙ ap Err want))
+    last_wants f (inr h) want = absurd (reported_one line n (mcs_reading b.context.base b.context.has_ended t.records) (h ∙ ap Err want))
 
 -- ---- the line of a row
 

@@ -7,7 +7,7 @@ use Rattle.x7_mcs.specs.Lines.{lines_of}
 use Rattle.x7_mcs.specs.Record.{block_size, meaning_of, sum_byte}
 use Rattle.x7_mcs.specs.DataRecords.{DataRecord, with_record}
 use Rattle.x7_mcs.specs.Flash.{FlashReading, after_bytes, after_lines, after_meaning, and_then, with_records}
-use Rattle.x7_mcs.specs.Image.{mcs_reading}
+use Rattle.x7_mcs.specs.Flash.{mcs_reading}
 use Rattle.x7_mcs.specs.Text.{base_line, data_line, record_line}
 use Rattle.x7_mcs.specs.declared.fault.McsFault.TheVariants as fault
 use Rattle.x7_mcs.specs.declared.record.Meaning.TheVariants as meaning

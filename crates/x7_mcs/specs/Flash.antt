@@ -15,13 +15,17 @@ pub record FlashReading : Type 0 where
   pub has_ended : Bool
   pub records : List DataRecord
 
+-- what lines give, by its parts
+abbrev pub mcs_reading : ℕ → Bool → List DataRecord → FlashReading
+mcs_reading base has_ended records = record { base = base; has_ended = has_ended; records = records }
+
 -- what a text gives before its first line: base 0 and no record
 abbrev pub of_no_line : FlashReading
-of_no_line = record { base = 0; has_ended = false; records = [] }
+of_no_line = mcs_reading 0 false []
 
 -- a reading with other records, or the fault in their place
 abbrev pub with_records : FlashReading → Result (List DataRecord) McsFault → Result FlashReading McsFault
-with_records r (Ok xs) = Ok (record { base = r.base; has_ended = r.has_ended; records = xs })
+with_records r (Ok xs) = Ok (mcs_reading r.base r.has_ended xs)
 with_records r (Err f) = Err f
 
 -- what lines give with the data of line n at an address
@@ -32,8 +36,8 @@ after_data n r address content = with_records r (with_record n r.records (record
 abbrev pub after_meaning : ℕ → FlashReading → List ℕ → Result Meaning McsFault → Result FlashReading McsFault
 after_meaning n r bs (Err f) = Err f
 after_meaning n r bs (Ok meaning.Start) = Ok r
-after_meaning n r bs (Ok meaning.End) = Ok (record { base = r.base; has_ended = true; records = r.records })
-after_meaning n r bs (Ok (meaning.Base base)) = Ok (record { base = base; has_ended = r.has_ended; records = r.records })
+after_meaning n r bs (Ok meaning.End) = Ok (mcs_reading r.base true r.records)
+after_meaning n r bs (Ok (meaning.Base base)) = Ok (mcs_reading base r.has_ended r.records)
 after_meaning n r bs (Ok (meaning.Data address)) = after_data n r address (record_data bs)
 
 -- what lines give with the record of line n, whose digits may be no pairs

@@ -1,11 +1,8 @@
 -- What the bytes and marks of a text that is being read stand for (this project's choice).
-use Rattle.std.specs.Prelude.{◌≡◌, ℕ, ◌+◌, ◌*◌, ◌/◌, ◌%◌, ◌==◌, ◌-◌, ◌&&◌, ◌<◌, ◌≤◌, nat_le, nat_lt, max, Bool, true, false, if◌then◌else◌, Result, Ok, Err, ◌⊎◌, List, length, get_or}
+use Rattle.std.specs.Prelude.{◌≡◌, ℕ, ◌+◌, ◌*◌, ◌/◌, ◌%◌, ◌==◌, ◌-◌, ◌&&◌, ◌<◌, ◌≤◌, nat_le, nat_lt, max, Bool, true, false, if◌then◌else◌, List, length, get_or}
 use Rattle.std.specs.Int.{bit_at}
 use Rattle.x7_words.specs.Flash.{erased_byte}
 use Rattle.x7_mcs.specs.DataRecords.{byte_at, covered, extent, DataRecord}
-use Rattle.x7_mcs.specs.declared.fault.McsFault.{McsFault}
-use Rattle.x7_mcs.specs.declared.fault.McsFault.TheVariants as fault
-use Rattle.x7_mcs.specs.Flash.{FlashReading}
 
 -- how many places a mark is for
 abbrev pub places_per_mark : ℕ
@@ -52,28 +49,3 @@ pub record HoldsRecords (records : List DataRecord) (bytes marks : List ℕ) : T
   pub long : length bytes ≡ extent records
   pub at : (p : ℕ) → get_or bytes p erased_byte ≡ byte_at records p
   pub marked : (p : ℕ) → is_marked marks p ≡ covered records p
-
--- what the lines so far gave: the base that stands, whether a record 01 stood, and the bytes and marks of the image
-pub record McsLinesState : Type 0 where
-  pub base : ℕ
-  pub has_ended : Bool
-  pub bytes : List ℕ
-  pub marks : List ℕ
-
--- the reading of the lines so far, by its base, whether a record 01 stood, and its records
-abbrev pub mcs_reading : ℕ → Bool → List DataRecord → FlashReading
-mcs_reading base has_ended records = record { base = base; has_ended = has_ended; records = records }
-
--- a reading came to this base, whether a record 01 stood, and records that these bytes and marks stand for
-pub record TookRecords (reading : Result FlashReading McsFault) (s : McsLinesState) : Type 0 where
-  pub records : List DataRecord
-  pub came : reading ≡ Ok (mcs_reading s.base s.has_ended records)
-  pub holds : HoldsRecords records s.bytes s.marks
-
--- a reading has no fault
-abbrev pub HasNoFault : Result FlashReading McsFault → Type 0
-HasNoFault reading = (r : FlashReading) × (reading ≡ Ok r)
-
--- a call gave this fault for a reading: the reading's, or want of memory where the reading has no fault
-abbrev pub FailsAsReading : Result FlashReading McsFault → McsFault → Type 0
-FailsAsReading reading f = ((f ≡ fault.NoMemory) × HasNoFault reading) ⊎ (reading ≡ Err f)

@@ -8,11 +8,11 @@ abbrev pub without_return : List ℕ → List ℕ
 without_return t = if get_or t (length t - 1) 0 == return_byte then take (length t - 1) t else t
 
 -- lines without the 0D of their ends; the last, which has no end, as it is
-abbrev pub bare : List (List ℕ) → List (List ℕ)
-bare [] = []
-bare (t ∷ []) = t ∷ []
-bare (t ∷ u ∷ ts) = without_return t ∷ bare (u ∷ ts)
+abbrev pub bare_lines : List (List ℕ) → List (List ℕ)
+bare_lines [] = []
+bare_lines (t ∷ []) = t ∷ []
+bare_lines (t ∷ u ∷ ts) = without_return t ∷ bare_lines (u ∷ ts)
 
 -- the lines of a text without their ends, which are 0A or 0D 0A; the last may lack its end, and a lone 0D ends none
 abbrev pub lines_of : List ℕ → List (List ℕ)
-lines_of text = bare (split text)
+lines_of text = bare_lines (split text)

@@ -1,9 +1,9 @@
 -- What a call does to an image and to the base and end that stand (this project's choice).
 use Rattle.std.specs.Prelude.{◌≡◌, ◌⊎◌, ℕ, List, ◌∷◌, Result, Ok, Err, MatchResult}
-use Rattle.x7_mcs.specs.Flash.{FlashReading, after_meaning}
+use Rattle.x7_mcs.specs.Flash.{FlashReading, after_meaning, mcs_reading}
 use Rattle.x7_mcs.specs.DataRecords.{DataRecord, with_record}
 use Rattle.x7_mcs.specs.Record.{meaning_of}
-use Rattle.x7_mcs.specs.Image.{FailsAsReading, HoldsRecords, TookRecords, mcs_reading}
+use Rattle.x7_mcs.specs.Image.{HoldsRecords}
 use Rattle.x7_mcs.specs.declared.fault.McsFault.{McsFault}
 use Rattle.x7_mcs.specs.declared.fault.McsFault.TheVariants as fault
 use Rattle.x7_mcs.specs.declared.image.Image.{Image}
@@ -37,10 +37,20 @@ flash_reading_at context records = mcs_reading context.base context.has_ended re
 abbrev pub after_record : ℕ → Context → List DataRecord → List ℕ → Result FlashReading McsFault
 after_record n context records bytes = after_meaning n (flash_reading_at context records) bytes (meaning_of n context.has_ended bytes)
 
--- a reading came to this context, and the image has its records
-abbrev pub CameToContext : Result FlashReading McsFault → Context → Image → Type 0
-CameToContext reading context image = TookRecords reading (record { base = context.base; has_ended = context.has_ended; bytes = image.bytes.items; marks = image.marks.items })
+-- a reading came to this context and to records that the image has
+pub record CameTo (reading : Result FlashReading McsFault) (context : Context) (image : Image) : Type 0 where
+  pub records : List DataRecord
+  pub came : reading ≡ Ok (flash_reading_at context records)
+  pub holds : ImageHolds image records
+
+-- a reading has no fault
+abbrev pub HasNoFault : Result FlashReading McsFault → Type 0
+HasNoFault reading = (r : FlashReading) × (reading ≡ Ok r)
+
+-- a call gave this fault for a reading: the reading's, or want of memory where the reading has no fault
+abbrev pub FailsAsReading : Result FlashReading McsFault → McsFault → Type 0
+FailsAsReading reading f = ((f ≡ fault.NoMemory) × HasNoFault reading) ⊎ (reading ≡ Err f)
 
 -- a call came to what this reading comes to, and the image has its records; or it gave the reading's fault
 abbrev pub CallComesTo : Result Context McsFault → Result FlashReading McsFault → Image → Type 0
-CallComesTo result reading image = MatchResult result (λ c. CameToContext reading c image) (λ f. FailsAsReading reading f)
+CallComesTo result reading image = MatchResult result (λ c. CameTo reading c image) (λ f. FailsAsReading reading f)

@@ -39,10 +39,15 @@ fn write_rows<S: Sink>(out: &mut S, flash: &[u8], block: &mut Vec<u8>) -> Result
 }
 
 /// The text of a flash image, ready to be written: the memory that this takes is there.
-#[derive(Drop)]
 pub struct McsText {
     image: Vec<u8>,
     block: Vec<u8>,
+}
+
+impl Drop for McsText {
+    fn drop(self) {
+        let McsText { image: _, block: _ } = self;
+    }
 }
 
 impl Model for McsText {

@@ -14,7 +14,7 @@ pub enum McsFault {
         /// The byte that stands there.
         got: u8,
     },
-    /// The least place of a record that an earlier record gave, whatever its value.
+    /// An earlier record gave a byte for a place of this record too: the least such place, whatever its bytes.
     Overlap(u32),
     /// No line is bad, and there is no record 01.
     NoEnd,

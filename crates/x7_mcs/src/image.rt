@@ -1,5 +1,5 @@
 //! The bytes of a flash that is being read, and the places that its records gave.
-ghost use Rattle.std.specs.Prelude.{◌≡◌, ℕ, true, ◌≤◌, ◌<◌, ◌+◌, ◌-◌, ◌*◌, ◌/◌, ◌%◌, ◌^◌, ◌==◌, ◌&&◌, nat_le, nat_lt, if◌then◌else◌, List, [], length, get_or, MatchResult, MatchOption};
+ghost use Rattle.std.specs.Prelude.{◌≡◌, ℕ, true, ◌≤◌, ◌<◌, ◌+◌, ◌-◌, ◌*◌, ◌/◌, ◌%◌, ◌^◌, ◌==◌, ◌&&◌, nat_le, nat_lt, if◌then◌else◌, List, [], length, get_or, IfSome, OnOk, MatchResult, MatchOption};
 ghost use Rattle.std.specs.Int.{bit_at};
 ghost use Rattle.x7_words.specs.Flash.{erased_byte};
 ghost use Rattle.x7_mcs.specs.DataRecords.{DataRecord, overlap};
@@ -44,7 +44,7 @@ pub(crate) fn empty_image(alloc: Global) -> Image
 /// Lengthens bytes by FF to `size` of them, where there are fewer.
 #[inline(always)]
 fn grow_bytes(bytes: &mut Vec<u8>, size: usize) -> Result<(), AllocError>
-    ensures { MatchResult result (λ _. IsGrownTo size bytes.old.items bytes.new.items) (λ _. Unit {0}) }
+    ensures { OnOk result (IsGrownTo size bytes.old.items bytes.new.items) }
 {
     if size <= bytes.len() {
         return Ok(());
@@ -58,15 +58,13 @@ fn set_bytes(bytes: &mut Vec<u8>, place: usize, content: &[u8])
     ensures length { length bytes.new.items ≡ length bytes.old.items }
     ensures at { (p : ℕ) → get_or bytes.new.items p erased_byte ≡ written_byte place content.now bytes.old.items p }
 {
-    let (_, since) = bytes.split_at_mut(place);
-    let (over, _) = since.split_at_mut(content.len());
-    over.copy_from_slice(content);
+    bytes[place..place + content.len()].copy_from_slice(content);
 }
 
 /// Appends a content to the bytes.
 #[inline(always)]
 fn append_bytes(bytes: &mut Vec<u8>, content: &[u8]) -> Result<(), AllocError>
-    ensures { MatchResult result (λ _. IsWrittenFrom (length bytes.old.items) content.now bytes.old.items bytes.new.items) (λ _. Unit {0}) }
+    ensures { OnOk result (IsWrittenFrom (length bytes.old.items) content.now bytes.old.items bytes.new.items) }
 {
     bytes.extend_from_slice(content)
 }
@@ -75,7 +73,7 @@ fn append_bytes(bytes: &mut Vec<u8>, content: &[u8]) -> Result<(), AllocError>
 #[inline(always)]
 fn put_bytes(bytes: &mut Vec<u8>, place: usize, content: &[u8]) -> Result<(), AllocError>
     requires { place + length content.now < 2 ^ 34 }
-    ensures { MatchResult result (λ _. IsWrittenFrom place content.now bytes.old.items bytes.new.items) (λ _. Unit {0}) }
+    ensures { OnOk result (IsWrittenFrom place content.now bytes.old.items bytes.new.items) }
 {
     if place < bytes.len() {
         grow_bytes(bytes, place + content.len())?;
@@ -90,7 +88,7 @@ fn put_bytes(bytes: &mut Vec<u8>, place: usize, content: &[u8]) -> Result<(), Al
 #[inline(always)]
 fn grow_marks(marks: &mut Vec<u16>, end: usize) -> Result<(), AllocError>
     requires { end < 2 ^ 34 }
-    ensures { MatchResult result (λ _. HasMarksUpTo end marks.old.items marks.new.items) (λ _. Unit {0}) }
+    ensures { OnOk result (HasMarksUpTo end marks.old.items marks.new.items) }
 {
     let mark_count = end / PLACES_PER_MARK + 1;
     if mark_count <= marks.len() {
@@ -182,7 +180,7 @@ fn first_marked(marks: &[u16], place: usize, count: usize) -> Option<usize>
 fn overlap(image: &Image, place: usize, count: usize) -> Option<usize>
     requires { place + count < 2 ^ 34 }
     ensures least { (xs : List DataRecord) → ImageHolds image.now xs → result ≡ overlap xs place count }
-    ensures within { MatchOption result (Unit {0}) (λ q. q < place + count) }
+    ensures within { IfSome result (λ q. q < place + count) }
 {
     if place >= image.bytes.len() {
         return None;

@@ -6,7 +6,7 @@ ghost use Rattle.x7_mcs.specs.Flash.{after_data, after_line};
 ghost use Rattle.x7_mcs.specs.Readings.{ImageHolds, flash_reading_at};
 ghost use Rattle.x7_mcs.specs.DataRecords.{DataRecord};
 ghost use Rattle.x7_mcs.specs.Text.{row_size};
-ghost use Rattle.x7_mcs.specs.McsLines.{AreGoodMcsLines, HasMcsFault, HasReadRecords, LinesComeTo, TakesIfEnded, mcs_lines_state, flash_of_lines};
+ghost use Rattle.x7_mcs.specs.McsLines.{AreGoodMcsLines, HasMcsFault, HasReadRecords, LinesComeTo, TakesIfEnded, flash_of_lines};
 ghost use Rattle.x7_mcs.specs.declared.mcs_lines.McsLines.{McsLines};
 ghost use Rattle.x7_mcs.specs.declared.fault.McsFault.{McsFault};
 
@@ -30,9 +30,9 @@ pub struct McsLines {
 }
 
 impl McsLines {
-    /// The image of no line.
+    /// A reader that was given no line: its image is empty.
     pub fn new(alloc: Global) -> McsLines
-        ensures { HasReadRecords (mcs_lines_state result) [] }
+        ensures { HasReadRecords result [] }
     {
         McsLines {
             image: empty_image(alloc),
@@ -76,9 +76,9 @@ impl McsLines {
         line_number: u64,
         text: &'t [u8],
     ) -> Result<Option<&'t [u8]>, McsFault>
-        ensures read { (lines : List (List ℕ)) → line_number ≡ length lines + 1 → HasReadRecords (mcs_lines_state self.old) lines
+        ensures read { (lines : List (List ℕ)) → line_number ≡ length lines + 1 → HasReadRecords self.old lines
             → MatchResult result (λ found. TakesIfEnded (λ rest. rest.now) lines text.now found self.new) (λ f. FailsAfter (HasMcsFault f) lines text.now) }
-        ensures memory { (lines : List (List ℕ)) → line_number ≡ length lines + 1 → HasReadRecords (mcs_lines_state self.old) lines
+        ensures memory { (lines : List (List ℕ)) → line_number ≡ length lines + 1 → HasReadRecords self.old lines
             → IfErr result (λ f. f ≡ McsFault.NoMemory → WantsAt AreGoodMcsLines lines text.now) }
         ensures left { IfOk result (λ found. MatchOption found (split text.now ≡ text.now ∷ []) (λ rest. length rest.now < length text.now)) }
     {
@@ -103,7 +103,7 @@ impl TakesLines for McsLines {
 
     type Out = Vec<u8>;
 
-    ghost took = { λ first b. HasReadRecords (mcs_lines_state b) };
+    ghost took = { λ first. HasReadRecords };
 
     ghost fails = { λ first. HasMcsFault };
 

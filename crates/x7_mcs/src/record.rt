@@ -1,5 +1,5 @@
 //! What the bytes of one record say.
-ghost use Rattle.std.specs.Prelude.{◌≡◌, ◌<◌, ◌%◌, ◌++◌, length, MatchResult};
+ghost use Rattle.std.specs.Prelude.{◌≡◌, ◌<◌, ◌%◌, ◌++◌, length, OnOk};
 ghost use Rattle.std.specs.List.{sum};
 ghost use Rattle.x7_mcs.specs.Record.{IsOfItsCount, base_value, record_data, meaning_by_type, meaning_of, sum_byte, byte_values, bytes_beside_data};
 
@@ -94,7 +94,7 @@ pub(crate) fn meaning_of(
     bytes: &[u8],
 ) -> Result<Meaning, McsFault>
     ensures meaning { result ≡ meaning_of line_number has_ended bytes.now }
-    ensures counted { MatchResult result (λ _. IsOfItsCount bytes.now) (λ _. Unit {0}) }
+    ensures counted { OnOk result (IsOfItsCount bytes.now) }
 {
     if bytes.len() == 0 || usize::from(bytes[0]) + BYTES_BESIDE_DATA != bytes.len() {
         return Err(McsFault::Line(line_number));

@@ -1,6 +1,6 @@
 //! The usual line, a data record of sixteen bytes: written at once, and read by a guess that is written again and
 //! compared.
-ghost use Rattle.std.specs.Prelude.{◌≡◌, ◌<◌, ◌≤◌, ◌+◌, ◌%◌, ◌++◌, length, IsTrue, MatchOption};
+ghost use Rattle.std.specs.Prelude.{◌≡◌, ◌<◌, ◌≤◌, ◌+◌, ◌%◌, ◌++◌, length, IfSome, IsTrue};
 ghost use Rattle.std.specs.List.{flat_map, sum};
 ghost use Rattle.std.specs.Simd.Lanes.{chunk};
 ghost use Rattle.x7_text.specs.Digits.{hex_byte};
@@ -66,7 +66,7 @@ pub(crate) fn row_line(address: u16, content: &[u8; 16]) -> [u8; ROW_LINE_SIZE]
     line
 }
 
-/// The eight bytes of a line after its first.
+/// The eight digits of a line's fields, which stand after its first byte.
 #[inline(always)]
 fn fields_in(line: &[u8; ROW_LINE_SIZE]) -> [u8; 8]
     ensures { result ≡ chunk 1 8 line.now }
@@ -120,7 +120,7 @@ fn guess_number(digit: u8) -> u16
     u16::from((digit & 15) + (digit >> 6) * 9) % 16
 }
 
-/// The row that a line would show.
+/// The row that the places of a row's line give, of any bytes there: `is_row_line` says whether the line is that row's.
 #[inline(always)]
 fn guess_row(line: &[u8; ROW_LINE_SIZE]) -> RowRecord {
     let address = 4096 * guess_number(line[3])
@@ -133,7 +133,7 @@ fn guess_row(line: &[u8; ROW_LINE_SIZE]) -> RowRecord {
     }
 }
 
-/// Whether a line is that of a data record of sixteen bytes at an address. It is compared piece by piece.
+/// True only where a line is that of a data record of sixteen bytes at an address. It is compared piece by piece.
 #[inline(always)]
 fn is_row_line(line: &[u8; ROW_LINE_SIZE], address: u16, content: &[u8; 16]) -> bool
     ensures { IsTrue result → line.now ≡ data_line address content.now }
@@ -158,10 +158,10 @@ fn is_row_line(line: &[u8; ROW_LINE_SIZE], address: u16, content: &[u8; 16]) -> 
 /// says nothing of the text.
 #[inline(always)]
 pub(crate) fn first_row(text: &[u8]) -> Option<(RowRecord, &[u8])>
-    ensures line { MatchOption result (Unit {0}) (λ r. text.now ≡ data_line r.0.address r.0.content ++ r.1.now) }
-    ensures content { MatchOption result (Unit {0}) (λ r. length r.0.content ≡ row_size) }
-    ensures bytes { MatchOption result (Unit {0}) (λ r. AreBytes r.0.content) }
-    ensures shorter { MatchOption result (Unit {0}) (λ r. length r.1.now < length text.now) }
+    ensures line { IfSome result (λ r. text.now ≡ data_line r.0.address r.0.content ++ r.1.now) }
+    ensures content { IfSome result (λ r. length r.0.content ≡ row_size) }
+    ensures bytes { IfSome result (λ r. AreBytes r.0.content) }
+    ensures shorter { IfSome result (λ r. length r.1.now < length text.now) }
 {
     let (line, rest) = text.split_first_chunk::<ROW_LINE_SIZE>()?;
     let row = guess_row(line);

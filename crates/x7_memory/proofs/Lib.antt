@@ -1,8 +1,9 @@
 pub mod FrameLemmas
-pub mod FlatLemmas
-pub mod MemoryLemmas
+mod FrameWordLemmas
+mod FlatLemmas
+mod MemoryLemmas
 pub mod ZeroLemmas
 pub mod PlanLemmas
 pub mod MapLemmas
 pub mod DraftLemmas
-pub mod RowLemmas
+mod RowLemmas

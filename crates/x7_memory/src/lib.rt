@@ -2,6 +2,7 @@
 #![tactic(auto)]
 
 mod draft;
+mod frame;
 mod laws;
 mod memory;
 mod plan;
@@ -9,6 +10,7 @@ mod rows;
 mod zeros;
 
 pub use draft::Draft;
+pub use frame::set_frame;
 pub use laws::{maps_override_by_address, memories_are_maps, plans_are_maps};
 pub use memory::Memory;
 pub use plan::Plan;

@@ -12,7 +12,6 @@ use x7_part::Part;
 use x7_words::NoMemory;
 
 /// The frames of a part, as they stand in a device.
-#[derive(Drop)]
 pub struct Memory {
     /// The words of the frames that are stored, one after another. The first frame is zeros. There is room for it and
     /// for a frame of each rank.
@@ -23,6 +22,17 @@ pub struct Memory {
     stored_count: u32,
     /// The number of words of a frame.
     width: usize,
+}
+
+impl Drop for Memory {
+    fn drop(self) {
+        let Memory {
+            words: _,
+            numbers: _,
+            stored_count: _,
+            width: _,
+        } = self;
+    }
 }
 
 impl Model for Memory {

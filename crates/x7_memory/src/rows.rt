@@ -17,13 +17,22 @@ struct StoredRow {
 }
 
 /// Frames of one width and their addresses, in some order.
-#[derive(Drop)]
 pub(crate) struct Rows {
     /// The number of words of a frame.
     width: u32,
     /// The words of all frames, in the order in which they came.
     words: Vec<u32>,
     rows: Vec<StoredRow>,
+}
+
+impl Drop for Rows {
+    fn drop(self) {
+        let Rows {
+            width: _,
+            words: _,
+            rows: _,
+        } = self;
+    }
 }
 
 impl Model for Rows {

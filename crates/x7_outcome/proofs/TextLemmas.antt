@@ -3,10 +3,10 @@ use Rattle.std.proofs.Common.{inr, ℕ, List, [], ◌∷◌, Ok, Err, refl}
 use Rattle.x7_part.specs.Part.{PartData}
 use Rattle.x7_words.specs.Input.{InputsState, InputsStay}
 use Rattle.x7_forms.specs.Event.{Event}
-use Rattle.x7_forms.specs.Known.{and_so, part_known, whole_known}
+use Rattle.x7_forms.specs.Known.{and_so, part_known, whole_known, text_limit}
 use Rattle.x7_forms.specs.Step.{AnswersAs, ReadsWhole, step_over}
 use Rattle.x7_forms.proofs.ReadLemmas.{answers_end, answers_go, answers_stop, part_steady, whole_steady}
-use Rattle.x7_outcome.specs.Outcome.{PartAndText, part_and_text, text_limit}
+use Rattle.x7_outcome.specs.Outcome.{PartAndText, part_and_text}
 
 -- both were read
 pub texts_read : (part frames : List ℕ) (old mid new : InputsState) (p : PartData) (text : List ℕ) → InputsStay old mid → AnswersAs {A = PartData} (step_over (part ∷ []) old mid) (λ t. part_known t part) (Ok p) → ReadsWhole mid new text_limit frames (Ok text)

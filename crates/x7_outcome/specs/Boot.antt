@@ -3,7 +3,7 @@
 use Rattle.std.specs.Prelude.{ℕ, List, [], ◌++◌}
 use Rattle.x7_part.specs.Part.{PartData}
 use Rattle.x7_engine.specs.Standing.{NoWordDue}
-use Rattle.x7_engine.specs.State.{memory_in, state_of}
+use Rattle.x7_engine.specs.State.{memory_of_bytes, state_of}
 use Rattle.x7_report.specs.Reports.{report_text}
 use Rattle.x7_boot.specs.Attempt.{IsDeviceOf, AttemptCourse}
 use Rattle.x7_boot.specs.Boot.{BootedState}
@@ -17,4 +17,4 @@ ForLastAttemptOf boot Holds = (part : PartData) (last : AttemptCourse) → IsDev
 
 -- the whole text of a boot, by its last attempt
 unfoldable pub boot_text : PartData → List Tried → BootEnd → AttemptCourse → List ℕ
-boot_text part attempts end last = boot_lines part.name attempts end ++ report_text part (state_of part last.kept last.wrapped last.bytes) [] (memory_in part last.kept last.bytes)
+boot_text part attempts end last = boot_lines part.name attempts end ++ report_text part (state_of part last.kept last.wrapped last.bytes) [] (memory_of_bytes part last.kept last.bytes)

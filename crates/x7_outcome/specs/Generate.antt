@@ -8,7 +8,7 @@ use Rattle.x7_memory.specs.FrameMap.{FrameMap}
 use Rattle.x7_memory.specs.Plan.{PlanData, PlanRow, total}
 use Rattle.x7_planner.specs.FullStream.{full_stream}
 use Rattle.x7_engine.specs.Kept.{on_the_bench}
-use Rattle.x7_engine.specs.State.{memory_in, state_of}
+use Rattle.x7_engine.specs.State.{memory_of_bytes, state_of}
 
 -- the number after `number` in the sequence that a seed begins: a linear congruence modulo 2^32
 abbrev pub next_number : ℕ → ℕ
@@ -61,7 +61,7 @@ pub record SummaryData : Type 0 where
   pub phase : ℕ
   pub sum : ℕ
 
--- the summary of the stream of a part and a seed
+-- the text of a summary, by the part's name and the seed
 unfoldable pub summary_text : List ℕ → ℕ → SummaryData → List ℕ
 summary_text name seed s =
     gen_line name seed ++ count_line (codes "planned ") s.planned ++ count_line (codes "stream ") s.size ++ count_line (codes "phase ") s.phase ++ sum_line s.sum
@@ -73,7 +73,7 @@ played_summary part seed planned stream =
       planned = planned;
       size = length stream;
       phase = (state_of part on_the_bench false stream).phase;
-      sum = words_sum (memory_in part on_the_bench stream) (addresses_in part) % 2 ^ 32;
+      sum = words_sum (memory_of_bytes part on_the_bench stream) (addresses_in part) % 2 ^ 32;
     })
 
 -- the text of `gen`

@@ -56,7 +56,7 @@ use Rattle.x7_forms.specs.declared.bad_input.InputFault.TheVariants as input
 use Rattle.x7_forms.specs.Event.{Event, bad_input, differs, missing, no_memory, reading_failed, too_large, usage, writing_failed}
 use Rattle.x7_forms.specs.Form.{AskedForm, Assembling, Booting, Debugging, FromMcs, Imaging, ImagingFor, Listing, PlanningFull, PlanningRead, Playing, PlayingSvf, ToMcs, PlanningPartial, Generating, UpdatingFlash}
 use Rattle.x7_outcome.specs.Boot.{boot_text}
-use Rattle.x7_forms.specs.Known.{Absent, Answer, Broken, Found, Held, Known, and_so, data_in, part_known, stream_limit, whole_known, if_within}
+use Rattle.x7_forms.specs.Known.{Absent, Answer, Broken, Found, Held, Known, and_so, data_in, part_known, stream_limit, whole_known, if_within, text_limit, script_limit}
 use Rattle.x7_outcome.specs.Play.{played}
 
 -- a listing, or the event of a header that is refused at a byte
@@ -80,10 +80,6 @@ abbrev pub listed : Known → List ℕ → Result Answer Event
 listed known stream_name = listed_found stream_name (known.inputs stream_name)
 
 -- ---- what several forms read
-
--- the most bytes of a text: of an assembly, Intel HEX, frames or SVF text
-abbrev pub text_limit : ℕ
-text_limit = 536870912
 
 -- a part, and a text for it
 pub record PartAndText : Type 0 where
@@ -113,10 +109,6 @@ AssembledAs name (Ok text) (Ok answer) = (answer.stopped ≡ false) × IsAsm tex
 AssembledAs name (Ok text) (Err event) = (fault : AsmFault) × (IsAsm text (Err fault) × (asm_event name fault ≡ event))
 
 -- ---- debug
-
--- the most bytes of a script
-abbrev pub script_limit : ℕ
-script_limit = 1048576
 
 -- what a debugging reads: a part, the data of a stream, and the text of a script
 pub record DebugInputs : Type 0 where

@@ -2,7 +2,7 @@
 use Rattle.std.specs.Prelude.{ℕ, List, is_some, Result, Ok, Err, false, if◌then◌else◌, length, nat_lt}
 use Rattle.x7_part.specs.Part.{PartData}
 use Rattle.x7_engine.specs.Kept.{on_the_bench}
-use Rattle.x7_engine.specs.State.{why_stopped, memory_in, reads_of, state_of, first_stop_of_bytes}
+use Rattle.x7_engine.specs.State.{why_stopped, memory_of_bytes, reads_of, state_of, first_stop_of_bytes}
 use Rattle.x7_engine.specs.Stop.{fault_of_stop}
 use Rattle.x7_report.specs.Reports.{PlayTextState, report_text}
 use Rattle.x7_forms.specs.Event.{Event, too_many_reads}
@@ -12,7 +12,7 @@ use Rattle.x7_forms.specs.Known.{Answer, Known, and_so, streams_known, part_know
 abbrev pub report_of : PartData → List ℕ → Answer
 report_of part bytes = record {
   stopped = is_some (fault_of_stop (why_stopped (first_stop_of_bytes part on_the_bench bytes)));
-  text = report_text part (state_of part on_the_bench false bytes) (reads_of part on_the_bench bytes) (memory_in part on_the_bench bytes);
+  text = report_text part (state_of part on_the_bench false bytes) (reads_of part on_the_bench bytes) (memory_of_bytes part on_the_bench bytes);
 }
 
 -- the report of a play of these data, or that they read out more words than a play may

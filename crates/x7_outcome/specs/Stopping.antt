@@ -5,10 +5,9 @@ use Rattle.x7_words.specs.Input.{InputsState}
 use Rattle.x7_boot.specs.Image.{flash_limit}
 use Rattle.x7_forms.specs.Event.{Absence, ReasonCause, Contents, Event, Fault, cause_of_event, too_many_reads}
 use Rattle.x7_forms.specs.Form.{AskedForm, Assembling, Booting, Debugging, FromMcs, Generating, Imaging, ImagingFor, Listing, PlanningFull, PlanningPartial, PlanningRead, Playing, PlayingSvf, ToMcs, UpdatingFlash, flash_names}
-use Rattle.x7_forms.specs.Known.{part_limit, stream_limit}
+use Rattle.x7_forms.specs.Known.{part_limit, stream_limit, script_limit, text_limit}
 use Rattle.x7_forms.specs.Step.{Among}
 use Rattle.x7_forms.specs.ReadingStops.{Limited, StopsAt, limited, limited_together}
-use Rattle.x7_outcome.specs.Outcome.{script_limit, text_limit}
 
 -- the inputs that a form reads, in the order of its words, each with the most bytes that it may have
 abbrev pub inputs_of : Option (List ℕ → Option (List ℕ)) → AskedForm → List Limited

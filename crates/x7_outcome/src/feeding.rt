@@ -4,7 +4,7 @@ ghost use Rattle.x7_words.specs.Input.{AsksAtMost, InputsStay, taken_bytes_limit
 ghost use Rattle.x7_forms.specs.Event.{event_of};
 ghost use Rattle.x7_forms.specs.Step.{IsUnread, ReadsWhole};
 ghost use Rattle.x7_forms.specs.Turn.{IsLastAsked};
-ghost use Rattle.x7_outcome.specs.Outcome.{text_limit};
+ghost use Rattle.x7_forms.specs.Known.{text_limit};
 ghost use Rattle.x7_outcome.specs.Feeding.{IsFed, LinesGive};
 
 use std::alloc::Global;

@@ -1,23 +1,23 @@
-pub mod BlockLemmas
+mod BlockLemmas
 pub mod ByHandLemmas
-pub mod CutLemmas
-pub mod EndLemmas
-pub mod FlashSlotLemmas
-pub mod FitLemmas
+mod CutLemmas
+mod EndLemmas
+mod FlashSlotLemmas
+mod FitLemmas
 pub mod GapLemmas
 pub mod GrowthLemmas
 pub mod HistoryLemmas
 pub mod MovedLemmas
-pub mod NopLemmas
+mod NopLemmas
 pub mod PacketLemmas
-pub mod PlaceLemmas
-pub mod SearchLemmas
+mod PlaceLemmas
+mod SearchLemmas
 pub mod SyncLemmas
-pub mod TakeLemmas
+mod TakeLemmas
 pub mod UniqueLemmas
 pub mod SeamLemmas
 pub mod AppendedLemmas
 pub mod EndedLemmas
 pub mod OnceLemmas
-pub mod AtOnceLemmas
+mod AtOnceLemmas
 pub mod StreamLemmas

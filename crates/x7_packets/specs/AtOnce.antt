@@ -9,6 +9,7 @@ pub use Rattle.x7_packets.specs.Cutter.{TakesAsOneRun}
 use Rattle.x7_packets.specs.Cutter.{CutterState}
 use Rattle.x7_packets.specs.PacketWords.{type1_write_header}
 use Rattle.x7_packets.specs.Machine.{MachineState}
+use Rattle.x7_packets.specs.Matching.{places_reach}
 use Rattle.x7_packets.specs.SyncWord.{sync_bytes}
 use Rattle.x7_packets.specs.declared.cutter.Cut.TheVariants.{Body, Head, Skip, Sync, Word}
 use Rattle.x7_packets.specs.declared.header.Step.TheVariants.{Open}
@@ -19,16 +20,15 @@ most_short_words = 16
 
 -- how many bytes the longest short write has: four of its header, and four of each of its words
 abbrev pub longest_short_write : ℕ
-longest_short_write = 68
+longest_short_write = 4 + 4 * most_short_words
 
 -- how many bytes a short gap and the sync word after it have at most
 abbrev pub longest_gap_and_sync : ℕ
 longest_gap_and_sync = 32
 
--- how many bytes must be left of a piece for a short gap to be taken at once: a word more than it has at most with its
--- sync word
+-- how many bytes must be left of a piece for a short gap to be taken at once: all that a look for its sync word sees
 abbrev pub short_gap_room : ℕ
-short_gap_room = 36
+short_gap_room = places_reach
 
 -- the bytes begin with a write of one word, its header's reserved bits 0
 pub record BeginsWrite (bytes : List ℕ) (register w : ℕ) : Type 0 where

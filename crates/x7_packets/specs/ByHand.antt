@@ -22,8 +22,8 @@ with_word_after latest (p ∷ []) w =
     if nat_lt (length p.payload) (count_of p.step) then with_payload_word p w ∷ [] else p ∷ header_packet (latest_after latest p.step) w ∷ []
 with_word_after latest (p ∷ q ∷ ps) w = p ∷ with_word_after (latest_after latest p.step) (q ∷ ps) w
 
--- packets with one word more: where the last packet lacks payload words the word
--- is its payload's, else it begins a packet
+-- packets with one word more: where the last packet lacks payload words the word is its payload's, else it begins a
+-- packet
 abbrev pub packets_with_word : List Packet → ℕ → List Packet
 packets_with_word = with_word_after None
 

@@ -1,5 +1,5 @@
--- What a cutter stands for: the reading of the bytes that it took, and what each run
--- adds to the reading (this project's choice).
+-- What a cutter stands for: the reading of the bytes that it took, and what each run adds to the reading (this project's
+-- choice).
 use Rattle.std.specs.Prelude.{◌≡◌, ℕ, ◌+◌, ◌*◌, ◌-◌, ◌/◌, ◌<◌, ◌≤◌, ◌==◌, List, [], ◌∷◌, ◌++◌, length, min, true, false, ◌⊎◌, take, drop, ◌↔◌, if◌then◌else◌}
 use Rattle.std.specs.List.{flat_map}
 use Rattle.x7_words.specs.Word.{bytes_of_word, words_of_bytes}

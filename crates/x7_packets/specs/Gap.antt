@@ -1,5 +1,5 @@
--- Bytes after a gap in which no sync word begins (UG470, sync word): they are read as
--- they are alone, at places moved by the gap.
+-- Bytes after a gap in which no sync word begins (UG470, sync word): they are read as they are alone, at places moved by
+-- the gap.
 use Rattle.std.specs.Prelude.{◌≡◌, ◌≤◌, ℕ, List, ◌++◌, length}
 use Rattle.x7_words.specs.Word.{AreBytes}
 use Rattle.x7_packets.specs.ByHand.{reading_of}

@@ -1,6 +1,5 @@
--- What a stream asks of the registers, and the commands that it executes (UG470, configuration registers).
--- Places, and the commands that a write to FAR executes again, are this project's
--- choice where the guide leaves them open.
+-- What a stream asks of the registers, and the commands that it executes (UG470, configuration registers). Places, and
+-- the commands that a write to FAR executes again, are this project's choice where the guide leaves them open.
 use Rattle.std.specs.Prelude.{◌≡◌, ℕ, ◌+◌, ◌*◌, ◌-◌, ◌^◌, ◌<◌, ◌≤◌, ◌==◌, nat_lt, ◌&&◌, ◌||◌, Bool, false, not, if◌then◌else◌, List, [], ◌∷◌, ◌++◌, length, Option, Some, None}
 use Rattle.std.specs.List.{flat_map}
 use Rattle.x7_regs.specs.Register.{number_of, reg_number_count}
@@ -14,8 +13,8 @@ use Rattle.x7_packets.specs.PacketWords.{type2_count_bound}
 use Rattle.x7_packets.specs.Reading.{Place, Searching, Synced, EndedSession, session_bytes}
 use Rattle.x7_packets.specs.ByHand.{Reading, reading_of}
 
--- what a stream asks of the registers: a word written, a read of some words, or a
--- word in a header's place that is no header
+-- what a stream asks of the registers: a word written, a read of some words, or a word in a header's place that is no
+-- header
 pub data Access : Type 0 where
   Write : (register word : ℕ) → Access
   Read : (register count : ℕ) → Access

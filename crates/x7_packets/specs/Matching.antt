@@ -13,8 +13,8 @@ pub record LastThree : Type 0 where
 abbrev pub IsClear : LastThree → Type 0
 IsClear m = (m.first ≡ 0) × (m.second ≡ 0) × (m.third ≡ 0)
 
--- the matcher took these bytes since it was made or last found the sync word: it has
--- the last three, 0 for each that isn't there
+-- the matcher took these bytes since it was made or last found the sync word: it has the last three, 0 for each that
+-- isn't there
 pub record MatcherStandsFor (m : LastThree) (bytes : List ℕ) : Type 0 where
   pub before : List ℕ
   pub last : 0 ∷ 0 ∷ 0 ∷ bytes ≡ before ++ m.first ∷ m.second ∷ m.third ∷ []

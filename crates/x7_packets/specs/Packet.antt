@@ -1,6 +1,5 @@
--- The packets of a list of words (UG470, packet types).
--- Fillers, the register of a type 2 packet and the end at DESYNC are this project's
--- choice where the guide leaves them open.
+-- The packets of a list of words (UG470, packet types). Fillers, the register of a type 2 packet and the end at DESYNC
+-- are this project's choice where the guide leaves them open.
 use Rattle.std.specs.Prelude.{◌≡◌, ℕ, ◌/◌, ◌%◌, ◌^◌, ◌≤◌, ◌==◌, ◌||◌, ◌&&◌, Bool, false, if◌then◌else◌, List, [], ◌∷◌, length, map, Option, None, Some}
 use Rattle.std.specs.List.{flat_map}
 use Rattle.x7_words.specs.Word.{AreWords, field_of}
@@ -103,8 +102,8 @@ OnlyLastMayEnd register [] = Unit {0}
 OnlyLastMayEnd register (w ∷ []) = Unit {0}
 OnlyLastMayEnd register (w ∷ x ∷ ws) = (ends_session register w ≡ false) × OnlyLastMayEnd register (x ∷ ws)
 
--- a packet: the header means its step, the payload is no longer than the header says,
--- and only its last word may end the session
+-- a packet: the header means its step, the payload is no longer than the header says, and only its last word may end
+-- the session
 pub record IsPacket (latest : Option ℕ) (p : Packet) : Type 0 where
   pub fits : AreWords (words p)
   pub means : p.step ≡ meaning latest p.head

@@ -1,5 +1,5 @@
--- A list of bytes as gaps, sync words, sessions and a tail (UG470, sync word; the search
--- at every byte is this project's choice).
+-- A list of bytes as gaps, sync words, sessions and a tail (UG470, sync word; the search at every byte is this project's
+-- choice).
 use Rattle.std.specs.Prelude.{◌≡◌, ℕ, ◌<◌, List, [], ◌++◌, length, None, Bool, true, false}
 use Rattle.std.specs.List.{flat_map, AllByRecursion}
 use Rattle.x7_words.specs.Word.{AreBytes, bytes_of_word}

@@ -1,5 +1,5 @@
--- Packets over an input: what a reader of packets stands for, and what each run
--- that it lends says (this project's choice).
+-- Packets over an input: what a reader of packets stands for, and what each run that it lends says (this project's
+-- choice).
 use Rattle.std.specs.Prelude.{◌≡◌, ℕ, ◌+◌, ◌<◌, ◌≤◌, ◌↔◌, List, [], ◌++◌, length, take, drop, Bool, true, false, if◌then◌else◌, Option, Result, Ok, Err, OnErr, OnOk, ◌⊎◌}
 use Rattle.std.specs.Borrow.{Bor, Fml, MutBor}
 use Rattle.std.specs.Io.BufRead.{Rests}
@@ -26,8 +26,8 @@ with_tail tail (Synced gap packets old) = Synced gap packets tail
 abbrev pub not_given : PacketsState → List ℕ
 not_given p = if p.is_done then [] else p.cutter.kept
 
--- The reader stands for these bytes: those that its runs gave, those that its cutter keeps, and those in
--- the buffer that the cutter hasn't taken.
+-- The reader stands for these bytes: those that its runs gave, those that its cutter keeps, and those in the buffer that
+-- the cutter hasn't taken.
 pub record PacketsStandFor (p : PacketsState) (bytes given : List ℕ) : Type 0 where
   pub sessions : List EndedSession
   pub place : Place

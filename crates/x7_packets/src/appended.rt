@@ -11,9 +11,9 @@ ghost use Rattle.x7_packets.specs.Reading.{Searching, is_synced, tail_of};
 ghost use Rattle.x7_packets.specs.SyncWord.{HasNoSync, sync_bytes};
 ghost use Rattle.x7_packets.specs.Machine.{AllWhole};
 
-/// After bytes that end searching, with no open gap or before bytes that begin with a dummy word, the later bytes are
-/// read as they are alone, and each prefix of them asks the same: the reading of both is one after the other, and so is
-/// their history, whose places are moved; both end in a session, and with a tail, as the later ones do.
+/// After bytes that end searching, the later bytes are read as they are alone, where no gap is open or they begin with a
+/// dummy word. The reading of both is one after the other, and so is their history, the later places moved, also of each
+/// prefix of the later bytes. Both end in a session, and with a tail, as the later ones do.
 pub fn streams_append()
     ensures reading { (bytes more : List ℕ) → AreBytes (bytes ++ more) → MayFollow (reading_of bytes).place more
         → reading_of (bytes ++ more) ≡ after (reading_of bytes) (reading_of more) }

@@ -13,7 +13,7 @@ ghost use Rattle.x7_packets.specs.Mode.{Mode, mode_of};
 
 mod copied;
 
-use crate::fast::count_equal;
+use crate::fast::{PLACES_REACH, count_equal};
 use crate::header::{Step, is_cmd};
 use crate::machine::Machine;
 use crate::packet_words::{NO_OP, register_in, type1_count_in, type1_write_header};
@@ -45,8 +45,8 @@ pub enum Cut<'p> {
     Head(u32, Step),
     /// A payload word whose bytes lie in two pieces or more, with its register.
     Word(u8, u32),
-    /// Payload words of one packet that lie in the piece, with their register: a
-    /// positive multiple of four bytes, four for CMD.
+    /// Payload words of one packet that lie in the piece, with their register: a positive multiple of four bytes, four
+    /// for CMD.
     Body(u8, &'p [u8]),
 }
 
@@ -78,13 +78,9 @@ fn completed_word(kept: &[u8; 3], count: usize, missing: &[u8]) -> u32
 /// How many words a short write has at most.
 const MOST_SHORT_WORDS: u32 = 16;
 
-/// How many bytes must be left of a piece for a short write to be taken at once: as many as the longest one has, its
-/// header included.
-const LONGEST_SHORT_WRITE: usize = 68;
-
-/// How many bytes must be left of a piece for a short gap to be taken at once: those that a look for the sync word
-/// sees, and one more.
-const SHORT_GAP_ROOM: usize = 36;
+/// How many bytes the longest short write has: four of its header, and four of each of its words. As many must be left
+/// of a piece for a short write to be taken at once.
+const LONGEST_SHORT_WRITE: usize = 4 + 4 * MOST_SHORT_WORDS as usize;
 
 /// The register and the word of the write of one word that begins these bytes, its header's reserved bits 0.
 #[inline(always)]
@@ -172,8 +168,8 @@ impl Cutter {
         let _ = &self.stage;
     }
 
-    /// Whether the bytes taken end in a session. A session begins just after its
-    /// sync word, before the sync word is given.
+    /// Whether the bytes taken end in a session. A session begins just after its sync word, before the sync word is
+    /// given.
     pub fn is_synced(&self) -> bool
         ensures synced { (bytes : List ℕ) (sessions : List EndedSession) (place : Place) → CutterStandsFor self.now bytes sessions place
             → result ≡ is_synced place }
@@ -222,9 +218,9 @@ impl Cutter {
         Some((register, w))
     }
 
-    /// Takes the packet that comes next, where it is a short write to a register other than CMD, of one
-    /// word at least, its header's reserved bits 0, and `rest` is long enough for the longest short write.
-    /// Gives its register and how many words it has.
+    /// Takes the packet that comes next, where it is a type 1 write of one to sixteen words to a register other than CMD,
+    /// its header's reserved bits 0, and `rest` is long enough for sixteen words. Gives its register and how many words
+    /// it has.
     #[inline(always)]
     pub fn take_short_write(&mut self, rest: &[u8]) -> Option<(u8, usize)>
         ensures writes { IfSome result (λ write. WritesShort self.old self.new rest.now write.0 write.1) }
@@ -262,7 +258,7 @@ impl Cutter {
         if !self.is_in_clear_gap() {
             return None;
         }
-        if rest.len() < SHORT_GAP_ROOM {
+        if rest.len() < PLACES_REACH {
             return None;
         }
         let Some(count) = near_sync(rest) else {

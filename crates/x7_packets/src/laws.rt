@@ -34,10 +34,9 @@ pub fn reading_is_found()
         → (ss ≡ (reading_of bytes).sessions) × (p ≡ (reading_of bytes).place) }
 {}
 
-/// Where a session has further words, the history has their accesses too, each at its place, the next word's place is
-/// that many bytes on, and no tail is left; so has it those of a run of a cutter, and the history of bytes those of the
-/// run cut after them. The place of the next word and the tail make up all bytes, and the history of a reading is that
-/// of its bytes.
+/// What further words of a session, or a run of a cutter, enter into the history: the access of each, at its place. The
+/// next word then begins that many bytes on, and no tail is left. All bytes are those up to the place of the next word
+/// and the tail, and the history of a reading is that of its bytes.
 pub fn words_enter()
     ensures words { (old new : Reading) (more : List (ℕ × Step)) → GoesOnBy more old new → history_in new ≡ entered_all (next_in old) more (history_in old) }
     ensures next { (old new : Reading) (more : List (ℕ × Step)) → GoesOnBy more old new → next_in new ≡ next_in old + 4 * length more }
@@ -72,8 +71,9 @@ pub fn accesses_fit()
     ensures { (bytes : List ℕ) (sessions : List EndedSession) (place : Place) → IsReading bytes sessions place → AllFit (history sessions place) }
 {}
 
-/// The history of bytes grows byte by byte: by one access at most, which that byte ends. Further bytes enter newer
-/// accesses alone, so that up to the old bytes' count it stays the same; and each access of bytes ends within them.
+/// A byte more enters one access at most into the history of bytes, which ends with that byte. Further bytes enter newer
+/// accesses alone, so the accesses that end within the first bytes are those of these bytes; and each access of bytes
+/// ends within them.
 pub fn histories_grow()
     ensures access { (bytes : List ℕ) (x : ℕ) → AreBytes (bytes ++ x ∷ [])
         → EntersNone bytes (x ∷ []) ⊎ ((access : Access) × EntersOne bytes (x ∷ []) (entry access (length bytes + 1))) }

@@ -79,8 +79,8 @@ fn buffer_of(alloc: Global, first: &[u8]) -> Result<Vec<u8>, NoMemory>
 pub struct Packets {
     cutter: Cutter,
     buffer: Vec<u8>,
-    // In the buffer: the last run's bytes from `start` to `at`, and from there to
-    // `end` those that the cutter hasn't taken.
+    // In the buffer the last run's bytes stand from `start` to `at`, and from there to `end` those that the cutter hasn't
+    // taken.
     start: usize,
     at: usize,
     end: usize,

@@ -68,7 +68,7 @@ impl Matcher {
         }
     }
 
-    /// Whether the last three bytes are 0, as those of a new matcher: so a sync word that comes begins after them.
+    /// True only where the last three bytes are 0, as those of a new matcher: so a sync word that comes begins after them.
     #[inline(always)]
     pub(crate) fn is_clear(&self) -> bool
         ensures { IsTrue result → IsClear self.now }
@@ -100,8 +100,8 @@ impl Matcher {
         found
     }
 
-    /// Takes bytes up to and including the first sync word's last byte, and says how many; or takes them all, where no
-    /// sync word ends in them.
+    /// How many bytes there are up to and with the first sync word's last byte; the matcher is then of no use until it is
+    /// made anew. Or none, where no sync word ends in the bytes, and the matcher took them all.
     pub(crate) fn search(&mut self, bytes: &[u8]) -> Option<usize>
         ensures within { IfSome result (λ n. (0 < n) × (n ≤ length bytes.now)) }
         ensures found { (gap : List ℕ) → MatcherStandsFor self.old gap → HasNoSync gap → IsSearchOutcome gap bytes.now result self.new }

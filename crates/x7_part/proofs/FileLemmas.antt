@@ -1,38 +1,26 @@
 -- Items of a part file, one by one.
-use Rattle.std.proofs.Common.{◌≡◌, ℕ, ℤ, ◌+◌, ◌<◌, map, List, ◌∷◌, length, get_or, drop, [], ◌++◌, suc, Bool, ◌&&◌, true, false, Option, Some, None, ◌∙◌, refl, sym, ap, arith}
+use Rattle.std.proofs.Common.{◌≡◌, ℕ, ℤ, ◌+◌, ◌<◌, ◌≤◌, map, List, ◌∷◌, length, get_or, drop, [], ◌++◌, zero, suc, Bool, ◌&&◌, true, false, Option, Some, None, ◌∙◌, refl, sym, ap, ap₂, arith}
 use Rattle.std.specs.Prelude.{unwrap_or, option_and_then}
 use Rattle.std.proofs.lemmas.Bool.{and_parts, false≢true}
 use Rattle.toml.specs.Data.{Data, Items, Members, no_items, item, string, integer, float, boolean, datetime, array, table, as_array, as_table}
 use Rattle.toml.specs.View.{view, items_view}
 use Rattle.toml.specs.declared.value.Value.{Value}
 use Rattle.toml.proofs.Views.{items_view-drop}
-use Rattle.x7_part.specs.declared.keys.Kind.{Kind}
 use Rattle.x7_part.specs.declared.keys.Kind.TheVariants.{Table}
 use Rattle.x7_part.specs.Values.{under, items_under, row_tables, tables, natural, whole, wholes}
-use Rattle.x7_part.specs.PartChecks.{unless, rows_fault, is_kind, are_kind, is_list_of, allows, key_fault, types_fault, check_fault, type_fault, are_widths, is_in, are_in, is_length_in, are_minors}
+use Rattle.x7_part.specs.PartChecks.{unless, rows_fault, is_kind, are_kind, is_list_of, allows, key_fault, types_fault, check_fault, type_fault, are_widths, is_in, are_in, are_minors, is_length_in}
 use Rattle.x7_part.specs.Keys.{top_keys, row_keys}
 use Rattle.x7_part.specs.declared.checks.Check.TheVariants.{Types}
 use Rattle.x7_part.specs.declared.fault.PartKey.TheVariants as key
 use Rattle.x7_part.proofs.OrderLemmas.{unless_none, first_none}
-use Rattle.std.proofs.lemmas.Option.{none-some}
-use Rattle.x7_part.specs.declared.fault.PartFault.{PartFault}
 use Rattle.x7_part.specs.Limits.{most_columns, most_minors}
-use Rattle.x7_part.proofs.LoopLemmas.{both_pass, first_stops, row_made}
-use Rattle.x7_part.proofs.RangeLemmas.{nones}
+use Rattle.x7_part.proofs.LoopLemmas.{row_made}
+use Rattle.x7_part.proofs.RangeLemmas.{in_range, nones}
 
 -- the items from one on
 pub items_more : (vs : List Value) (i : ℕ) (v : Value) → i < length vs → v ≡ get_or vs i v →
     items_view (drop i vs) ≡ item (view v) (items_view (drop (i + 1) vs))
 items_more vs i v h same = items_view-drop vs i v h ∙ rw (← same) refl
-
--- whether the items from one on are of a kind, by that one
-pub kind_more : (kind : Kind) (vs : List Value) (i : ℕ) (v : Value) (b : Bool) → i < length vs → v ≡ get_or vs i v → b ≡ is_kind kind (view v) → b ≡ true →
-    are_kind kind (items_view (drop (i + 1) vs)) ≡ are_kind kind (items_view (drop i vs))
-kind_more kind vs i v b h same is holds = rw (items_more vs i v h same, ← is, holds) refl
-
-pub kind_not : (kind : Kind) (vs : List Value) (i : ℕ) (v : Value) (b : Bool) → i < length vs → v ≡ get_or vs i v → b ≡ is_kind kind (view v) → b ≡ false →
-    false ≡ are_kind kind (items_view (drop i vs))
-kind_not kind vs i v b h same is fails = rw (items_more vs i v h same, ← is, fails) refl
 
 table_first : (d : Data) (ds : Items) (t : Members) → Some t ≡ as_table d → tables (item d ds) ≡ t ∷ tables ds
 table_first (string s) ds t e = absurd (cc)
@@ -130,27 +118,20 @@ not_five (a ∷ b ∷ c ∷ d ∷ e ∷ []) h = absurd (h refl)
 
 -- ---- numbers of minors
 
-in_and : (a b : Bool) (fault : PartFault) → None ≡ unless a fault → b ≡ (a && b)
-in_and true b fault e = refl
-in_and false b fault e = absurd (none-some fault e)
-
 -- a number more was taken
-pub record MinorMore (vs : List Value) (i : ℕ) (before made : List ℕ) : Type 0 where
-  pub test : are_in 1 most_minors (wholes (items_view (drop (i + 1) vs))) ≡ are_in 1 most_minors (wholes (items_view (drop i vs)))
-  pub minors : made ++ map natural (wholes (items_view (drop (i + 1) vs))) ≡ before ++ map natural (wholes (items_view (drop i vs)))
+pub minors_more : (vs : List Value) (i : ℕ) (v : Value) (before made : List ℕ) → i < length vs → v ≡ get_or vs i v → made ≡ before ++ natural (whole (view v)) ∷ [] →
+    made ++ map natural (wholes (items_view (drop (i + 1) vs))) ≡ before ++ map natural (wholes (items_view (drop i vs)))
+minors_more vs i v before made h is e =
+    row_made natural (whole (view v)) (wholes (items_view (drop (i + 1) vs))) (wholes (items_view (drop i vs))) before made (ap wholes (items_more vs i v h is)) e
 
-pub minor_more : (vs : List Value) (i : ℕ) (v : Value) (before made : List ℕ) (fault : PartFault) → i < length vs → v ≡ get_or vs i v → None ≡ unless (is_in 1 most_minors (whole (view v))) fault →
-    made ≡ before ++ natural (whole (view v)) ∷ [] → MinorMore vs i before made
-minor_more vs i v before made fault h is inside e =
-    let first = ap wholes (items_more vs i v h is) in
-    record {
-      test = rw first (in_and (is_in 1 most_minors (whole (view v))) (are_in 1 most_minors (wholes (items_view (drop (i + 1) vs)))) fault inside);
-      minors = row_made natural (whole (view v)) (wholes (items_view (drop (i + 1) vs))) (wholes (items_view (drop i vs))) before made first e;
-    }
+-- each of the numbers is in range
+pub minor_within : (vs : List Value) (i : ℕ) (v : Value) → are_in 1 most_minors (wholes (items_view vs)) ≡ true → i < length vs → v ≡ get_or vs i v → natural (whole (view v)) ≤ most_minors
+minor_within [] i v all h same = absurd (omega arith)
+minor_within (u ∷ vs) zero v all h same =
+    (in_range 1 most_minors (whole (view v)) (rw same (and_parts (is_in 1 most_minors (whole (view u))) (are_in 1 most_minors (wholes (items_view vs))) all).0)).1
+minor_within (u ∷ vs) (suc i) v all h same =
+    minor_within vs i v (and_parts (is_in 1 most_minors (whole (view u))) (are_in 1 most_minors (wholes (items_view vs))) all).1 (omega arith) same
 
--- a number out of range is the fault of all
-pub minor_stops : (vs : List Value) (i : ℕ) (v : Value) (found fault : PartFault) → i < length vs → v ≡ get_or vs i v → None ≡ unless (is_length_in 1 most_columns (length vs)) fault →
-    are_in 1 most_minors (wholes (items_view (drop i vs))) ≡ are_in 1 most_minors (wholes (items_view vs)) → Some found ≡ unless (is_in 1 most_minors (whole (view v))) fault → Some found ≡ unless (are_minors (wholes (items_view vs))) fault
-minor_stops vs i v found fault h is long all e =
-    both_pass (is_length_in 1 most_columns (length (wholes (items_view vs)))) (are_in 1 most_minors (wholes (items_view vs))) (Some found) fault (rw (wholes_long vs) long)
-    (rw (← all, ap wholes (items_more vs i v h is)) (first_stops (is_in 1 most_minors (whole (view v))) (are_in 1 most_minors (wholes (items_view (drop (i + 1) vs)))) found fault e))
+pub minors_by : (vs : List Value) (long each : Bool) → long ≡ is_length_in 1 most_columns (length vs) → each ≡ are_in 1 most_minors (wholes (items_view vs)) → (long && each) ≡ are_minors (wholes (items_view vs))
+minors_by vs long each e f =
+    ap₂ (λ a b. a && b) e f ∙ ap (λ n. is_length_in 1 most_columns n && are_in 1 most_minors (wholes (items_view vs))) (sym (wholes_long vs))

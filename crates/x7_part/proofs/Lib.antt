@@ -1,16 +1,16 @@
-pub mod ColumnLemmas
+mod ColumnLemmas
 pub mod WidthLemmas
 pub mod RowLemmas
-pub mod TableLemmas
-pub mod FieldLemmas
+mod TableLemmas
+mod FieldLemmas
 pub mod PartLemmas
 pub mod SlotLemmas
-pub mod FileLemmas
-pub mod BlankLemmas
-pub mod RangeLemmas
-pub mod OrderLemmas
-pub mod SortLemmas
-pub mod FirstLemmas
-pub mod LoopLemmas
-pub mod PassLemmas
+mod FileLemmas
+mod BlankLemmas
+mod RangeLemmas
+mod OrderLemmas
+mod SortLemmas
+mod FirstLemmas
+mod LoopLemmas
+mod PassLemmas
 pub mod FileRowLemmas

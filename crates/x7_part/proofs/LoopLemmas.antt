@@ -1,8 +1,7 @@
 -- Values that a loop takes one by one, and the first fault among them.
-use Rattle.std.proofs.Common.{◌≡◌, ℕ, List, [], ◌∷◌, ◌++◌, map, append_assoc, Bool, true, false, ◌&&◌, Option, None, Some, refl, sym, ◌∙◌}
-use Rattle.std.proofs.lemmas.Option.{none-some}
+use Rattle.std.proofs.Common.{◌≡◌, ℕ, List, [], ◌∷◌, ◌++◌, map, append_assoc, Option, None, Some, refl, sym, ◌∙◌}
 use Rattle.x7_part.specs.declared.fault.PartFault.{PartFault}
-use Rattle.x7_part.specs.PartChecks.{unless, next_row_number, rows_fault}
+use Rattle.x7_part.specs.PartChecks.{next_row_number, rows_fault}
 use Rattle.x7_part.proofs.FirstLemmas.{first_alone}
 
 -- ---- rows
@@ -21,13 +20,3 @@ row_stops check n row rest rows fault due first all found = sym all ∙ rw (firs
 pub row_made : {R T : Type 0} (of : R → T) (row : R) (rest rows : List R) (before made : List T) → rows ≡ row ∷ rest → made ≡ before ++ of row ∷ [] →
     made ++ map of rest ≡ before ++ map of rows
 row_made of row rest rows before made first e = rw (first, e) (append_assoc before (of row ∷ []) (map of rest))
-
--- ---- numbers of minors
-
-pub both_pass : (a b : Bool) (found : Option PartFault) (fault : PartFault) → None ≡ unless a fault → found ≡ unless b fault → found ≡ unless (a && b) fault
-both_pass true b found fault none e = e
-both_pass false b found fault none e = absurd (none-some fault none)
-
-pub first_stops : (a b : Bool) (found fault : PartFault) → Some found ≡ unless a fault → Some found ≡ unless (a && b) fault
-first_stops true b found fault e = absurd (none-some found (sym e))
-first_stops false b found fault e = e

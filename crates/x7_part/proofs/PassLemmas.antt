@@ -1,6 +1,7 @@
 -- The first fault of a part file, and the part of one in which no check finds a fault.
 use Rattle.std.proofs.Common.{◌≡◌, ℕ, ◌+◌, ◌*◌, ◌≤◌, nat_le, leb-true, List, [], ◌∷◌, length, Bool, true, false, Option, Some, None, inl, inr, refl, sym, ap, ◌∙◌, arith}
 use Rattle.std.specs.Prelude.{◌⊎◌, All, Result, Ok, Err, IsUtf8, if◌then◌else◌, IsErr, IsErrAnd, IfErr, IfOk}
+use Rattle.std.specs.Result.{result_err}
 use Rattle.std.specs.Str.{is_utf8}
 use Rattle.std.specs.List.{sum_by, sum}
 use Rattle.std.proofs.lemmas.Bool.{and_parts, false≢true}
@@ -10,23 +11,22 @@ use Rattle.std.proofs.lemmas.Str.{IsUtf8-from_is_utf8, is_utf8-from_IsUtf8}
 use Rattle.toml.specs.Data.{Members}
 use Rattle.toml.specs.Parse.{parse_document}
 use Rattle.x7_part.specs.declared.fault.PartFault.{PartFault}
-use Rattle.x7_part.specs.declared.fault.PartFault.TheVariants.{Toml, Range, TooMany, NoMemory}
+use Rattle.x7_part.specs.declared.fault.PartFault.TheVariants.{Toml, TooMany, NoMemory}
 use Rattle.x7_part.specs.declared.fault.PartKey.TheVariants as key
-use Rattle.x7_part.specs.Keys.{top}
-use Rattle.x7_part.specs.Limits.{greatest_bus_width, greatest_mode, most_name_size, least_frame_words, most_frame_words, most_rows, most_frames, most_wait_ticks, most_words, usual_frame_words}
+use Rattle.x7_part.specs.Limits.{most_name_size, most_rows, most_frames, most_words}
 use Rattle.x7_part.specs.Part.{RowData, PartData}
 use Rattle.x7_part.specs.Ranges.{IsPart}
 use Rattle.x7_part.specs.Address.{IsRow}
 use Rattle.x7_part.specs.AddressOrder.{addresses}
-use Rattle.x7_part.specs.Values.{text, number_or, row_tables, row_of, settings_of, rows_in_file, part_data, part_with}
+use Rattle.x7_part.specs.Values.{text, row_tables, row_of, settings_of, rows_in_file, part_data, part_with}
 use Rattle.x7_part.specs.declared.settings.PartSettings.{PartSettings}
-use Rattle.x7_part.specs.PartChecks.{fault_of_call, AnswersDue, unless, first_of, rows_fault, is_in, is_length_in, is_name, is_idcode, is_start_unit, is_up_to, has_widths, row_range_fault, type_fault, other_fault, top_range_fault, range_fault}
+use Rattle.x7_part.specs.PartChecks.{AnswersDue, unless, first_of, rows_fault, row_range_fault, type_fault, other_fault, top_range_fault, range_fault}
 use Rattle.x7_part.specs.Row.{same_row_fault, has_few_frames, frames_fault, sorted_rows}
 use Rattle.x7_part.specs.PartFile.{first_fault, part_in, part_of_table, part_unless, part_from}
 use Rattle.x7_part.proofs.FirstLemmas.{first_alone}
 use Rattle.x7_part.proofs.OrderLemmas.{unless_none, ordered, frames_sum, frames_permutation}
 use Rattle.x7_part.proofs.SortLemmas.{ordered_same, ordered_sorted}
-use Rattle.x7_part.proofs.RangeLemmas.{nones, in_range, name_in, long_in, printed, odd_in, unit_in, far_is, rows_are}
+use Rattle.x7_part.proofs.RangeLemmas.{nones, name_in, long_in, printed, far_is, rows_are, top_ranges}
 
 -- ---- the part
 
@@ -37,7 +37,7 @@ few words frames rows h =
 
 made : (t : Members) → type_fault t ≡ None → other_fault t ≡ None → range_fault t ≡ None → same_row_fault [] (rows_in_file t) ≡ None →
     frames_fault (part_with t (rows_in_file t)) ≡ None → IsPart (part_from t)
-unfolding range_fault top_range_fault part_from
+unfolding range_fault part_from
 made t types others ranges apart frames =
     let s = settings_of t in
     let name = text key.Name t in
@@ -45,25 +45,13 @@ made t types others ranges apart frames =
     let rows = rows_in_file t in
     let sorted = sorted_rows s.field_widths rows in
     let each = nones (top_range_fault t ∷ rows_fault row_range_fault 1 tables ∷ []) ranges in
-    let h = nones (
-    unless (is_name name) (Range (top key.Name))
-    ∷ unless (is_idcode (number_or 0 key.Idcode t)) (Range (top key.Idcode))
-    ∷ unless (is_up_to greatest_mode key.Mode t) (Range (top key.Mode))
-    ∷ unless (is_up_to greatest_bus_width key.BusWidth t) (Range (top key.BusWidth))
-    ∷ unless (is_up_to most_wait_ticks key.Lock t) (Range (top key.Lock))
-    ∷ unless (is_up_to most_wait_ticks key.Match t) (Range (top key.Match))
-    ∷ unless (is_in least_frame_words most_frame_words (number_or usual_frame_words key.FrameWords t)) (Range (top key.FrameWords))
-    ∷ unless (has_widths t) (Range (top key.Far))
-    ∷ unless (is_start_unit (number_or 1 key.StartUnit t)) (Range (top key.StartUnit))
-    ∷ unless (is_length_in 1 most_rows (length tables)) (Range (top key.Row))
-    ∷ []) each.0 in
-    let named = name_in name (unless_none (is_name name) (Range (top key.Name)) h.0) in
+    let h = top_ranges t each.0 in
+    let named = name_in name h.name in
     let long = long_in 1 most_name_size (length name) named.0 in
-    let idcode = odd_in (number_or 0 key.Idcode t) (unless_none (is_idcode (number_or 0 key.Idcode t)) (Range (top key.Idcode)) h.1.0) in
-    let lock = (in_range 0 most_wait_ticks _ (unless_none (is_up_to most_wait_ticks key.Lock t) (Range (top key.Lock)) h.1.1.1.1.0)).1 in
-    let matched = (in_range 0 most_wait_ticks _ (unless_none (is_up_to most_wait_ticks key.Match t) (Range (top key.Match)) h.1.1.1.1.1.0)).1 in
-    let widths = far_is t (unless_none (has_widths t) (Range (top key.Far)) h.1.1.1.1.1.1.1.0) in
-    let many = long_in 1 most_rows (length tables) (unless_none (is_length_in 1 most_rows (length tables)) (Range (top key.Row)) h.1.1.1.1.1.1.1.1.1.0) in
+    let lock = h.lock in
+    let matched = h.matched in
+    let widths = far_is t h.widths in
+    let many = h.rows in
     let count : length rows ≡ length tables = length-map tables row_of in
     let same = ordered_same s.field_widths rows in
     let are = ordered s.field_widths rows sorted widths (rows_are 1 tables each.1.0) apart same (ordered_sorted s.field_widths rows) in
@@ -74,15 +62,15 @@ made t types others ranges apart frames =
       named = long.0;
       short = long.1;
       printed = printed name named.1;
-      idcode = (let i = idcode.0 in omega arith);
-      odd = idcode.1;
-      mode = (in_range 0 greatest_mode _ (unless_none (is_up_to greatest_mode key.Mode t) (Range (top key.Mode)) h.1.1.0)).1;
-      bus_width = (in_range 0 greatest_bus_width _ (unless_none (is_up_to greatest_bus_width key.BusWidth t) (Range (top key.BusWidth)) h.1.1.1.0)).1;
+      idcode = (let i = h.idcode.0 in omega arith);
+      odd = h.idcode.1;
+      mode = h.mode;
+      bus_width = h.bus_width;
       lock = omega (arith, lock);
       matched = omega (arith, matched);
-      words = in_range least_frame_words most_frame_words _ (unless_none (is_in least_frame_words most_frame_words (number_or usual_frame_words key.FrameWords t)) (Range (top key.FrameWords)) h.1.1.1.1.1.1.0);
+      words = h.words;
       field_widths = widths;
-      start_unit = unit_in _ (unless_none (is_start_unit (number_or 1 key.StartUnit t)) (Range (top key.StartUnit)) h.1.1.1.1.1.1.1.1.0);
+      start_unit = h.start_unit;
       some = (let low = many.0 in omega arith);
       few = (let high = many.1 in omega arith);
       rows = are;
@@ -102,7 +90,7 @@ made_is t e =
 -- the checks of rows, by their number of frames
 pub rows_checked : (part : PartData) (words frames : ℕ) (rows : List RowData) (r : Result (Unit {0}) PartFault) → part.frame_words ≡ words → part.rows ≡ rows →
     frames ≡ sum_by (λ r. sum r.minors) rows → None ≡ same_row_fault [] rows →
-    fault_of_call r ≡ unless (has_few_frames words frames (length rows)) (TooMany frames) → fault_of_call r ≡ first_of (same_row_fault [] rows ∷ frames_fault part ∷ [])
+    result_err r ≡ unless (has_few_frames words frames (length rows)) (TooMany frames) → result_err r ≡ first_of (same_row_fault [] rows ∷ frames_fault part ∷ [])
 rows_checked part words frames rows r wide same counted apart checked =
     let n : length (addresses part.field_widths rows) ≡ frames = frames_sum part.field_widths rows ∙ sym counted in
     checked ∙ rw (← apart, same, wide, n) (first_alone (unless (has_few_frames words frames (length rows)) (TooMany frames)))
@@ -154,23 +142,9 @@ pub record Passed (t : Members) : Type 0 where
   pub each : rows_fault row_range_fault 1 (row_tables t) ≡ None
 
 pub few_rows : (t : Members) → None ≡ top_range_fault t → length (rows_in_file t) ≤ most_rows
-unfolding top_range_fault
 few_rows t before =
-    let tables = row_tables t in
-    let h = nones (
-    unless (is_name (text key.Name t)) (Range (top key.Name))
-    ∷ unless (is_idcode (number_or 0 key.Idcode t)) (Range (top key.Idcode))
-    ∷ unless (is_up_to greatest_mode key.Mode t) (Range (top key.Mode))
-    ∷ unless (is_up_to greatest_bus_width key.BusWidth t) (Range (top key.BusWidth))
-    ∷ unless (is_up_to most_wait_ticks key.Lock t) (Range (top key.Lock))
-    ∷ unless (is_up_to most_wait_ticks key.Match t) (Range (top key.Match))
-    ∷ unless (is_in least_frame_words most_frame_words (number_or usual_frame_words key.FrameWords t)) (Range (top key.FrameWords))
-    ∷ unless (has_widths t) (Range (top key.Far))
-    ∷ unless (is_start_unit (number_or 1 key.StartUnit t)) (Range (top key.StartUnit))
-    ∷ unless (is_length_in 1 most_rows (length tables)) (Range (top key.Row))
-    ∷ []) (sym before) in
-    let many = (long_in 1 most_rows (length tables) (unless_none (is_length_in 1 most_rows (length tables)) (Range (top key.Row)) h.1.1.1.1.1.1.1.1.1.0)).1 in
-    let count : length (rows_in_file t) ≡ length tables = length-map tables row_of in
+    let many = (top_ranges t (sym before)).rows.1 in
+    let count : length (rows_in_file t) ≡ length (row_tables t) = length-map (row_tables t) row_of in
     omega arith
 
 -- what the checks of rows find is the first fault of the table
@@ -196,7 +170,7 @@ whole_is t h e =
     let last = nones (same_row_fault [] (rows_in_file t) ∷ frames_fault (part_with t (rows_in_file t)) ∷ []) (sym e) in
     record { none = none; all = rows_are 1 (row_tables t) h.each; apart = last.0; part = made_is t none }
 
-pub reported_from : {T : Type 0} (r : Result T PartFault) (fault : PartFault) → IsErr r × IsErrAnd r (λ e. e ≡ fault) → fault_of_call r ≡ Some fault
+pub reported_from : {T : Type 0} (r : Result T PartFault) (fault : PartFault) → IsErr r × IsErrAnd r (λ e. e ≡ fault) → result_err r ≡ Some fault
 reported_from (Ok x) fault h = absurd (false≢true h.0)
 reported_from (Err e) fault h = ap Some h.1
 

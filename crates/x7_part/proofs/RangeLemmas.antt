@@ -9,13 +9,13 @@ use Rattle.std.proofs.lemmas.List.Elements.{All-cons, All-nil}
 use Rattle.x7_part.specs.declared.fault.PartFault.{PartFault}
 use Rattle.x7_part.specs.declared.fault.PartFault.TheVariants.{Range}
 use Rattle.x7_part.specs.declared.fault.PartKey.TheVariants as key
-use Rattle.x7_part.specs.Keys.{in_row}
-use Rattle.x7_part.specs.Limits.{first_printed, greatest_block, greatest_half, greatest_idcode, greatest_row, half_width, last_printed, least_block_width, least_column_width, least_minor_width, least_row_width, most_address_width, most_block_width, most_column_width, most_columns, most_minor_width, most_minors, most_name_size, most_row_width, IsStartUnit}
+use Rattle.x7_part.specs.Keys.{in_row, top}
+use Rattle.x7_part.specs.Limits.{first_printed, greatest_block, greatest_bus_width, greatest_half, greatest_idcode, greatest_mode, greatest_row, greatest_start_unit, half_width, last_printed, least_block_width, least_column_width, least_frame_words, least_minor_width, least_row_width, most_address_width, most_block_width, most_column_width, most_columns, most_frame_words, most_minor_width, most_minors, most_name_size, most_row_width, most_rows, most_wait_ticks, usual_frame_words, IsStartUnit}
 use Rattle.x7_part.specs.Address.{IsRow, AreWidths}
-use Rattle.x7_part.specs.Values.{under, items_under, wholes, natural, row_of, widths_of}
+use Rattle.x7_part.specs.Values.{under, items_under, number_or, row_tables, text, wholes, natural, row_of, widths_of}
 use Rattle.x7_part.specs.Part.{usual_widths}
 use Rattle.toml.specs.Data.{Data, Members, no_items, as_array}
-use Rattle.x7_part.specs.PartChecks.{unless, first_of, rows_fault, next_row_number, is_in, is_length_in, are_printed, is_name, is_idcode, is_start_unit, are_in, are_minors, are_widths, has_widths, is_up_to, row_range_fault}
+use Rattle.x7_part.specs.PartChecks.{unless, first_of, rows_fault, next_row_number, is_in, is_length_in, are_printed, is_name, is_idcode, is_start_unit, are_in, are_minors, are_widths, has_widths, is_up_to, ranges_fault, row_range_fault, top_range_fault}
 use Rattle.x7_part.proofs.OrderLemmas.{unless_none, first_none}
 
 -- where no check finds a fault, none of them does
@@ -49,7 +49,7 @@ printed (b ∷ bs) e =
 is_one : (n : ℕ) → (n == 1) ≡ true → n ≡ 1
 is_one n e = elim (eqb_tells n 1) [ inl y ↦ y.1 | inr n' ↦ absurd (false≢true (sym n'.0 ∙ e)) ]
 
-pub odd_in : (z : ℤ) → is_idcode z ≡ true → (natural z ≤ greatest_idcode) × (natural z % 2 ≡ 1)
+odd_in : (z : ℤ) → is_idcode z ≡ true → (natural z ≤ greatest_idcode) × (natural z % 2 ≡ 1)
 unfolding is_idcode
 odd_in z h =
     let p = and_parts (is_in 1 greatest_idcode z) (natural z % 2 == 1) h in ((in_range 1 greatest_idcode z p.0).1, is_one (natural z % 2) p.1)
@@ -61,7 +61,7 @@ or_cases false b h = inr h
 one_number : (n : ℕ) (z : ℤ) → is_in n n z ≡ true → natural z ≡ n
 one_number n z h = let r = in_range n n z h in let low = r.0 in let high = r.1 in omega arith
 
-pub unit_in : (z : ℤ) → is_start_unit z ≡ true → IsStartUnit (natural z)
+unit_in : (z : ℤ) → is_start_unit z ≡ true → IsStartUnit (natural z)
 unfolding is_start_unit
 unit_in z h = elim (or_cases (is_in 1 1 z) (is_in 256 256 z) h) [ inl first ↦ inl (one_number 1 z first) | inr second ↦ inr (one_number 256 z second) ]
 
@@ -124,7 +124,7 @@ minors_are zs fault e =
       each = minors_in zs m.1;
     }
 
-row_is : (n : ℕ) (t : Members) → row_range_fault n t ≡ None → IsRow (row_of t)
+pub row_is : (n : ℕ) (t : Members) → row_range_fault n t ≡ None → IsRow (row_of t)
 row_is n t e =
     let none = nones (
     unless (is_up_to greatest_block key.Block t) (Range (in_row n key.Block))
@@ -147,3 +147,77 @@ rows_are n [] e = All-nil IsRow
 rows_are n (t ∷ ts) e =
     let p = nones (row_range_fault n t ∷ rows_fault row_range_fault (next_row_number n) ts ∷ []) e in
     All-cons IsRow (row_of t) (map row_of ts) (row_is n t p.0) (rows_are (next_row_number n) ts p.1.0)
+
+-- ---- a row by its tests
+
+pub row_tests : (n : ℕ) (t : Members) (block half row minors : Bool) → block ≡ is_up_to greatest_block key.Block t → half ≡ is_up_to greatest_half key.Half t → row ≡ is_up_to greatest_row key.Row t →
+    minors ≡ are_minors (wholes (items_under key.Minors t)) →
+    ranges_fault (Some n) (record { key = key.Block; passes = block } ∷ record { key = key.Half; passes = half } ∷ record { key = key.Row; passes = row } ∷ record { key = key.Minors; passes = minors } ∷ []) ≡ row_range_fault n t
+row_tests n t block half row minors e f g h = rw (e, f, g, h) refl
+
+-- ---- a top table by its tests
+
+-- a top table whose values are in their ranges
+pub record TopRanges (t : Members) : Type 0 where
+  pub name : is_name (text key.Name t) ≡ true
+  pub idcode : (natural (number_or 0 key.Idcode t) ≤ greatest_idcode) × (natural (number_or 0 key.Idcode t) % 2 ≡ 1)
+  pub mode : natural (number_or 0 key.Mode t) ≤ greatest_mode
+  pub bus_width : natural (number_or 0 key.BusWidth t) ≤ greatest_bus_width
+  pub lock : natural (number_or 0 key.Lock t) ≤ most_wait_ticks
+  pub matched : natural (number_or 0 key.Match t) ≤ most_wait_ticks
+  pub words : (least_frame_words ≤ natural (number_or usual_frame_words key.FrameWords t)) × (natural (number_or usual_frame_words key.FrameWords t) ≤ most_frame_words)
+  pub widths : has_widths t ≡ true
+  pub start_unit : IsStartUnit (natural (number_or 1 key.StartUnit t))
+  pub rows : (1 ≤ length (row_tables t)) × (length (row_tables t) ≤ most_rows)
+
+pub top_ranges : (t : Members) → top_range_fault t ≡ None → TopRanges t
+unfolding top_range_fault
+top_ranges t e =
+    let h = nones (
+    unless (is_name (text key.Name t)) (Range (top key.Name))
+    ∷ unless (is_idcode (number_or 0 key.Idcode t)) (Range (top key.Idcode))
+    ∷ unless (is_up_to greatest_mode key.Mode t) (Range (top key.Mode))
+    ∷ unless (is_up_to greatest_bus_width key.BusWidth t) (Range (top key.BusWidth))
+    ∷ unless (is_up_to most_wait_ticks key.Lock t) (Range (top key.Lock))
+    ∷ unless (is_up_to most_wait_ticks key.Match t) (Range (top key.Match))
+    ∷ unless (is_in least_frame_words most_frame_words (number_or usual_frame_words key.FrameWords t)) (Range (top key.FrameWords))
+    ∷ unless (has_widths t) (Range (top key.Far))
+    ∷ unless (is_start_unit (number_or 1 key.StartUnit t)) (Range (top key.StartUnit))
+    ∷ unless (is_length_in 1 most_rows (length (row_tables t))) (Range (top key.Row))
+    ∷ []) e in
+    record {
+      name = unless_none (is_name (text key.Name t)) (Range (top key.Name)) h.0;
+      idcode = odd_in (number_or 0 key.Idcode t) (unless_none (is_idcode (number_or 0 key.Idcode t)) (Range (top key.Idcode)) h.1.0);
+      mode = (in_range 0 greatest_mode _ (unless_none (is_up_to greatest_mode key.Mode t) (Range (top key.Mode)) h.1.1.0)).1;
+      bus_width = (in_range 0 greatest_bus_width _ (unless_none (is_up_to greatest_bus_width key.BusWidth t) (Range (top key.BusWidth)) h.1.1.1.0)).1;
+      lock = (in_range 0 most_wait_ticks _ (unless_none (is_up_to most_wait_ticks key.Lock t) (Range (top key.Lock)) h.1.1.1.1.0)).1;
+      matched = (in_range 0 most_wait_ticks _ (unless_none (is_up_to most_wait_ticks key.Match t) (Range (top key.Match)) h.1.1.1.1.1.0)).1;
+      words = in_range least_frame_words most_frame_words _ (unless_none (is_in least_frame_words most_frame_words (number_or usual_frame_words key.FrameWords t)) (Range (top key.FrameWords)) h.1.1.1.1.1.1.0);
+      widths = unless_none (has_widths t) (Range (top key.Far)) h.1.1.1.1.1.1.1.0;
+      start_unit = unit_in _ (unless_none (is_start_unit (number_or 1 key.StartUnit t)) (Range (top key.StartUnit)) h.1.1.1.1.1.1.1.1.0);
+      rows = long_in 1 most_rows (length (row_tables t)) (unless_none (is_length_in 1 most_rows (length (row_tables t))) (Range (top key.Row)) h.1.1.1.1.1.1.1.1.1.0);
+    }
+
+pub unit_most : (unit : ℕ) → IsStartUnit unit → unit ≤ greatest_start_unit
+unit_most unit is = elim is [ inl e ↦ omega (arith, e) | inr e ↦ omega (arith, e) ]
+
+-- what each test of a top table says
+pub record AreTopTests (t : Members) (name idcode mode bus_width lock matched words widths start_unit rows : Bool) : Type 0 where
+  pub name_is : name ≡ is_name (text key.Name t)
+  pub idcode_is : idcode ≡ is_idcode (number_or 0 key.Idcode t)
+  pub mode_is : mode ≡ is_up_to greatest_mode key.Mode t
+  pub bus_width_is : bus_width ≡ is_up_to greatest_bus_width key.BusWidth t
+  pub lock_is : lock ≡ is_up_to most_wait_ticks key.Lock t
+  pub matched_is : matched ≡ is_up_to most_wait_ticks key.Match t
+  pub words_is : words ≡ is_in least_frame_words most_frame_words (number_or usual_frame_words key.FrameWords t)
+  pub widths_is : widths ≡ has_widths t
+  pub start_unit_is : start_unit ≡ is_start_unit (number_or 1 key.StartUnit t)
+  pub rows_is : rows ≡ is_length_in 1 most_rows (length (row_tables t))
+
+pub top_tests : (t : Members) (name idcode mode bus_width lock matched words widths start_unit rows : Bool) → AreTopTests t name idcode mode bus_width lock matched words widths start_unit rows →
+    ranges_fault None (record { key = key.Name; passes = name } ∷ record { key = key.Idcode; passes = idcode } ∷ record { key = key.Mode; passes = mode } ∷ record { key = key.BusWidth; passes = bus_width }
+    ∷ record { key = key.Lock; passes = lock } ∷ record { key = key.Match; passes = matched } ∷ record { key = key.FrameWords; passes = words } ∷ record { key = key.Far; passes = widths }
+    ∷ record { key = key.StartUnit; passes = start_unit } ∷ record { key = key.Row; passes = rows } ∷ []) ≡ top_range_fault t
+unfolding top_range_fault
+top_tests t name idcode mode bus_width lock matched words widths start_unit rows e =
+    rw (e.name_is, e.idcode_is, e.mode_is, e.bus_width_is, e.lock_is, e.matched_is, e.words_is, e.widths_is, e.start_unit_is, e.rows_is) refl

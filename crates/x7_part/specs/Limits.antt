@@ -98,6 +98,10 @@ most_address_width = 32
 abbrev pub greatest_byte : ℕ
 greatest_byte = 255
 
+-- the greatest start unit, in bytes of a flash (UG470, warm boot start address)
+abbrev pub greatest_start_unit : ℕ
+greatest_start_unit = 256
+
 -- the most ticks that startup waits for lock or for match: the last number of 16 bits
 abbrev pub most_wait_ticks : ℕ
 most_wait_ticks = 65535

@@ -8,6 +8,7 @@ use Rattle.x7_part.specs.declared.fault.PartKey.TheVariants as key
 use Rattle.x7_part.specs.declared.keys.KeyRule.{KeyRule}
 use Rattle.x7_part.specs.declared.keys.Kind.{Kind}
 use Rattle.x7_part.specs.declared.keys.Kind.TheVariants.{Text, Whole, Table}
+use Rattle.x7_part.specs.declared.ranges.RangeTest.{RangeTest}
 use Rattle.x7_part.specs.declared.fault.PartFault.{PartFault}
 use Rattle.x7_part.specs.declared.fault.PartFault.TheVariants.{Key, Range, NoMemory}
 use Rattle.x7_part.specs.Limits.{first_printed, greatest_block, greatest_bus_width, greatest_half, greatest_idcode, greatest_mode, greatest_row, half_width, last_printed, least_block_width, least_column_width, least_frame_words, least_minor_width, least_row_width, most_address_width, most_block_width, most_column_width, most_columns, most_frame_words, most_minor_width, most_minors, most_name_size, most_row_width, most_rows, most_wait_ticks, usual_frame_words}
@@ -27,11 +28,6 @@ abbrev pub first_of : List (Option PartFault) → Option PartFault
 first_of [] = None
 first_of (Some fault ∷ checks) = Some fault
 first_of (None ∷ checks) = first_of checks
-
--- the fault that a call answers
-abbrev pub fault_of_call : {T : Type 0} → Result T PartFault → Option PartFault
-fault_of_call (Ok done) = None
-fault_of_call (Err fault) = Some fault
 
 -- a call that takes memory answers the fault that is due, or none where none is; want of memory has no cause
 abbrev pub AnswersDue : {T : Type 0} → Option PartFault → Result T PartFault → Type 0
@@ -103,6 +99,10 @@ other_fault t = tables_fault Names t
 
 -- ---- ranges
 
+-- the first of the keys, in the top table or in row n, whose value isn't in its range
+abbrev pub ranges_fault : Option ℕ → List RangeTest → Option PartFault
+ranges_fault row tests = first_of (map (λ test. unless test.passes (Range (record { row = row; key = test.key }))) tests)
+
 -- a number is in a range
 unfoldable pub is_in : ℕ → ℕ → ℤ → Bool
 is_in low high z = int_le (pos low) z && int_le z (pos high)
@@ -128,7 +128,7 @@ is_idcode z = is_in 1 greatest_idcode z && (natural z % 2 == 1)
 unfoldable pub is_start_unit : ℤ → Bool
 is_start_unit z = is_in 1 1 z || is_in 256 256 z
 
--- the widths of the five fields of an address, each in range, of 32 bits together
+-- the widths of the five fields of an address, each in range, of no more than 32 bits together
 abbrev pub are_widths : List ℤ → Bool
 are_widths (minor ∷ column ∷ row ∷ half ∷ block ∷ []) =
     ((is_in least_minor_width most_minor_width minor && is_in least_column_width most_column_width column)
@@ -146,7 +146,7 @@ abbrev pub are_in : ℕ → ℕ → List ℤ → Bool
 are_in low high [] = true
 are_in low high (z ∷ zs) = is_in low high z && are_in low high zs
 
--- the numbers of minors of a row's columns
+-- the numbers of minors of a row's columns: of 1 to 1,024 columns, each from 1 to 128
 abbrev pub are_minors : List ℤ → Bool
 are_minors zs = is_length_in 1 most_columns (length zs) && are_in 1 most_minors zs
 

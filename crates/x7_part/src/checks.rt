@@ -1,9 +1,10 @@
 //! The checks of a part file's keys: the types of their values, and that each key is a known one.
 ghost use Rattle.std.specs.Prelude.{◌≡◌};
+ghost use Rattle.std.specs.Result.{result_err};
 ghost use Rattle.toml.specs.View.{view, table_view};
 ghost use Rattle.x7_part.specs.Keys.{is_known, has_only};
 ghost use Rattle.x7_part.specs.Values.{under};
-ghost use Rattle.x7_part.specs.PartChecks.{is_kind, are_kind, is_list_of, allows, types_fault, check_fault, tables_fault, fault_of_call};
+ghost use Rattle.x7_part.specs.PartChecks.{is_kind, are_kind, is_list_of, allows, types_fault, check_fault, tables_fault};
 
 use crate::fault::{PartFault, PartKey, Which};
 use crate::keys::{KeyRule, Kind, ROW_KEYS, TOP_KEYS};
@@ -50,7 +51,7 @@ fn is_allowed(rule: KeyRule, table: &Table) -> bool
 
 /// Refuses the first of the keys that is missing from the table or has a value of another type.
 fn check_types(row: Option<u32>, keys: &[KeyRule], table: &Table) -> Result<(), PartFault>
-    ensures { fault_of_call result ≡ types_fault row keys.now (table_view table.now) }
+    ensures { result_err result ≡ types_fault row keys.now (table_view table.now) }
 {
     for rule in keys {
         let at = Which { row, key: rule.key };
@@ -99,7 +100,7 @@ fn check_table(
     keys: &[KeyRule],
     table: &Table,
 ) -> Result<(), PartFault>
-    ensures { fault_of_call result ≡ check_fault check row keys.now (table_view table.now) }
+    ensures { result_err result ≡ check_fault check row keys.now (table_view table.now) }
 {
     match check {
         Check::Types => check_types(row, keys, table),
@@ -115,7 +116,7 @@ fn check_table(
 
 /// The check of the top table, and then of each row. Rows count from 1.
 pub(crate) fn check_tables(check: Check, table: &Table) -> Result<(), PartFault>
-    ensures { fault_of_call result ≡ tables_fault check (table_view table.now) }
+    ensures { result_err result ≡ tables_fault check (table_view table.now) }
 {
     check_table(check, None, &TOP_KEYS, table)?;
     let items = items_under(table, PartKey::Row);

@@ -73,29 +73,6 @@ pub struct Which {
     pub key: PartKey,
 }
 
-/// The place of a key in the top table.
-macro_rules! top {
-    ($key:ident) => {
-        Which {
-            row: None,
-            key: PartKey::$key,
-        }
-    };
-}
-
-/// The place of a key in a row, whose number counts from 1.
-macro_rules! in_row {
-    ($row:expr, $key:ident) => {
-        Which {
-            row: Some($row),
-            key: PartKey::$key,
-        }
-    };
-}
-
-pub(crate) use in_row;
-pub(crate) use top;
-
 impl fmt::Display for Which {
     fn fmt<W: fmt::Write>(&self, f: &mut fmt::Formatter<W>) -> fmt::Result {
         match self.row {

@@ -66,6 +66,9 @@ pub(crate) const MOST_BLOCK_WIDTH: u8 = 3;
 /// The most bits of an address.
 pub(crate) const MOST_ADDRESS_WIDTH: u8 = 32;
 
+/// The greatest start unit, in bytes of a flash.
+pub(crate) const GREATEST_START_UNIT: u32 = 256;
+
 /// The most ticks that startup waits for lock or for match.
 pub(crate) const MOST_WAIT_TICKS: u32 = 65_535;
 

@@ -21,12 +21,22 @@ use std::marker::Model;
 use x7_words::NoMemory;
 
 /// A part: what its file says, with its rows in number order, and the table of its columns.
-#[derive(Drop)]
 pub struct Part {
     name: String,
     settings: PartSettings,
     rows: Vec<Row>,
     columns: Vec<Column>,
+}
+
+impl Drop for Part {
+    fn drop(self) {
+        let Part {
+            name: _,
+            settings: _,
+            rows: _,
+            columns: _,
+        } = self;
+    }
 }
 
 impl Model for Part {
@@ -61,14 +71,14 @@ impl Part {
         })
     }
 
-    /// Gives an equal part.
+    /// An equal part.
     pub fn copy(&self, alloc: Global) -> Result<Part, NoMemory>
         ensures { IfOk result (λ part. part ≡ self.now) }
     {
         Ok(Part {
             name: String::from_str(alloc, self.name.as_str())?,
             settings: self.settings,
-            rows: row::copy_of(alloc, &self.rows)?,
+            rows: self.rows.as_slice().to_vec(alloc)?,
             columns: self.columns.as_slice().to_vec(alloc)?,
         })
     }

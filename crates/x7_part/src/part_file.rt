@@ -1,10 +1,11 @@
 //! Part files.
 ghost use Rattle.std.specs.Prelude.{◌≡◌, ◌⊎◌, ◌≤◌, [], ◌∷◌, Some, None, Ok, Err, length, IsUtf8, IfOk, IfErr, IsErrOf, IsOk};
+ghost use Rattle.std.specs.Result.{result_err};
 ghost use Rattle.toml.specs.Parse.{parse_document};
 ghost use Rattle.toml.specs.View.{table_view};
 ghost use Rattle.x7_part.specs.Limits.{most_frame_words, most_rows};
 ghost use Rattle.x7_part.specs.Part.{PartData};
-ghost use Rattle.x7_part.specs.PartChecks.{fault_of_call, AnswersDue, first_of};
+ghost use Rattle.x7_part.specs.PartChecks.{AnswersDue, first_of};
 ghost use Rattle.x7_part.specs.Row.{same_row_fault, frames_fault, has_few_frames};
 ghost use Rattle.x7_part.specs.PartFile.{HasNoKey, first_fault, part_from, part_in};
 ghost use Rattle.x7_part.specs.Keys.{top};
@@ -19,13 +20,13 @@ use crate::limits::{MOST_FRAMES, MOST_WORDS};
 use crate::part::Part;
 use crate::ranges::require;
 use crate::row::{Row, check_same_rows, frame_count, rows_in};
-use crate::settings::settings_in;
+use crate::settings::{check_top_ranges, settings_of};
 use crate::slot::PADS_AFTER_ROW;
 use crate::values::text;
 use std::alloc::Global;
 use toml::Table;
 
-/// The table of a TOML text.
+/// The top table of a TOML text; the fault `Toml` for what is no TOML or no UTF-8.
 fn table_in(alloc: Global, text: &[u8]) -> Result<Table, PartFault>
     ensures table { IfOk result (λ table. IsUtf8 text.now × (parse_document text.now ≡ Some (table_view table))) }
     ensures fault { IfErr result (λ fault. (fault ≡ PartFault.NoMemory) ⊎ ((fault ≡ PartFault.Toml) × (IsUtf8 text.now → parse_document text.now ≡ None))) }
@@ -53,7 +54,7 @@ fn check_rows(width: u32, rows: &[Row]) -> Result<(), PartFault>
     requires width { width ≤ most_frame_words }
     requires rows { length rows.now ≤ most_rows }
     ensures { (part : PartData) → part.frame_words ≡ width → part.rows ≡ rows.now →
-        fault_of_call result ≡ first_of (same_row_fault [] rows.now ∷ frames_fault part ∷ []) }
+        result_err result ≡ first_of (same_row_fault [] rows.now ∷ frames_fault part ∷ []) }
 {
     check_same_rows(rows)?;
     let count = frame_count(rows);
@@ -80,7 +81,8 @@ fn part_from(alloc: Global, table: &Table) -> Result<Part, PartFault>
 {
     check_tables(Check::Types, table)?;
     check_tables(Check::Names, table)?;
-    let settings = settings_in(table)?;
+    check_top_ranges(table)?;
+    let settings = settings_of(table);
     let rows = rows_in(alloc, table)?;
     check_rows(u32::from(settings.frame_words), &rows)?;
     let name = String::from_str(alloc, text(table, PartKey::Name))?;

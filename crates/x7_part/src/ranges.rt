@@ -1,28 +1,58 @@
-//! The ranges of a part file's values: each judges a value and gives the number of a part that it stands for.
-ghost use Rattle.std.specs.Prelude.{◌≡◌, ◌≤◌, [], ◌∷◌, map, length, is_some, true, false, IfOk, IfSome, MatchOption, Some};
+//! The ranges of a part file's values.
+ghost use Rattle.std.specs.Prelude.{◌≡◌, ◌≤◌, [], ◌∷◌, is_some, true, false, IfSome, MatchOption};
+ghost use Rattle.std.specs.Result.{result_err};
 ghost use Rattle.toml.specs.View.{view, table_view, items_view};
-ghost use Rattle.x7_part.specs.Keys.{top};
 ghost use Rattle.x7_part.specs.Values.{items_under, natural, number_or, whole, wholes, widths_of};
-ghost use Rattle.x7_part.specs.PartChecks.{fault_of_call, AnswersDue, unless, is_in, is_up_to, is_length_in, are_printed, is_name, is_idcode, is_start_unit, has_widths, are_widths, are_minors};
-ghost use Rattle.x7_part.specs.declared.fault.PartFault.TheVariants.{Range};
+ghost use Rattle.x7_part.specs.PartChecks.{unless, ranges_fault, is_in, is_up_to, is_length_in, are_printed, is_name, is_idcode, is_start_unit, has_widths, are_widths, are_in, are_minors};
+ghost use Rattle.x7_part.specs.Limits.{least_frame_words, most_frame_words, most_minors, usual_frame_words};
 ghost use Rattle.x7_part.specs.declared.fault.PartKey.TheVariants as key;
 
 use crate::address::Widths;
-use crate::fault::{PartFault, PartKey, Which, top};
+use crate::fault::{PartFault, PartKey, Which};
 use crate::limits::{
     FIRST_PRINTED, GREATEST_IDCODE, HALF_WIDTH, LAST_PRINTED, LEAST_BLOCK_WIDTH,
-    LEAST_COLUMN_WIDTH, LEAST_MINOR_WIDTH, LEAST_ROW_WIDTH, MOST_BLOCK_WIDTH, MOST_COLUMN_WIDTH,
-    MOST_COLUMNS, MOST_MINOR_WIDTH, MOST_MINORS, MOST_NAME_SIZE, MOST_ROW_WIDTH,
+    LEAST_COLUMN_WIDTH, LEAST_FRAME_WORDS, LEAST_MINOR_WIDTH, LEAST_ROW_WIDTH, MOST_BLOCK_WIDTH,
+    MOST_COLUMN_WIDTH, MOST_COLUMNS, MOST_FRAME_WORDS, MOST_MINOR_WIDTH, MOST_MINORS,
+    MOST_NAME_SIZE, MOST_ROW_WIDTH, USUAL_FRAME_WORDS,
 };
 use crate::values::{items_under, number_or, value_under, whole};
-use std::alloc::Global;
 use toml::{Table, Value};
 
 /// The fault, unless the test holds.
 pub(crate) fn require(holds: bool, fault: PartFault) -> Result<(), PartFault>
-    ensures { fault_of_call result ≡ unless holds fault }
+    ensures { result_err result ≡ unless holds fault }
 {
     if holds { Ok(()) } else { Err(fault) }
+}
+
+/// A key, and whether its value lies in its range.
+#[derive(Clone, Copy, Drop)]
+pub(crate) struct RangeTest {
+    pub(crate) key: PartKey,
+    pub(crate) passes: bool,
+}
+
+/// A key with whether its value passes.
+macro_rules! range_test {
+    ($key:ident, $passes:expr) => {
+        RangeTest {
+            key: PartKey::$key,
+            passes: $passes,
+        }
+    };
+}
+
+pub(crate) use range_test;
+
+/// Refuses the first of the keys, in the top table or in the row of this number, whose value isn't in its range.
+pub(crate) fn check_ranges(row: Option<u32>, tests: &[RangeTest]) -> Result<(), PartFault>
+    ensures { result_err result ≡ ranges_fault row tests.now }
+{
+    for test in tests {
+        let at = Which { row, key: test.key };
+        require(test.passes, PartFault::Range(at))?;
+    }
+    Ok(())
 }
 
 /// Whether a length lies from `low` to `high`.
@@ -52,55 +82,45 @@ pub(crate) fn is_name(text: &str) -> bool
     is_length_in(text.len(), 1, MOST_NAME_SIZE) && are_printed(text.as_bytes())
 }
 
-/// The number, where it lies from `low` to `high`; else the fault `Range`.
+/// Whether a number lies from `low` to `high`.
 #[tactic(auto, unfolding(crate::specs::PartChecks::is_in))]
-pub(crate) fn within(number: i64, low: u32, high: u32, at: Which) -> Result<u32, PartFault>
-    ensures fault { fault_of_call result ≡ unless (is_in low high number) (Range at) }
-    ensures value { IfOk result (λ n. n ≡ natural number) }
-    ensures within { IfOk result (λ n. (low ≤ n) × (n ≤ high)) }
+fn is_in(number: i64, low: u32, high: u32) -> bool
+    ensures { result ≡ is_in low high number }
 {
-    if i64::from(low) <= number && number <= i64::from(high) {
-        Ok(number.unsigned_abs() as u32)
-    } else {
-        Err(PartFault::Range(at))
-    }
+    i64::from(low) <= number && number <= i64::from(high)
 }
 
-/// The whole number under a key, from 0 to `high` and 0 where it is left out; else the fault `Range`.
-pub(crate) fn number_to(high: u32, table: &Table, at: Which) -> Result<u32, PartFault>
-    ensures fault { fault_of_call result ≡ unless (is_up_to high at.key (table_view table.now)) (Range at) }
-    ensures value { IfOk result (λ n. n ≡ natural (number_or 0 at.key (table_view table.now))) }
-    ensures within { IfOk result (λ n. n ≤ high) }
+/// Whether the whole number under a key, 0 where it is left out, lies from 0 to `high`.
+pub(crate) fn is_up_to(high: u32, table: &Table, key: PartKey) -> bool
+    ensures { result ≡ is_up_to high key (table_view table.now) }
 {
-    within(number_or(0, table, at.key), 0, high, at)
+    is_in(number_or(0, table, key), 0, high)
 }
 
-/// The IDCODE of a top table, which is odd, positive and below 2^32; else the fault `Range`.
+/// Whether the IDCODE of a top table is odd, positive and below 2^32.
 #[tactic(auto, unfolding(crate::specs::PartChecks::is_idcode))]
-pub(crate) fn idcode_in(table: &Table) -> Result<u32, PartFault>
-    ensures fault { fault_of_call result ≡ unless (is_idcode (number_or 0 key.Idcode (table_view table.now))) (Range (top key.Idcode)) }
-    ensures value { IfOk result (λ n. n ≡ natural (number_or 0 key.Idcode (table_view table.now))) }
+pub(crate) fn has_idcode(table: &Table) -> bool
+    ensures { result ≡ is_idcode (number_or 0 key.Idcode (table_view table.now)) }
 {
-    let at = top!(Idcode);
-    let idcode = within(number_or(0, table, at.key), 1, GREATEST_IDCODE, at)?;
-    require(idcode % 2 == 1, PartFault::Range(at))?;
-    Ok(idcode)
+    let idcode = number_or(0, table, PartKey::Idcode);
+    is_in(idcode, 1, GREATEST_IDCODE) && idcode.unsigned_abs() % 2 == 1
 }
 
-/// The start unit of a top table, which is 1 or 256; else the fault `Range`.
-#[tactic(auto, unfolding(crate::specs::PartChecks::is_start_unit, crate::specs::PartChecks::is_in))]
-pub(crate) fn start_unit_in(table: &Table) -> Result<u16, PartFault>
-    ensures fault { fault_of_call result ≡ unless (is_start_unit (number_or 1 key.StartUnit (table_view table.now))) (Range (top key.StartUnit)) }
-    ensures value { IfOk result (λ n. n ≡ natural (number_or 1 key.StartUnit (table_view table.now))) }
+/// Whether the words of a frame of a top table, 101 where it doesn't say, are from 2 to 255.
+pub(crate) fn has_frame_words(table: &Table) -> bool
+    ensures { result ≡ is_in least_frame_words most_frame_words (number_or usual_frame_words key.FrameWords (table_view table.now)) }
+{
+    let frame_words = number_or(USUAL_FRAME_WORDS, table, PartKey::FrameWords);
+    is_in(frame_words, LEAST_FRAME_WORDS, MOST_FRAME_WORDS)
+}
+
+/// Whether the start unit of a top table, 1 where it doesn't say, is 1 or 256.
+#[tactic(auto, unfolding(crate::specs::PartChecks::is_start_unit))]
+pub(crate) fn has_start_unit(table: &Table) -> bool
+    ensures { result ≡ is_start_unit (number_or 1 key.StartUnit (table_view table.now)) }
 {
     let unit = number_or(1, table, PartKey::StartUnit);
-    if unit == 1 {
-        Ok(1)
-    } else if unit == 256 {
-        Ok(256)
-    } else {
-        Err(PartFault::Range(top!(StartUnit)))
-    }
+    is_in(unit, 1, 1) || is_in(unit, 256, 256)
 }
 
 /// A width in bits from `low` to `high`, none where the number that an item gives lies outside.
@@ -148,35 +168,34 @@ fn widths_given(items: &[Value]) -> Option<Widths>
     widths_of_fields(&items[0], &items[1], &items[2], &items[3], &items[4])
 }
 
-/// The widths of the fields of an address, those of the 7 series where they are left out; else the fault `Range`.
+/// The widths of the fields of an address, those of the 7 series where they are left out; none where they aren't in
+/// their ranges.
 #[tactic(auto, unfolding(crate::specs::PartChecks::has_widths))]
-pub(crate) fn widths_in(table: &Table) -> Result<Widths, PartFault>
-    ensures fault { fault_of_call result ≡ unless (has_widths (table_view table.now)) (Range (top key.Far)) }
-    ensures value { IfOk result (λ widths. widths ≡ widths_of (wholes (items_under key.Far (table_view table.now)))) }
+pub(crate) fn widths_in(table: &Table) -> Option<Widths>
+    ensures exactly_where { is_some result ≡ has_widths (table_view table.now) }
+    ensures value { IfSome result (λ widths. widths ≡ widths_of (wholes (items_under key.Far (table_view table.now)))) }
 {
     if value_under(table, PartKey::Far).is_none() {
-        return Ok(Widths::usual());
+        return Some(Widths::usual());
     }
-    match widths_given(items_under(table, PartKey::Far)) {
-        Some(widths) => Ok(widths),
-        None => Err(PartFault::Range(top!(Far))),
-    }
+    widths_given(items_under(table, PartKey::Far))
 }
 
-/// The numbers of minors of a row's columns; the fault `Range` where there are too few or too many columns, or where a
-/// number is out of range.
-pub(crate) fn minors_in(alloc: Global, row: &Table, at: Which) -> Result<Vec<u8>, PartFault>
-    ensures fault { AnswersDue (unless (are_minors (wholes (items_under at.key (table_view row.now)))) (Range at)) result }
-    ensures value { IfOk result (λ minors. minors.items ≡ map natural (wholes (items_under at.key (table_view row.now)))) }
+/// Whether each item gives a number of minors that a column may have.
+fn are_minor_counts(items: &[Value]) -> bool
+    ensures { result ≡ are_in 1 most_minors (wholes (items_view items.now)) }
 {
-    let items = items_under(row, at.key);
-    require(
-        is_length_in(items.len(), 1, MOST_COLUMNS),
-        PartFault::Range(at),
-    )?;
-    let mut minors = Vec::with_capacity(alloc, items.len())?;
     for item in items {
-        minors.push(within(whole(item), 1, MOST_MINORS, at)? as u8)?;
+        if !is_in(whole(item), 1, MOST_MINORS) {
+            return false;
+        }
     }
-    Ok(minors)
+    true
+}
+
+/// Whether items give the numbers of minors of a row's columns: of 1 to 1,024 columns, each from 1 to 128.
+pub(crate) fn are_minors(items: &[Value]) -> bool
+    ensures { result ≡ are_minors (wholes (items_view items.now)) }
+{
+    is_length_in(items.len(), 1, MOST_COLUMNS) && are_minor_counts(items)
 }

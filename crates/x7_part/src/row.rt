@@ -1,22 +1,23 @@
 //! Rows of a part.
-ghost use Rattle.std.specs.Prelude.{◌≡◌, ◌≤◌, ◌*◌, [], None, length, sum, All, IfOk};
+ghost use Rattle.std.specs.Prelude.{◌≡◌, ◌≤◌, ◌*◌, [], None, true, length, map, sum, All, IfOk};
+ghost use Rattle.std.specs.Result.{result_err};
 ghost use Rattle.std.specs.List.{sum_by};
-ghost use Rattle.toml.specs.View.{table_view};
+ghost use Rattle.toml.specs.View.{table_view, items_view};
 ghost use Rattle.x7_part.specs.Address.{row_address, AreWidths, IsRow};
-ghost use Rattle.x7_part.specs.Limits.{greatest_byte, most_columns, most_rows};
-ghost use Rattle.x7_part.specs.PartChecks.{fault_of_call, AnswersDue, rows_fault, row_range_fault};
+ghost use Rattle.x7_part.specs.Limits.{greatest_byte, most_columns, most_minors, most_rows};
+ghost use Rattle.x7_part.specs.PartChecks.{AnswersDue, are_in, rows_fault, row_range_fault};
 ghost use Rattle.x7_part.specs.Row.{is_same_row, has_same_row, same_row_fault, sorted_rows};
-ghost use Rattle.x7_part.specs.Values.{row_of, row_tables, rows_in_file};
+ghost use Rattle.x7_part.specs.Values.{natural, row_of, row_tables, rows_in_file, wholes};
 ghost use Rattle.x7_part.specs.Part.{RowData};
 
 use crate::address::Widths;
-use crate::fault::{PartFault, PartKey, Which, in_row};
+use crate::fault::{PartFault, PartKey};
 use crate::limits::{GREATEST_BLOCK, GREATEST_HALF, GREATEST_ROW};
-use crate::ranges::{minors_in, number_to, require};
-use crate::values::items_under;
+use crate::ranges::{RangeTest, are_minors, check_ranges, is_up_to, range_test, require};
+use crate::values::{items_under, number_up_to, whole};
 use std::alloc::{AllocError, Global};
 use std::marker::Model;
-use toml::Table;
+use toml::{Table, Value};
 
 /// A row of one block type: its half (0 top, 1 bottom), its row within the half, and the number of minors of each
 /// column from 0 on.
@@ -36,19 +37,20 @@ impl Model for Row {
     ghost invariant = { λ r. IsRow record { block = r.block; half = r.half; row = r.row; minors = r.minors.items } };
 }
 
-impl Row {
-    /// Gives an equal row.
-    fn copy(&self, alloc: Global) -> Result<Row, AllocError>
-        ensures { IfOk result (λ row. row ≡ self.now) }
-    {
+impl Clone for Row {
+    ghost is_clone = { λ row clone. clone ≡ row };
+
+    fn clone(&self) -> Result<Row, AllocError> {
         Ok(Row {
             block: self.block,
             half: self.half,
             row: self.row,
-            minors: self.minors.as_slice().to_vec(alloc)?,
+            minors: self.minors.clone()?,
         })
     }
+}
 
+impl Row {
     /// Whether the other has the same block type, half and row.
     fn is_same_row(&self, other: &Row) -> bool
         ensures { result ≡ is_same_row self.now other.now }
@@ -78,16 +80,36 @@ impl Row {
     }
 }
 
-/// The row of a row's table, or the first of its values that is out of range.
+/// The numbers that items give, each from 1 to the most minors of a column.
+fn minors_of(alloc: Global, items: &[Value]) -> Result<Vec<u8>, AllocError>
+    requires { are_in 1 most_minors (wholes (items_view items.now)) ≡ true }
+    ensures { IfOk result (λ minors. minors.items ≡ map natural (wholes (items_view items.now))) }
+{
+    let mut minors = Vec::with_capacity(alloc, items.len())?;
+    for item in items {
+        minors.push(whole(item).unsigned_abs() as u8)?;
+    }
+    Ok(minors)
+}
+
+/// The row of a row's table, or the first of its values that is out of range. Rows count from 1.
 fn row_in(alloc: Global, number: u32, table: &Table) -> Result<Row, PartFault>
     ensures fault { AnswersDue (row_range_fault number (table_view table.now)) result }
     ensures value { IfOk result (λ row. row ≡ row_of (table_view table.now)) }
 {
+    let minors = items_under(table, PartKey::Minors);
+    let tests = [
+        range_test!(Block, is_up_to(GREATEST_BLOCK, table, PartKey::Block)),
+        range_test!(Half, is_up_to(GREATEST_HALF, table, PartKey::Half)),
+        range_test!(Row, is_up_to(GREATEST_ROW, table, PartKey::Row)),
+        range_test!(Minors, are_minors(minors)),
+    ];
+    check_ranges(Some(number), &tests)?;
     Ok(Row {
-        block: number_to(GREATEST_BLOCK, table, in_row!(number, Block))? as u8,
-        half: number_to(GREATEST_HALF, table, in_row!(number, Half))? as u8,
-        row: number_to(GREATEST_ROW, table, in_row!(number, Row))? as u8,
-        minors: minors_in(alloc, table, in_row!(number, Minors))?,
+        block: number_up_to(GREATEST_BLOCK, 0, table, PartKey::Block) as u8,
+        half: number_up_to(GREATEST_HALF, 0, table, PartKey::Half) as u8,
+        row: number_up_to(GREATEST_ROW, 0, table, PartKey::Row) as u8,
+        minors: minors_of(alloc, minors)?,
     })
 }
 
@@ -125,7 +147,7 @@ fn has_same_row(row: &Row, rows: &[Row]) -> bool
 /// Refuses the first row that is the same as an earlier one. Rows count from 1.
 pub(crate) fn check_same_rows(rows: &[Row]) -> Result<(), PartFault>
     requires { length rows.now ≤ most_rows }
-    ensures { fault_of_call result ≡ same_row_fault [] rows.now }
+    ensures { result_err result ≡ same_row_fault [] rows.now }
 {
     for (place, row) in rows.iter().enumerate() {
         let same = has_same_row(row, &rows[..place]);
@@ -154,15 +176,4 @@ pub(crate) fn sort_rows(rows: &mut Vec<Row>, widths: Widths)
     ensures { rows.new.items ≡ sorted_rows widths rows.old.items }
 {
     rows.sort_unstable_by_key(|row| row.address(widths));
-}
-
-/// Gives equal rows, in the order of the given ones.
-pub(crate) fn copy_of(alloc: Global, rows: &[Row]) -> Result<Vec<Row>, AllocError>
-    ensures { IfOk result (λ copies. copies.items ≡ rows.now) }
-{
-    let mut copies = Vec::with_capacity(alloc, rows.len())?;
-    for row in rows {
-        copies.push(row.copy(alloc)?)?;
-    }
-    Ok(copies)
 }

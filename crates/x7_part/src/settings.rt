@@ -1,22 +1,24 @@
 //! What a part file's top table says of a part, but for its name and its rows.
-ghost use Rattle.std.specs.Prelude.{◌≡◌, None, IfOk};
+ghost use Rattle.std.specs.Prelude.{◌≡◌, None};
+ghost use Rattle.std.specs.Result.{result_err};
 ghost use Rattle.toml.specs.View.{table_view};
 ghost use Rattle.x7_part.specs.Values.{settings_of};
-ghost use Rattle.x7_part.specs.PartChecks.{fault_of_call, top_range_fault, type_fault};
+ghost use Rattle.x7_part.specs.PartChecks.{top_range_fault, type_fault};
 
 use crate::address::Widths;
-use crate::fault::{PartFault, PartKey, Which, top};
+use crate::fault::{PartFault, PartKey};
 use crate::limits::{
-    GREATEST_BUS_WIDTH, GREATEST_MODE, LEAST_FRAME_WORDS, MOST_FRAME_WORDS, MOST_ROWS,
-    MOST_WAIT_TICKS, USUAL_FRAME_WORDS,
+    GREATEST_BUS_WIDTH, GREATEST_IDCODE, GREATEST_MODE, GREATEST_START_UNIT, MOST_FRAME_WORDS,
+    MOST_ROWS, MOST_WAIT_TICKS, USUAL_FRAME_WORDS,
 };
 use crate::ranges::{
-    idcode_in, is_length_in, is_name, number_to, require, start_unit_in, widths_in, within,
+    RangeTest, check_ranges, has_frame_words, has_idcode, has_start_unit, is_length_in, is_name,
+    is_up_to, range_test, widths_in,
 };
-use crate::values::{items_under, number_or, text};
+use crate::values::{items_under, number_up_to, text};
 use toml::Table;
 
-/// The numbers of a part, each in its range.
+/// What a top table says of a part in numbers; each is in its range where `top_range_fault` finds nothing.
 #[derive(Clone, Copy, Drop)]
 pub(crate) struct PartSettings {
     pub(crate) idcode: u32,
@@ -33,33 +35,51 @@ pub(crate) struct PartSettings {
     pub(crate) start_unit: u16,
 }
 
-/// The settings of a top table, or its first value that is out of range.
-#[tactic(auto, unfolding(crate::specs::PartChecks::top_range_fault))]
-pub(crate) fn settings_in(table: &Table) -> Result<PartSettings, PartFault>
+/// Refuses the first value of a top table that isn't in its range.
+pub(crate) fn check_top_ranges(table: &Table) -> Result<(), PartFault>
     requires { type_fault (table_view table.now) ≡ None }
-    ensures fault { fault_of_call result ≡ top_range_fault (table_view table.now) }
-    ensures value { IfOk result (λ settings. settings ≡ settings_of (table_view table.now)) }
+    ensures { result_err result ≡ top_range_fault (table_view table.now) }
 {
-    let name = text(table, PartKey::Name);
-    require(is_name(name), PartFault::Range(top!(Name)))?;
-    let frame_words = number_or(USUAL_FRAME_WORDS, table, PartKey::FrameWords);
-    let settings = PartSettings {
-        idcode: idcode_in(table)?,
-        mode: number_to(GREATEST_MODE, table, top!(Mode))? as u8,
-        bus_width: number_to(GREATEST_BUS_WIDTH, table, top!(BusWidth))? as u8,
-        lock: number_to(MOST_WAIT_TICKS, table, top!(Lock))? as u16,
-        matched: number_to(MOST_WAIT_TICKS, table, top!(Match))? as u16,
-        frame_words: within(
-            frame_words,
-            LEAST_FRAME_WORDS,
-            MOST_FRAME_WORDS,
-            top!(FrameWords),
-        )? as u8,
-        field_widths: widths_in(table)?,
-        start_unit: start_unit_in(table)?,
-    };
     let row_count = items_under(table, PartKey::Row).len();
-    let rows = PartFault::Range(top!(Row));
-    require(is_length_in(row_count, 1, MOST_ROWS), rows)?;
-    Ok(settings)
+    let tests = [
+        range_test!(Name, is_name(text(table, PartKey::Name))),
+        range_test!(Idcode, has_idcode(table)),
+        range_test!(Mode, is_up_to(GREATEST_MODE, table, PartKey::Mode)),
+        range_test!(
+            BusWidth,
+            is_up_to(GREATEST_BUS_WIDTH, table, PartKey::BusWidth)
+        ),
+        range_test!(Lock, is_up_to(MOST_WAIT_TICKS, table, PartKey::Lock)),
+        range_test!(Match, is_up_to(MOST_WAIT_TICKS, table, PartKey::Match)),
+        range_test!(FrameWords, has_frame_words(table)),
+        range_test!(Far, widths_in(table).is_some()),
+        range_test!(StartUnit, has_start_unit(table)),
+        range_test!(Row, is_length_in(row_count, 1, MOST_ROWS)),
+    ];
+    check_ranges(None, &tests)
+}
+
+/// The settings of a top table whose values are in their ranges.
+pub(crate) fn settings_of(table: &Table) -> PartSettings
+    requires { top_range_fault (table_view table.now) ≡ None }
+    ensures { result ≡ settings_of (table_view table.now) }
+{
+    let Some(field_widths) = widths_in(table) else {
+        unreachable!()
+    };
+    PartSettings {
+        idcode: number_up_to(GREATEST_IDCODE, 0, table, PartKey::Idcode),
+        mode: number_up_to(GREATEST_MODE, 0, table, PartKey::Mode) as u8,
+        bus_width: number_up_to(GREATEST_BUS_WIDTH, 0, table, PartKey::BusWidth) as u8,
+        lock: number_up_to(MOST_WAIT_TICKS, 0, table, PartKey::Lock) as u16,
+        matched: number_up_to(MOST_WAIT_TICKS, 0, table, PartKey::Match) as u16,
+        frame_words: number_up_to(
+            MOST_FRAME_WORDS,
+            USUAL_FRAME_WORDS,
+            table,
+            PartKey::FrameWords,
+        ) as u8,
+        field_widths,
+        start_unit: number_up_to(GREATEST_START_UNIT, 1, table, PartKey::StartUnit) as u16,
+    }
 }

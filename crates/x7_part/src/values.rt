@@ -1,7 +1,7 @@
 //! What stands under the keys of a part file's tables.
-ghost use Rattle.std.specs.Prelude.{◌≡◌, option_map};
+ghost use Rattle.std.specs.Prelude.{◌≡◌, ◌≤◌, option_map};
 ghost use Rattle.toml.specs.View.{view, table_view, items_view};
-ghost use Rattle.x7_part.specs.Values.{under, text, whole, number_or, items_under};
+ghost use Rattle.x7_part.specs.Values.{under, text, whole, natural, number_or, items_under};
 
 use crate::fault::PartKey;
 use toml::{Table, Value};
@@ -52,4 +52,13 @@ pub(crate) fn items_under(table: &Table, key: PartKey) -> &[Value]
         },
         None => &[],
     }
+}
+
+/// The whole number under a key, `usual` where it is left out, which lies from 0 to `most`.
+pub(crate) fn number_up_to(most: u32, usual: u32, table: &Table, key: PartKey) -> u32
+    requires { natural (number_or usual key (table_view table.now)) ≤ most }
+    ensures value { result ≡ natural (number_or usual key (table_view table.now)) }
+    ensures within { result ≤ most }
+{
+    number_or(usual, table, key).unsigned_abs() as u32
 }

@@ -1,6 +1,6 @@
 -- A whole frame that is written at once, which is its words one by one.
-use Rattle.std.proofs.Common.{◌≡◌, ℕ, zero, suc, ◌+◌, ◌-◌, ◌*◌, ◌/◌, ◌%◌, ◌<◌, ◌≤◌, List, [], ◌∷◌, ◌++◌, length, get_or, set, take, drop, map, Option, Some, None, refl, sym, ap, ◌∙◌, arith, append_assoc, append-nil, length-append, take-add, true, lt-ltb}
-use Rattle.std.proofs.lemmas.List.{length-take-le, drop-drop, drop_all, take_all}
+use Rattle.std.proofs.Common.{◌≡◌, ℕ, ◌+◌, ◌-◌, ◌*◌, ◌/◌, ◌%◌, ◌<◌, ◌≤◌, List, [], ◌∷◌, ◌++◌, length, get_or, take, drop, Option, Some, None, refl, sym, ap, ◌∙◌, arith, append_assoc, append-nil, length-append, take-add, true, lt-ltb}
+use Rattle.std.proofs.lemmas.List.{length-take-le, drop-drop, drop_all}
 use Rattle.std.proofs.lemmas.Option.{none-some}
 use Rattle.x7_words.specs.Word.{word_of_bytes, words_of_bytes}
 use Rattle.x7_words.proofs.WordLemmas.{words_apart, words_count, words_of_bytes_append}
@@ -178,20 +178,6 @@ pub words_taken : (at n : ℕ) (bs : List ℕ) → at % 4 ≡ 0 → at + n ≤ l
 words_taken at n bs e h =
     let long : length (take at bs) ≡ at = length-take-le at bs (omega arith) in
     ap words_of_bytes (take-add at n bs) ∙ words_of_bytes_append (at / 4) (take at bs) (take n (drop at bs)) (omega arith)
-
--- ---- words written over words
-
-pub written_over : (i : ℕ) (chunks : List (List ℕ)) (old : List ℕ) (w : ℕ) → i < length chunks → i < length old → w ≡ word_of_bytes (get_or chunks i []) →
-    set (map word_of_bytes (take i chunks) ++ drop i old) i w ≡ map word_of_bytes (take (suc i) chunks) ++ drop (suc i) old
-written_over i [] old w h k e = absurd (omega arith)
-written_over i (c ∷ chunks) [] w h k e = absurd (omega arith)
-written_over zero (c ∷ chunks) (x ∷ old) w h k e = ap (λ v. v ∷ old) e
-written_over (suc i) (c ∷ chunks) (x ∷ old) w h k e = ap (λ t. word_of_bytes c ∷ t) (written_over i chunks old w (omega arith) (omega arith) e)
-
-pub all_over : (i : ℕ) (chunks : List (List ℕ)) (old new bs : List ℕ) → new ≡ map word_of_bytes (take i chunks) ++ drop i old → length chunks ≤ i → length old ≤ i →
-    words_of_bytes bs ≡ map word_of_bytes chunks → new ≡ words_of_bytes bs
-all_over i chunks old new bs e h k f =
-    e ∙ rw (take_all i chunks h, drop_all i old k) (append-nil (map word_of_bytes chunks)) ∙ sym f
 
 -- the first word of a slice
 pub first_word : (bs : List ℕ) (w : ℕ) → 4 ≤ length bs → w ≡ word_of_bytes (get_or bs 0 0 ∷ get_or bs 1 0 ∷ get_or bs 2 0 ∷ get_or bs 3 0 ∷ []) → w ∷ [] ≡ words_of_bytes (take 4 bs)

@@ -1,10 +1,10 @@
-pub mod FlowLemmas
+mod FlowLemmas
 pub mod RunLemmas
 pub mod SlotLemmas
-pub mod FarLemmas
-pub mod FrameLemmas
-pub mod ReadLemmas
+mod FarLemmas
+mod FrameLemmas
+mod ReadLemmas
 pub mod StateLemmas
 pub mod LawLemmas
-pub mod WordLemmas
+mod WordLemmas
 pub mod SavedLemmas

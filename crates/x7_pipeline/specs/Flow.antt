@@ -1,4 +1,5 @@
--- What a frame pipeline stands for (UG470, frame address register and frame data registers).
+-- A flow, which is what a frame pipeline stands for, and the flows that come next (UG470, frame address register and
+-- frame data registers).
 use Rattle.std.specs.Prelude.{◌≡◌, ℕ, ◌+◌, ◌-◌, ◌<◌, ◌≤◌, List, [], length, slice_index_or, Option, None, Some}
 use Rattle.x7_part.specs.Part.{PartData, frame_words}
 use Rattle.x7_part.specs.Address.{far_width}

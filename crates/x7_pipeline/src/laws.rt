@@ -69,8 +69,8 @@ pub fn far_is_read_by_slots()
         far_of part base run given ≡ last_address part }
 {}
 
-/// A readback gives a frame of zeros, then the frames at the slots, then zeros. The count given that is stored goes up
-/// by the words given, to the limit of the readback at most.
+/// A readback gives a frame of zeros, then the frames at the slots, then zeros. The count of words given is stored up to
+/// `readback_end`, from which on all words are zeros.
 pub fn readbacks_give_frames_along_slots()
     ensures pad { (part : PartData) (base : ℕ) (memory : FrameMap) (i : ℕ) → i < frame_words part → readback_at part base memory i ≡ 0 }
     ensures frames { (part : PartData) (base : ℕ) (memory : FrameMap) (n i : ℕ) → i < frame_words part →

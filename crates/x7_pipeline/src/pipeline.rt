@@ -24,13 +24,12 @@ use crate::place::{far_at, has_frame_at, readback_slot, slot_count};
 pub use saved::Saved;
 use std::alloc::Global;
 use std::marker::Model;
-use x7_memory::Memory;
+use x7_memory::{Memory, set_frame};
 use x7_part::{Part, Slot};
 use x7_regs::Command;
 use x7_words::{NoMemory, word_of};
 
 /// The words of a run that are in no frame of the memory yet, the frame that copies take, and how far a readback is.
-#[derive(Drop)]
 pub struct Pipeline {
     /// The number of words of a frame.
     width: u32,
@@ -54,6 +53,24 @@ pub struct Pipeline {
     given: u64,
     /// The slot of the next word of a readback.
     slot: Slot,
+}
+
+impl Drop for Pipeline {
+    fn drop(self) {
+        let Pipeline {
+            width: _,
+            far_width: _,
+            command: _,
+            base: _,
+            rest: _,
+            newest: _,
+            frame_count: _,
+            source: _,
+            has_source: _,
+            given: _,
+            slot: _,
+        } = self;
+    }
 }
 
 impl Model for Pipeline {
@@ -102,7 +119,7 @@ impl Pipeline {
         self.end_run();
     }
 
-    /// A FAR load: a new run begins at this address. The source stays.
+    /// A FAR load: a new run begins at the address in the word's lowest bits. The source stays.
     pub fn load(&mut self, far: u32)
         ensures stands { (part : PartData) → FlowGoesOn part self.old self.new (begun_at (loaded_base part far)) }
         ensures part { (part : PartData) → IsPipelineOf part self.old → IsPipelineOf part self.new }
@@ -272,15 +289,15 @@ impl Pipeline {
         at
     }
 
-    /// Whether a whole frame of `frame_size` bytes is left, and the run may have it: it has up to `frame_limit` frames.
+    /// Whether a whole frame of `frame_size` bytes is left, and the run has fewer than `frame_limit` frames.
     fn has_next(&self, frame_size: usize, bytes_left: usize, frame_limit: u64) -> bool
         ensures { IsTrue result → (frame_size ≤ bytes_left) × (self.now.frame_count < frame_limit) }
     {
         frame_size <= bytes_left && self.frame_count < frame_limit
     }
 
-    /// Puts the newest whole frame, and holds the next one. `first` is the number of the base's slot,
-    /// and `hint` keeps where the part looks for a slot first.
+    /// Puts the newest whole frame into the memory, and makes the frame of these bytes the newest. `first` is the number
+    /// of the base's slot, and `hint` keeps where the part looks for a slot first.
     fn write_frame(
         &mut self,
         bytes: &[u8],
@@ -300,7 +317,7 @@ impl Pipeline {
         ensures part { AreOfPart part.now self.new memory.new }
     {
         self.put_newest(first, hint, part, memory);
-        set_words(&mut self.newest, bytes);
+        set_frame(&mut self.newest, bytes);
         self.frame_count += 1;
     }
 
@@ -311,8 +328,8 @@ impl Pipeline {
         self.frame_count == 0 && self.rest.is_empty() && !has_frame_at(part, self.base)
     }
 
-    /// Puts the newest whole frame, where there is one and its slot is an address. `first` is the number of the
-    /// base's slot, and `hint` keeps where the part looks for a slot first.
+    /// Puts the newest whole frame into the memory, where there is one and its slot is no pad. `first` is the number of
+    /// the base's slot, and `hint` keeps where the part looks for a slot first.
     fn put_newest(&self, first: u64, hint: &mut usize, part: &Part, memory: &mut Memory)
         requires part { AreOfPart part.now self.now memory.old }
         requires slot { self.now.frame_count < length (slots_from part.now self.now.base) }
@@ -499,38 +516,5 @@ fn push_word(words: &mut Vec<u32>, word: u32)
     match words.push(word) {
         Ok(()) => (),
         Err(_) => unreachable!(),
-    }
-}
-
-/// Makes the vector, which has room for them, hold the words of these bytes, four bytes each.
-fn set_words(words: &mut Vec<u32>, bytes: &[u8])
-    requires room { length bytes.now / 4 ≤ vec_capacity words.old }
-    ensures items { words.new.items ≡ words_of_bytes bytes.now }
-    ensures room { vec_capacity words.old ≤ vec_capacity words.new }
-{
-    set_count(words, bytes.len() / 4);
-    read_words(words, bytes);
-}
-
-/// Makes the vector, which has room for them, have `count` words.
-fn set_count(words: &mut Vec<u32>, count: usize)
-    requires room { count ≤ vec_capacity words.old }
-    ensures length { length words.new.items ≡ count }
-    ensures room { vec_capacity words.old ≤ vec_capacity words.new }
-{
-    match words.resize(count, 0) {
-        Ok(()) => (),
-        Err(_) => unreachable!(),
-    }
-}
-
-/// Writes the words of these bytes over words.
-fn read_words(words: &mut [u32], bytes: &[u8])
-    requires { length words.old ≡ length bytes.now / 4 }
-    ensures { words.new ≡ words_of_bytes bytes.now }
-{
-    let (chunks, _) = bytes.as_chunks::<4>();
-    for i in 0..words.len() {
-        words[i] = word_of(chunks[i]);
     }
 }

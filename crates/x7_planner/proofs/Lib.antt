@@ -1,8 +1,8 @@
-pub mod AddressLemmas
-pub mod SlotLemmas
-pub mod FullStreamPiecesLemmas
+mod AddressLemmas
+mod SlotLemmas
+mod FullStreamPiecesLemmas
 pub mod ContentLemmas
-pub mod GroupLemmas
+mod GroupLemmas
 pub mod FewLemmas
 pub mod RunLemmas
 mod WithinLemmas

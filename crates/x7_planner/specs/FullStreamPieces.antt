@@ -56,13 +56,13 @@ calls_from slots next.Nothing = 0
 abbrev pub puts_left : FullStreamState → ℕ
 puts_left s = calls_from (length (slots_in s.part)) s.next_piece
 
--- the plan has the part's width, and the slot that is next isn't past the last one
+-- the plan has the part's width, and the slot that is next is one of the part's, or the place after the last
 pub record IsFullStream (s : FullStreamState) : Type 0 where
   pub width : s.plan.width ≡ frame_words s.part
   pub inside : slot_next s.next_piece ≤ length (slots_in s.part)
 
--- of the stream the bytes `given` were written: they stand before what is next and were taken by the check, and others
--- are left
+-- of the stream the bytes `given` were written: they stand before what is next and were taken by the check, and the rest
+-- is left
 pub record HasGiven (s : FullStreamState) (given : List ℕ) : Type 0 where
   pub before : given ≡ stream_of (pieces_before s.part s.plan s.next_piece)
   pub checked : HasTaken s.checker given
@@ -89,7 +89,7 @@ settings_size = 4 * 19
 abbrev pub opening_size : ℕ
 opening_size = 4 * 10 + settings_size
 
--- at most this many bytes were appended; or there was no room for that many more, and the old bytes still stand first
+-- there are at most this many bytes more; or there was no room for that many more, and the old bytes still stand first
 pub record AppendsWithin {T : Type 0} (old new : Vec ℕ Global) (result : Result T NoMemory) (most : ℕ) : Type 0 where
   pub within : OnOk result (length new.items ≤ length old.items + most)
   pub failed : OnErr result (take (length old.items) new.items ≡ old.items)

@@ -43,7 +43,7 @@ is_shared all r = are_shared all r.words
 abbrev pub is_first_of_group : List PlanRow → PlanRow → Bool
 is_first_of_group all r = is_shared all r && (slice_index (addresses_with r.words all) 0 == r.far)
 
--- the groups that these rows lead, in order
+-- the groups that rows lead among all rows, in order
 abbrev pub groups_led : List PlanRow → List PlanRow → List Section
 groups_led all [] = []
 groups_led all (r ∷ rows) =

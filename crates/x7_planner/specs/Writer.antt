@@ -12,7 +12,7 @@ pub data StreamPiece : Type 0 where
   Words : (ws : List ℕ) → StreamPiece
   Check : StreamPiece
 
--- words as bytes, the highest byte first
+-- the bytes of words, the highest byte of each first
 abbrev pub bytes_of_words : List ℕ → List ℕ
 bytes_of_words ws = flat_map bytes_of_word ws
 

@@ -19,9 +19,9 @@ pub(crate) struct PlannedFrame<'p> {
 pub(crate) struct ByContent<'p> {
     /// All frames, equal ones together.
     pub(crate) frames: &'p [PlannedFrame<'p>],
-    /// For each of these frames the place of the first that is equal to it.
+    /// For each frame of `frames` the place of the first that is equal to it.
     pub(crate) firsts: &'p [usize],
-    /// For each row of the plan the place of the first of these frames that is equal to the row's.
+    /// For each row of the plan the place of the first of `frames` that is equal to the row's.
     pub(crate) starts: &'p [usize],
 }
 
@@ -59,7 +59,8 @@ pub(crate) fn frames_by_content(
     Ok(frames)
 }
 
-/// The place of the first frame that is equal to the one at `place`. `start` is that of the frame before it.
+/// The place of the first frame that is equal to the one at `place`. `start` is the place of the first that is equal to
+/// the frame before.
 fn start_at(frames: &[PlannedFrame], start: usize, place: usize) -> usize
     requires start { IsStartBefore (planned_rows frames.now) start place }
     requires inside { place < length frames.now }

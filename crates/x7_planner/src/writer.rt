@@ -44,7 +44,7 @@ pub(crate) fn put_packets(out: &mut Vec<u8>, packets: &[[u32; 2]]) -> Result<(),
     put_words(out, packets.as_flattened())
 }
 
-/// Appends a write of the running check of all bytes before it to CRC.
+/// Appends a write to CRC of the running check of all bytes before it.
 pub(crate) fn put_check(out: &mut Vec<u8>) -> Result<(), NoMemory>
     ensures { OnOk result (out.new.items ≡ with_piece out.old.items Check) }
 {

@@ -7,7 +7,7 @@ use Rattle.x7_engine.specs.Kept.{on_the_bench}
 use Rattle.x7_engine.specs.ReadBuffer.{IsFull, IsFullBy, ReadBufState, gathered, with_words}
 use Rattle.x7_engine.proofs.FeedLemmas.{given_all, given_within}
 use Rattle.x7_engine.specs.Standing.{NoWordDue, DeviceState, DeviceStandsFor, reads_given}
-use Rattle.x7_engine.specs.State.{memory_in, reads_of, state_of, first_stop_of_bytes}
+use Rattle.x7_engine.specs.State.{memory_of_bytes, reads_of, state_of, first_stop_of_bytes}
 use Rattle.x7_engine.specs.Stop.{Stopped}
 use Rattle.x7_forms.specs.Known.{reads_limit}
 use Rattle.x7_playing.specs.Playing.{empty_buffer, reads_room}
@@ -58,7 +58,7 @@ pub record IsPlayed (part : PartData) (bytes : List ℕ) (d : DeviceState) (read
   pub stands : DeviceStandsFor part on_the_bench false d prefix
   pub stop : first_stop_of_bytes part on_the_bench bytes ≡ first_stop_of_bytes part on_the_bench prefix
   pub state : state_of part on_the_bench false bytes ≡ state_of part on_the_bench false prefix
-  pub memory : memory_in part on_the_bench bytes ≡ memory_in part on_the_bench prefix
+  pub memory : memory_of_bytes part on_the_bench bytes ≡ memory_of_bytes part on_the_bench prefix
   pub no_word_due : NoWordDue d
   pub reads_are : reads ≡ reads_of part on_the_bench bytes
   pub within_limit : length reads ≤ reads_limit
@@ -72,7 +72,7 @@ stopped_end part bytes prefix rest d reads s fits split stands known few stop du
       stands = stands;
       stop = ap (first_stop_of_bytes part on_the_bench) split ∙ stop_is_final_stop part on_the_bench prefix rest s all stop ∙ sym stop;
       state = ap (state_of part on_the_bench false) split ∙ stop_is_final_state part on_the_bench false prefix rest s all stop;
-      memory = ap (memory_in part on_the_bench) split ∙ stop_is_final_memory part on_the_bench prefix rest s all stop;
+      memory = ap (memory_of_bytes part on_the_bench) split ∙ stop_is_final_memory part on_the_bench prefix rest s all stop;
       no_word_due = due;
       reads_are = known ∙ given_all part on_the_bench d prefix due ∙ sym (ap (reads_of part on_the_bench) split ∙ stop_is_final_reads part on_the_bench prefix rest s all stop);
       within_limit = few;

@@ -65,7 +65,6 @@ fn feed(
 }
 
 /// A device on the bench, and the words that it read out, up to their limit.
-#[derive(Drop)]
 pub struct Player {
     /// The device.
     pub device: Device,
@@ -77,8 +76,19 @@ pub struct Player {
     pub is_over: bool,
 }
 
+impl Drop for Player {
+    fn drop(self) {
+        let Player {
+            device: _,
+            buffer: _,
+            reads: _,
+            is_over: _,
+        } = self;
+    }
+}
+
 impl Player {
-    /// A new device of the part.
+    /// A player of a new device of the part, which was given no byte.
     pub fn new(alloc: Global, part: &Part) -> Result<Player, NoMemory>
         ensures { IfOk result (λ player. HasPlayed part.now [] player) }
     {
@@ -106,5 +116,19 @@ impl Player {
         }
         self.is_over = feed(&mut self.device, &mut self.buffer, &mut self.reads, piece)?;
         Ok(())
+    }
+
+    /// The device, and the words that it read out.
+    pub fn into_parts(self) -> (Device, Vec<u32>)
+        ensures device { result.0 ≡ self.device }
+        ensures reads { result.1 ≡ self.reads }
+    {
+        let Player {
+            device,
+            buffer: _,
+            reads,
+            is_over: _,
+        } = self;
+        (device, reads)
     }
 }

@@ -23,7 +23,7 @@ use Rattle.x7_flow.specs.FrameMemory.{memory_of}
 use Rattle.x7_engine.specs.Kept.{is_fallback}
 use Rattle.x7_engine.specs.Registers.{wrote_iprog}
 use Rattle.x7_engine.specs.Startup.{phase_by, startup_progress}
-use Rattle.x7_engine.specs.State.{memory_in, first_stop_of_bytes}
+use Rattle.x7_engine.specs.State.{memory_of_bytes, first_stop_of_bytes}
 use Rattle.x7_engine.specs.Stop.{first_stop_of_history}
 use Rattle.x7_engine.specs.declared.kept.Kept.{Kept}
 use Rattle.x7_regs.specs.BootStatus.{boot_status_of}
@@ -37,7 +37,7 @@ use Rattle.x7_boot.proofs.OverLemmas.{ends_alike}
 use Rattle.x7_boot.proofs.StartLemmas.{prefix_goes, prefix_history, prefix_open}
 use Rattle.x7_boot.proofs.TookLemmas.{ends_going}
 use Rattle.x7_recovery.specs.Clean.{StartsClean}
-use Rattle.x7_recovery.specs.Golden.{with_erased}
+use Rattle.x7_recovery.specs.Golden.{with_first_sector_erased}
 use Rattle.x7_boot.specs.Boots.{BootCourse, IsCourse}
 use Rattle.x7_recovery.specs.OpenBoot.{FallsBackClean, UpdateFallsBack}
 use Rattle.x7_recovery.specs.OpenSlot.{HasOpenSlot, IsOpenFlash, OpenFlash}
@@ -128,7 +128,7 @@ module _ (o : OpenFlash) (is : IsOpenFlash o) (t : AttemptCourse) (c : StartsCle
   s = drop sector_size t.bytes
 
   abbrev one : List ℕ
-  one = with_erased o.flash
+  one = with_first_sector_erased o.flash
 
   abbrev prefix' : List ℕ
   prefix' = take sector_size o.flash
@@ -227,7 +227,7 @@ module _ (o : OpenFlash) (is : IsOpenFlash o) (t : AttemptCourse) (c : StartsCle
           ∙ ap (λ (p : StartupProgress). if phase_by o.part p == 7 then Some Started else None) progress_alike
           ∙ sym (ends_going o.part at_power (erased_sector ++ sk) power_going)
 
-      memory_alike : memory_in o.part kept (prefix' ++ sk) ≡ memory_in o.part at_power (erased_sector ++ sk)
+      memory_alike : memory_of_bytes o.part kept (prefix' ++ sk) ≡ memory_of_bytes o.part at_power (erased_sector ++ sk)
       memory_alike =
           memory_all o.part kept (prefix' ++ sk) fall_going ∙ ap (memory_of o.part) fall_history ∙ alike.memory ∙ ap (memory_of o.part) (sym power_history) ∙ sym (memory_all o.part at_power (erased_sector ++ sk) power_going)
 
@@ -271,10 +271,10 @@ module _ (o : OpenFlash) (is : IsOpenFlash o) (t : AttemptCourse) (c : StartsCle
           prefixes = fallen_alike;
         }))
 
-    fallen_memory : memory_in o.part kept (prefix' ++ s) ≡ memory_in o.part t.kept t.bytes
+    fallen_memory : memory_of_bytes o.part kept (prefix' ++ s) ≡ memory_of_bytes o.part t.kept t.bytes
     fallen_memory =
-        ap (λ (y : List ℕ). memory_in o.part kept (prefix' ++ y)) (sym all_of) ∙ memory_alike (length s) kept fell ∙ ap (λ (y : List ℕ). memory_in o.part at_power (erased_sector ++ y)) all_of
-        ∙ ap (memory_in o.part at_power) (sym bytes_are) ∙ ap (λ (k : Kept). memory_in o.part k t.bytes) (sym c.starts.kept)
+        ap (λ (y : List ℕ). memory_of_bytes o.part kept (prefix' ++ y)) (sym all_of) ∙ memory_alike (length s) kept fell ∙ ap (λ (y : List ℕ). memory_of_bytes o.part at_power (erased_sector ++ y)) all_of
+        ∙ ap (memory_of_bytes o.part at_power) (sym bytes_are) ∙ ap (λ (k : Kept). memory_of_bytes o.part k t.bytes) (sym c.starts.kept)
 
     fallen_going : first_stop_of_bytes o.part kept (prefix' ++ s) ≡ None
     fallen_going = ap (λ (y : List ℕ). first_stop_of_bytes o.part kept (prefix' ++ y)) (sym all_of) ∙ fall_going (length s) kept fell
@@ -291,7 +291,7 @@ module _ (o : OpenFlash) (is : IsOpenFlash o) (t : AttemptCourse) (c : StartsCle
         attempts_are = f.attempts_are;
         started = f.started;
         taken = ap (λ (v : AttemptCourse). length v.bytes) f.last_is ∙ omega (arith, length-append prefix' s, prefix_long, length-drop sector_size t.bytes, long);
-        memory = ap (λ (v : AttemptCourse). memory_in o.part v.kept v.bytes) f.last_is ∙ fallen_memory kept refl;
+        memory = ap (λ (v : AttemptCourse). memory_of_bytes o.part v.kept v.bytes) f.last_is ∙ fallen_memory kept refl;
         bootsts = ap (λ (v : AttemptCourse). (end_state o.part v).bootsts) f.last_is
             ∙ bootsts_is o.part kept (prefix' ++ s) true (fallen_going kept refl) (fallen_wrote kept refl)
             ∙ ap (λ (a : Attempt). boot_status_of (record { kind = Fallback; cause = None; ignored = true }) (Some a)) (failed_attempt o is u cause fails);

@@ -22,7 +22,7 @@ use Rattle.x7_flow.specs.FrameMemory.{memory_of}
 use Rattle.x7_engine.specs.Kept.{is_fallback}
 use Rattle.x7_engine.specs.Registers.{wrote_iprog}
 use Rattle.x7_engine.specs.Rest.{AtRest}
-use Rattle.x7_engine.specs.State.{history_by, memory_in, state_of, first_stop_of_bytes, why_stopped}
+use Rattle.x7_engine.specs.State.{history_by, memory_of_bytes, state_of, first_stop_of_bytes, why_stopped}
 use Rattle.x7_engine.specs.Stop.{Stopped, fault_of_stop}
 use Rattle.x7_engine.specs.Value.{attempt_of}
 use Rattle.x7_engine.specs.declared.kept.Kept.{Kept}
@@ -108,7 +108,7 @@ pub record StartsWith (part : PartData) (kept : Kept) (address : ℕ) (flash : L
   pub kept_is : course.kept ≡ kept
   pub address_is : course.address ≡ address
   pub ending_is : course.ending ≡ Started
-  pub memory : HaveSameFrames (memory_in part course.kept course.bytes) (total part plan)
+  pub memory : HaveSameFrames (memory_of_bytes part course.kept course.bytes) (total part plan)
   pub bootsts : (end_state part course).bootsts ≡ boot_status_of (record { kind = kept.kind; cause = None; ignored = ignored }) kept.before
 
 pub bootsts_is : (part : PartData) (kept : Kept) (bytes : List ℕ) (ignored : Bool) → first_stop_of_bytes part kept bytes ≡ None → (is_fallback kept.kind && wrote_iprog (history_of bytes)) ≡ ignored

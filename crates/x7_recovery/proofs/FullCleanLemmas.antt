@@ -39,7 +39,7 @@ use Rattle.x7_boot.specs.Boot.{at_power}
 use Rattle.x7_boot.specs.declared.attempt.Ending.TheVariants as ending
 use Rattle.x7_boot.proofs.StartLemmas.{prefix_goes}
 use Rattle.x7_recovery.specs.Clean.{BeginsClean, StartsClean, clear, later, next, nothing, shutdown}
-use Rattle.x7_recovery.specs.Golden.{StartsAsPlanned, with_erased}
+use Rattle.x7_recovery.specs.Golden.{StartsAsPlanned, with_first_sector_erased}
 use Rattle.x7_recovery.specs.Recovery.{IsPrepared, Updating}
 use Rattle.x7_recovery.proofs.CleanStopLemmas.{not_empty}
 use Rattle.x7_recovery.proofs.FullAttemptLemmas.{full_ends, full_stream_fits, seven_whole}
@@ -96,10 +96,10 @@ module _ (u : Updating) (p : IsPrepared u) (t : AttemptCourse) (s : StartsAsPlan
   short_long : length short ≡ sector_size + length stream
   short_long = length-append erased_sector stream ∙ ap (λ (n : ℕ). n + length stream) length_erased_sector
 
-  x : EndsFirst u.part (with_erased u.flash) t
-  x = ended u.part (with_erased u.flash) t s.golden.starts
+  x : EndsFirst u.part (with_first_sector_erased u.flash) t
+  x = ended u.part (with_first_sector_erased u.flash) t s.golden.starts
 
-  whole : with_erased u.flash ≡ short ++ p.golden.rest
+  whole : with_first_sector_erased u.flash ≡ short ++ p.golden.rest
   whole = ap (λ (y : List ℕ). erased_sector ++ y) p.golden.stands ∙ sym (append_assoc erased_sector stream p.golden.rest)
 
   taken : t.bytes ≡ take (length t.bytes) short

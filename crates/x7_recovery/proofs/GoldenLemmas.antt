@@ -19,7 +19,7 @@ use Rattle.x7_part.specs.Part.{PartData}
 use Rattle.x7_regs.specs.declared.boot_status.Kind.TheVariants.{Power}
 use Rattle.x7_planner.specs.FullStream.{full_stream}
 use Rattle.x7_engine.specs.Rest.{AtRest, LastGapGoesOn}
-use Rattle.x7_engine.specs.State.{memory_in, state_of}
+use Rattle.x7_engine.specs.State.{memory_of_bytes, state_of}
 use Rattle.x7_engine.proofs.AlikeLemmas.{alike_memory, alike_state}
 use Rattle.x7_engine.proofs.RestLemmas.{history_on, rest_on}
 use Rattle.x7_engine.specs.declared.kept.Kept.{Kept}
@@ -35,7 +35,7 @@ use Rattle.x7_boot.proofs.StartLemmas.{NeverStarts}
 use Rattle.x7_update.specs.Layout.{IsUpdatable, four_at, open_switch, update_place}
 use Rattle.x7_update.specs.After.{IsBetweenSlots, MayBeLeft, after, between, untouched}
 use Rattle.x7_update.proofs.LawLemmas.{no_sync}
-use Rattle.x7_recovery.specs.Golden.{BootsAlike, GoldenStarts, HaveSameGolden, IsPreparedAny, LeadsNowhere, StartsAlike, StartsAsPlanned, StartsAtPower, UpdatingAny, as_after, as_before, golden, with_erased}
+use Rattle.x7_recovery.specs.Golden.{BootsAlike, GoldenStarts, HaveSameGolden, IsPreparedAny, LeadsNowhere, StartsAlike, StartsAsPlanned, StartsAtPower, UpdatingAny, as_after, as_before, golden, with_first_sector_erased}
 use Rattle.x7_recovery.specs.Recovery.{IsPrepared, Updating}
 use Rattle.x7_recovery.proofs.FullAttemptLemmas.{StartsWith, full_starts}
 
@@ -102,7 +102,7 @@ alike_alone part flash t u b s kept wrapped a boot =
     record {
       attempts_are = ap (λ (x : BootCourse). x.attempts) c ∙ ap (λ (x : Tried). x ∷ []) (tried_is u Power 0 ending.Started (ap (λ (k : Kept). k.kind) s.kept) s.address s.started);
       started = ap (λ (x : BootCourse). x.end) c;
-      memory = ap (λ (v : AttemptCourse). memory_in part v.kept v.bytes) last ∙ ap (λ (k : Kept). memory_in part k u.bytes) kept ∙ sym (alike_memory part t.kept t.bytes u.bytes a);
+      memory = ap (λ (v : AttemptCourse). memory_of_bytes part v.kept v.bytes) last ∙ ap (λ (k : Kept). memory_of_bytes part k u.bytes) kept ∙ sym (alike_memory part t.kept t.bytes u.bytes a);
       registers = ap (end_state part) last ∙ ap (λ (k : Kept). state_of part k u.wrapped u.bytes) kept ∙ ap (λ (w : Bool). state_of part t.kept w u.bytes) wrapped ∙ sym (alike_state part t.kept t.bytes u.bytes a t.wrapped);
     }
 
@@ -165,7 +165,7 @@ module _ (part : PartData) (one other : List ℕ) (t : AttemptCourse) (nowhere :
   leading_nowhere_alike b boot = alike_alone part other t there b (subst (λ (x : List ℕ). StartsAtPower part x there) (sym other_is) both.0) refl (sym (in_flash part one t starts)) both.1 boot
 
 pub same_golden_alike : (part : PartData) (one other : List ℕ) (t : AttemptCourse) (b : BootedState) → HaveSameGolden part one other t → (boot : IsBoot part other b) → StartsAlike part t (course_of b boot.last)
-same_golden_alike part one other t b s boot = leading_nowhere_alike part one other t s.lead_nowhere.0 s.lead_nowhere.1 (all_take (λ x. x < 256) sector_size one s.fits.0) s.fits.1 s.least.0 s.least.1 s.starts s.same b boot
+same_golden_alike part one other t b s boot = leading_nowhere_alike part one other t s.one_is.leads_nowhere s.other_is.leads_nowhere (all_take (λ x. x < 256) sector_size one s.one_is.fits) s.other_is.fits s.one_is.least s.other_is.least s.starts s.same b boot
 
 -- ---- the first sector erased
 
@@ -215,7 +215,7 @@ golden_stands flash found n l b most = ext_get_or 0 (take (n - sector_size) (dro
 
 pub between_alike : (part : PartData) (flash found : List ℕ) (t : AttemptCourse) (b : BootedState) → IsUpdatable flash → IsBetweenSlots flash found → GoldenStarts part flash t → AreBytes found → (boot : IsBoot part found b) → StartsAlike part t (course_of b boot.last)
 between_alike part flash found t b l left starts fits boot =
-    leading_nowhere_alike part (with_erased flash) found t (erased_leads_nowhere (drop sector_size flash)) (no_sync flash found l left) (subst AreBytes (sym (erased_take (drop sector_size flash))) bytes_erased_sector) fits
+    leading_nowhere_alike part (with_first_sector_erased flash) found t (erased_leads_nowhere (drop sector_size flash)) (no_sync flash found l left) (subst AreBytes (sym (erased_take (drop sector_size flash))) bytes_erased_sector) fits
     (omega (arith, length-append erased_sector (drop sector_size flash), length_erased_sector)) (omega (arith, left.size, l.size.least)) starts.starts
     (golden_stands flash found (length t.bytes) l left starts.ends ∙ ap (take (length t.bytes - sector_size)) (sym (erased_drop (drop sector_size flash)))) b boot
 
@@ -246,14 +246,14 @@ full_golden u p =
     let t : AttemptCourse = s.course in
     let x : EndsFirst u.part short t = subst (λ (n : ℕ). EndsFirst u.part (drop n short) t) s.address_is (started_first u.part short t s.is s.ending_is) in
     let most : length t.bytes ≤ length short = omega (arith, ap length x.taken, length-append t.bytes x.rest) in
-    let whole : with_erased u.flash ≡ short ++ p.golden.rest = ap (λ (x : List ℕ). erased_sector ++ x) p.golden.stands ∙ sym (append_assoc erased_sector stream p.golden.rest) in
+    let whole : with_first_sector_erased u.flash ≡ short ++ p.golden.rest = ap (λ (x : List ℕ). erased_sector ++ x) p.golden.stands ∙ sym (append_assoc erased_sector stream p.golden.rest) in
     let within : length t.bytes ≤ sector_size + length stream = omega (arith, most, length-append erased_sector stream, length_erased_sector) in
-    let same : take (t.address + length t.bytes) (with_erased u.flash) ≡ take (t.address + length t.bytes) short =
+    let same : take (t.address + length t.bytes) (with_first_sector_erased u.flash) ≡ take (t.address + length t.bytes) short =
     ap (take (t.address + length t.bytes)) whole ∙ take-append-le (t.address + length t.bytes) short p.golden.rest (omega (arith, most, s.address_is)) in (
       t,
       record {
         golden = record {
-          starts = record { is = attempt_over u.part short (with_erased u.flash) t s.is x.in_flash same; kept = s.kept_is; address = s.address_is; started = s.ending_is };
+          starts = record { is = attempt_over u.part short (with_first_sector_erased u.flash) t s.is x.in_flash same; kept = s.kept_is; address = s.address_is; started = s.ending_is };
           ends = omega (arith, within, p.golden.ends);
         };
         within = within;

@@ -16,7 +16,7 @@ use Rattle.x7_planner.specs.FullStream.{full_stream}
 use Rattle.x7_engine.specs.Kept.{AreFallbacks, is_fallback, without_kept}
 use Rattle.x7_engine.specs.Registers.{wrote_iprog}
 use Rattle.x7_engine.specs.Rest.{AtRest}
-use Rattle.x7_engine.specs.State.{attempt_in, history_by, history_taken, kept_after, memory_in, first_stop_of_bytes, why_stopped}
+use Rattle.x7_engine.specs.State.{attempt_of_bytes, history_by, history_taken, kept_after, memory_of_bytes, first_stop_of_bytes, why_stopped}
 use Rattle.x7_engine.specs.Stop.{Stopped, fault_of_stop}
 use Rattle.x7_engine.specs.Value.{failure_of}
 use Rattle.x7_engine.specs.declared.kept.Kept.{Kept}
@@ -103,14 +103,14 @@ module _ (o : OpenFlash) (is : IsOpenFlash o) where
       record {
         attempts_are = a.attempts_are ∙ ap (λ (e : Ending). obeyed ∷ record { kind = Iprog; address = o.place; ending = e } ∷ []) s.ending_is;
         started = a.end_is;
-        memory = subst (λ (u : AttemptCourse). HaveSameFrames (memory_in o.part u.kept u.bytes) (total o.part update)) (sym a.last_is) s.memory;
+        memory = subst (λ (u : AttemptCourse). HaveSameFrames (memory_of_bytes o.part u.kept u.bytes) (total o.part update)) (sym a.last_is) s.memory;
         bootsts = ap (λ (u : AttemptCourse). (end_state o.part u).bootsts) a.last_is ∙ s.bootsts;
       }
 
   -- ---- a fallback
 
   -- the attempt that failed, as the next one keeps it
-  pub failed_attempt : (t : AttemptCourse) (cause : Cause) → UpdateFallsBack o t cause → attempt_in o.part t.kept t.wrapped t.bytes ≡ record { kind = Iprog; cause = Some cause; ignored = false }
+  pub failed_attempt : (t : AttemptCourse) (cause : Cause) → UpdateFallsBack o t cause → attempt_of_bytes o.part t.kept t.wrapped t.bytes ≡ record { kind = Iprog; cause = Some cause; ignored = false }
   failed_attempt t cause fails =
       let ended : UpdateEnds o t (ending.Failed cause) = fails.ended in
       let kind : t.kept.kind ≡ Iprog = ap (λ (k : Kept). k.kind) ended.kept in
@@ -161,13 +161,13 @@ module _ (o : OpenFlash) (is : IsOpenFlash o) where
       record {
         attempts_are = a.attempts_are;
         started = a.started;
-        memory = subst (λ (u : AttemptCourse). HaveSameFrames (memory_in o.part u.kept u.bytes) (total o.part golden)) (sym a.last_is) f.memory;
+        memory = subst (λ (u : AttemptCourse). HaveSameFrames (memory_of_bytes o.part u.kept u.bytes) (total o.part golden)) (sym a.last_is) f.memory;
         bootsts = ap (λ (u : AttemptCourse). (end_state o.part u).bootsts) a.last_is ∙ f.bootsts
             ∙ ap (λ (a : Attempt). boot_status_of (record { kind = Fallback; cause = None; ignored = true }) (Some a)) (failed_attempt t cause fails);
       }
 
   -- to a golden stream of any kind
-  kept_attempt : (one other : Kept) (wrapped : Bool) (bytes : List ℕ) → one.kind ≡ Fallback → other.kind ≡ Fallback → attempt_in o.part one wrapped bytes ≡ attempt_in o.part other wrapped bytes
+  kept_attempt : (one other : Kept) (wrapped : Bool) (bytes : List ℕ) → one.kind ≡ Fallback → other.kind ≡ Fallback → attempt_of_bytes o.part one wrapped bytes ≡ attempt_of_bytes o.part other wrapped bytes
   kept_attempt one other wrapped bytes e f =
       ap (λ (s : Option Stopped). record { kind = one.kind; cause = failure_of (fault_of_stop (why_stopped s)) wrapped; ignored = is_fallback one.kind && wrote_iprog (history_by s (history_of bytes)) }) (kept_stop o.part one other bytes (ap is_fallback e, ap is_fallback f))
       ∙ ap (λ (k : Kind). record { kind = k; cause = failure_of (fault_of_stop (why_stopped (first_stop_of_bytes o.part other bytes))) wrapped; ignored = is_fallback k && wrote_iprog (history_taken o.part other bytes) }) (e ∙ sym f)
@@ -182,9 +182,9 @@ module _ (o : OpenFlash) (is : IsOpenFlash o) where
         attempts_are = a.attempts_are;
         started = a.started;
         taken = ap (λ (u : AttemptCourse). u.bytes) a.last_is;
-        memory = ap (λ (u : AttemptCourse). memory_in o.part u.kept u.bytes) a.last_is ∙ kept_memory o.part kept f.kept f.bytes both;
+        memory = ap (λ (u : AttemptCourse). memory_of_bytes o.part u.kept u.bytes) a.last_is ∙ kept_memory o.part kept f.kept f.bytes both;
         registers = ap (λ (u : AttemptCourse). without_kept (end_state o.part u)) a.last_is ∙ kept_state o.part kept f.kept f.bytes both f.wrapped;
         bootsts = ap (λ (u : AttemptCourse). (end_state o.part u).bootsts) a.last_is
             ∙ ap (λ (a : Attempt). boot_status_of a kept.before) (kept_attempt kept f.kept f.wrapped f.bytes refl s.kind)
-            ∙ ap (λ (a : Attempt). boot_status_of (attempt_in o.part f.kept f.wrapped f.bytes) (Some a)) (failed_attempt t cause fails);
+            ∙ ap (λ (a : Attempt). boot_status_of (attempt_of_bytes o.part f.kept f.wrapped f.bytes) (Some a)) (failed_attempt t cause fails);
       }

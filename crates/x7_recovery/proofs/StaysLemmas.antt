@@ -11,7 +11,7 @@ use Rattle.x7_boot.specs.Attempt.{AttemptCourse}
 use Rattle.x7_update.specs.After.{IsAfterUpdate}
 use Rattle.x7_update.specs.Layout.{IsUpdatable, update_place}
 use Rattle.x7_recovery.specs.Clean.{StartsClean}
-use Rattle.x7_recovery.specs.Golden.{GoldenStarts, StartsAtPower, with_erased}
+use Rattle.x7_recovery.specs.Golden.{GoldenStarts, StartsAtPower, with_first_sector_erased}
 use Rattle.x7_recovery.specs.Updated.{AfterUpdates, none, one_more}
 use Rattle.x7_boot.proofs.OverLemmas.{attempt_over}
 use Rattle.x7_recovery.proofs.GoldenLemmas.{in_flash}
@@ -24,14 +24,14 @@ same_prefixes e xs ys m same = elim (cases_lt m (length e)) [
       ap (λ (n : ℕ). take n (e ++ xs)) (sym sum) ∙ take-append-add e xs (m - length e) ∙ ap (λ (x : List ℕ). e ++ x) same ∙ sym (take-append-add e ys (m - length e)) ∙ ap (λ (n : ℕ). take n (e ++ ys)) sum)
 ]
 
-power_moves : (part : PartData) (flash other : List ℕ) (t : AttemptCourse) → StartsAtPower part (with_erased flash) t → take (length t.bytes - sector_size) (drop sector_size other) ≡ take (length t.bytes - sector_size) (drop sector_size flash) → StartsAtPower part (with_erased other) t
+power_moves : (part : PartData) (flash other : List ℕ) (t : AttemptCourse) → StartsAtPower part (with_first_sector_erased flash) t → take (length t.bytes - sector_size) (drop sector_size other) ≡ take (length t.bytes - sector_size) (drop sector_size flash) → StartsAtPower part (with_first_sector_erased other) t
 power_moves part flash other t s same =
     let at : t.address + length t.bytes ≡ length t.bytes = omega (arith, s.address) in
-    let prefixes : take (length t.bytes) (with_erased other) ≡ take (length t.bytes) (with_erased flash) =
+    let prefixes : take (length t.bytes) (with_first_sector_erased other) ≡ take (length t.bytes) (with_first_sector_erased flash) =
     same_prefixes erased_sector (drop sector_size other) (drop sector_size flash) (length t.bytes) (ap (λ (n : ℕ). take (length t.bytes - n) (drop sector_size other)) length_erased_sector ∙ same ∙ ap (λ (n : ℕ). take (length t.bytes - n) (drop sector_size flash)) (sym length_erased_sector)) in
     record {
-      is = attempt_over part (with_erased flash) (with_erased other) t s.is (in_flash part (with_erased flash) t s)
-          (ap (λ (n : ℕ). take n (with_erased other)) at ∙ prefixes ∙ ap (λ (n : ℕ). take n (with_erased flash)) (sym at));
+      is = attempt_over part (with_first_sector_erased flash) (with_first_sector_erased other) t s.is (in_flash part (with_first_sector_erased flash) t s)
+          (ap (λ (n : ℕ). take n (with_first_sector_erased other)) at ∙ prefixes ∙ ap (λ (n : ℕ). take n (with_first_sector_erased flash)) (sym at));
       kept = s.kept;
       address = s.address;
       started = s.started;

@@ -12,7 +12,7 @@ use Rattle.x7_regs.specs.declared.command.Command.TheVariants as command
 use Rattle.x7_regs.specs.declared.register.Reg.TheVariants as reg
 use Rattle.x7_engine.specs.State.{first_stop_of_bytes}
 use Rattle.x7_boot.specs.Attempt.{AttemptCourse}
-use Rattle.x7_recovery.specs.Golden.{StartsAtPower, with_erased}
+use Rattle.x7_recovery.specs.Golden.{StartsAtPower, with_first_sector_erased}
 
 -- an access that may stand before RCRC: a word for WBSTAR, TIMER or BSPI, or the command NULL, BSPI_READ or SHUTDOWN
 pub data MayPrecedeRcrc : Access → Type 0 where
@@ -36,7 +36,7 @@ pub data BeginsClean : History → Type 0 where
 -- With the first sector of the flash erased the attempt at power starts with the golden stream, which begins clean, and
 -- nothing has stopped the device by then.
 pub record StartsClean (part : PartData) (flash : List ℕ) (t : AttemptCourse) : Type 0 where
-  pub starts : StartsAtPower part (with_erased flash) t
+  pub starts : StartsAtPower part (with_first_sector_erased flash) t
   pub going : first_stop_of_bytes part t.kept t.bytes ≡ None
   pub clean : BeginsClean (history_of (drop sector_size t.bytes))
   pub fits : AreBytes t.bytes

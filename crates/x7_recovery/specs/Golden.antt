@@ -8,7 +8,7 @@ use Rattle.x7_part.specs.Part.{PartData}
 use Rattle.x7_memory.specs.FrameMap.{HaveSameFrames}
 use Rattle.x7_memory.specs.Plan.{total}
 use Rattle.x7_planner.specs.FullStream.{full_stream}
-use Rattle.x7_engine.specs.State.{memory_in}
+use Rattle.x7_engine.specs.State.{memory_of_bytes}
 use Rattle.x7_boot.specs.Attempt.{IsFlashAttempt, AttemptCourse}
 use Rattle.x7_boot.specs.Boot.{BootedState, IsBoot, at_power, end_state}
 use Rattle.x7_boot.specs.declared.attempt.Ending.TheVariants as ending
@@ -18,13 +18,20 @@ use Rattle.x7_recovery.specs.Recovery.{Updating, power_status, started_at_power}
 use Rattle.x7_update.specs.After.{IsAfterUpdate}
 use Rattle.x7_update.specs.Layout.{IsUpdatable, four_at, open_switch, update_place}
 
--- the first sector leads nowhere: no sync word begins in it, as where none of its slots is open, or where it is erased
+-- the first sector leads nowhere: no sync word begins in it, as in an updatable flash without an open slot, or where it
+-- is erased
 abbrev pub LeadsNowhere : List ℕ → Type 0
 LeadsNowhere flash = (place : ℕ) → place < sector_size → four_at flash place ≢ open_switch
 
+-- a closed flash: bytes, of one sector at least, and the first sector leads nowhere
+pub record IsClosedFlash (flash : List ℕ) : Type 0 where
+  pub least : sector_size ≤ length flash
+  pub fits : AreBytes flash
+  pub leads_nowhere : LeadsNowhere flash
+
 -- the flash with its first sector erased
-abbrev pub with_erased : List ℕ → List ℕ
-with_erased flash = erased_sector ++ drop sector_size flash
+abbrev pub with_first_sector_erased : List ℕ → List ℕ
+with_first_sector_erased flash = erased_sector ++ drop sector_size flash
 
 -- the attempt at power over a flash, which starts
 pub record StartsAtPower (part : PartData) (flash : List ℕ) (t : AttemptCourse) : Type 0 where
@@ -33,26 +40,25 @@ pub record StartsAtPower (part : PartData) (flash : List ℕ) (t : AttemptCourse
   pub address : t.address ≡ 0
   pub started : t.ending ≡ ending.Started
 
--- Two flashes whose first sector leads nowhere have the same bytes after it, up to where an attempt at power that
--- starts over the first of them ended.
+-- Two closed flashes have the same bytes after the first sector, up to where an attempt at power that starts over the
+-- first of them ended.
 pub record HaveSameGolden (part : PartData) (one other : List ℕ) (t : AttemptCourse) : Type 0 where
+  pub one_is : IsClosedFlash one
+  pub other_is : IsClosedFlash other
   pub starts : StartsAtPower part one t
   pub same : slice_range other sector_size (length t.bytes) ≡ slice_range one sector_size (length t.bytes)
-  pub lead_nowhere : LeadsNowhere one × LeadsNowhere other
-  pub fits : AreBytes one × AreBytes other
-  pub least : (sector_size ≤ length one) × (sector_size ≤ length other)
 
--- The golden stream starts: with the first sector erased the attempt at power starts, and it ends
--- at the update's place or before it.
+-- The golden stream starts: with the first sector erased the attempt at power starts, and ends at the update's place or
+-- before it.
 pub record GoldenStarts (part : PartData) (flash : List ℕ) (t : AttemptCourse) : Type 0 where
-  pub starts : StartsAtPower part (with_erased flash) t
+  pub starts : StartsAtPower part (with_first_sector_erased flash) t
   pub ends : length t.bytes ≤ update_place flash
 
 -- The boot starts at its one attempt, at power, with the memory and the registers that another attempt ended with.
 pub record StartsAlike (part : PartData) (t : AttemptCourse) (c : BootCourse) : Type 0 where
   pub attempts_are : c.attempts ≡ started_at_power
   pub started : c.end ≡ boot_end.Started
-  pub memory : memory_in part c.last.kept c.last.bytes ≡ memory_in part t.kept t.bytes
+  pub memory : memory_of_bytes part c.last.kept c.last.bytes ≡ memory_of_bytes part t.kept t.bytes
   pub registers : end_state part c.last ≡ end_state part t
 
 -- the golden stream of a flash, the full stream of a plan, starts the device at its last byte or before it, with the
@@ -60,11 +66,11 @@ pub record StartsAlike (part : PartData) (t : AttemptCourse) (c : BootCourse) : 
 pub record StartsAsPlanned (u : Updating) (t : AttemptCourse) : Type 0 where
   pub golden : GoldenStarts u.part u.flash t
   pub within : length t.bytes ≤ sector_size + length (full_stream u.part u.golden)
-  pub memory : HaveSameFrames (memory_in u.part t.kept t.bytes) (total u.part u.golden)
+  pub memory : HaveSameFrames (memory_of_bytes u.part t.kept t.bytes) (total u.part u.golden)
   pub bootsts : (end_state u.part t).bootsts ≡ power_status
 
--- a flash that is being updated with a stream, the part that boots from it, and the
--- attempt with which its golden stream starts
+-- a flash that is being updated with a stream, the part that boots from it, and the attempt with which its golden
+-- stream starts
 pub record UpdatingAny : Type 0 where
   pub part : PartData
   pub flash : List ℕ
@@ -76,8 +82,8 @@ pub record IsPreparedAny (u : UpdatingAny) : Type 0 where
   pub updatable : IsUpdatable u.flash
   pub golden : GoldenStarts u.part u.flash u.golden
 
--- a boot of what was left: that of the flash before the update, or one that starts as the golden
--- stream does, or that of the updated flash
+-- a boot of what was left: that of the flash before the update, or one that starts as the golden stream does, or that
+-- of the updated flash
 pub data BootsAlike (u : UpdatingAny) (found : List ℕ) (b : BootedState) : Type 0 where
   as_before : IsBoot u.part u.flash b → BootsAlike u found b
   golden : (boot : IsBoot u.part found b) → StartsAlike u.part u.golden (course_of b boot.last) → BootsAlike u found b

@@ -11,7 +11,7 @@ use Rattle.x7_regs.specs.declared.boot_status.Kind.TheVariants.{Power, Iprog, Fa
 use Rattle.x7_memory.specs.FrameMap.{HaveSameFrames}
 use Rattle.x7_memory.specs.Plan.{IsPlanFor, PlanData, total}
 use Rattle.x7_planner.specs.FullStream.{full_stream}
-use Rattle.x7_engine.specs.State.{attempt_in, memory_in}
+use Rattle.x7_engine.specs.State.{attempt_of_bytes, memory_of_bytes}
 use Rattle.x7_engine.specs.declared.kept.Kept.{Kept}
 use Rattle.x7_engine.specs.Kept.{without_kept}
 use Rattle.x7_boot.specs.Attempt.{IsFlashAttempt, AttemptCourse}
@@ -73,12 +73,16 @@ pub record EndsAtUpdate (o : OpenFlash) (t : AttemptCourse) (by_end : BootEnd) (
   pub end_is : c.end ≡ by_end
   pub last_is : c.last ≡ t
 
--- the full stream of a plan for the part stands at the place to which the open slot leads
-pub record HasFullUpdate (o : OpenFlash) (update : PlanData) : Type 0 where
+-- the full stream of a plan for the part stands at a place of the flash, in bytes, whatever follows it
+pub record HasFullStream (o : OpenFlash) (place : ℕ) (planned : PlanData) : Type 0 where
   pub is_part : IsPart o.part
-  pub plan : IsPlanFor o.part update
+  pub plan : IsPlanFor o.part planned
   pub rest : List ℕ
-  pub stands : drop o.place o.flash ≡ full_stream o.part update ++ rest
+  pub stands : drop place o.flash ≡ full_stream o.part planned ++ rest
+
+-- the update is the full stream of a plan: it stands at the place to which the open slot leads
+abbrev pub HasFullUpdate : OpenFlash → PlanData → Type 0
+HasFullUpdate o update = HasFullStream o o.place update
 
 -- what BOOTSTS shows of an attempt by IPROG, by the cause of its failure if it failed
 abbrev pub iprog_attempt : Option Cause → Attempt
@@ -88,12 +92,12 @@ iprog_attempt cause = record { kind = Iprog; cause = cause; ignored = false }
 abbrev pub update_bootsts : ℕ
 update_bootsts = boot_status_of (iprog_attempt None) (Some power_attempt)
 
--- The boot starts with the update: with the memory of its plan over zeros, and BOOTSTS shows
--- an attempt by IPROG, after one at power.
+-- The boot starts with the update: with the memory of its plan over zeros, and BOOTSTS shows an attempt by IPROG,
+-- after one at power.
 pub record StartsUpdate (o : OpenFlash) (update : PlanData) (c : BootCourse) : Type 0 where
   pub attempts_are : c.attempts ≡ through_update o.place ending.Started []
   pub started : c.end ≡ boot_end.Started
-  pub memory : HaveSameFrames (memory_in o.part c.last.kept c.last.bytes) (total o.part update)
+  pub memory : HaveSameFrames (memory_of_bytes o.part c.last.kept c.last.bytes) (total o.part update)
   pub bootsts : (end_state o.part c.last).bootsts ≡ update_bootsts
 
 -- ---- the fallback
@@ -106,19 +110,16 @@ fell_back place cause = through_update place (ending.Failed cause) (record { kin
 abbrev pub fallback_status : Cause → ℕ
 fallback_status cause = boot_status_of (record { kind = Fallback; cause = None; ignored = true }) (Some (iprog_attempt (Some cause)))
 
--- the full stream of a plan for the part stands after the first sector
-pub record HasFullGolden (o : OpenFlash) (golden : PlanData) : Type 0 where
-  pub is_part : IsPart o.part
-  pub plan : IsPlanFor o.part golden
-  pub rest : List ℕ
-  pub stands : drop sector_size o.flash ≡ full_stream o.part golden ++ rest
+-- the golden stream is the full stream of a plan: it stands after the first sector
+abbrev pub HasFullGolden : OpenFlash → PlanData → Type 0
+HasFullGolden o golden = HasFullStream o sector_size golden
 
--- The boot falls back and starts with the memory of the golden plan over zeros, and BOOTSTS
--- shows the fallback and the update's cause.
+-- The boot falls back and starts with the memory of the golden plan over zeros, and BOOTSTS shows the fallback and the
+-- update's cause.
 pub record FallsBack (o : OpenFlash) (cause : Cause) (golden : PlanData) (c : BootCourse) : Type 0 where
   pub attempts_are : c.attempts ≡ fell_back o.place cause
   pub started : c.end ≡ boot_end.Started
-  pub memory : HaveSameFrames (memory_in o.part c.last.kept c.last.bytes) (total o.part golden)
+  pub memory : HaveSameFrames (memory_of_bytes o.part c.last.kept c.last.bytes) (total o.part golden)
   pub bootsts : (end_state o.part c.last).bootsts ≡ fallback_status cause
 
 -- The boot falls back and starts as another attempt did: at the same byte, with the same memory, and BOOTSTS shows the
@@ -127,7 +128,7 @@ pub record FallsBackClean (o : OpenFlash) (cause : Cause) (t : AttemptCourse) (c
   pub attempts_are : c.attempts ≡ fell_back o.place cause
   pub started : c.end ≡ boot_end.Started
   pub taken : length c.last.bytes ≡ length t.bytes
-  pub memory : memory_in o.part c.last.kept c.last.bytes ≡ memory_in o.part t.kept t.bytes
+  pub memory : memory_of_bytes o.part c.last.kept c.last.bytes ≡ memory_of_bytes o.part t.kept t.bytes
   pub bootsts : (end_state o.part c.last).bootsts ≡ fallback_status cause
 
 -- the attempt is a fallback over the flash that starts; its device may have kept anything over the reset
@@ -143,14 +144,14 @@ pub record FallsBackAlike (o : OpenFlash) (cause : Cause) (f : AttemptCourse) (c
   pub attempts_are : c.attempts ≡ fell_back o.place cause
   pub started : c.end ≡ boot_end.Started
   pub taken : c.last.bytes ≡ f.bytes
-  pub memory : memory_in o.part c.last.kept c.last.bytes ≡ memory_in o.part f.kept f.bytes
+  pub memory : memory_of_bytes o.part c.last.kept c.last.bytes ≡ memory_of_bytes o.part f.kept f.bytes
   pub registers : without_kept (end_state o.part c.last) ≡ without_kept (end_state o.part f)
-  pub bootsts : (end_state o.part c.last).bootsts ≡ boot_status_of (attempt_in o.part f.kept f.wrapped f.bytes) (Some (iprog_attempt (Some cause)))
+  pub bootsts : (end_state o.part c.last).bootsts ≡ boot_status_of (attempt_of_bytes o.part f.kept f.wrapped f.bytes) (Some (iprog_attempt (Some cause)))
 
 -- ---- the boot
 
--- What a boot from a flash with an open slot comes to, by what the attempt at the
--- update does and by what the golden stream is.
+-- What a boot from a flash with an open slot comes to, by what the attempt at the update does and by what the golden
+-- stream is.
 pub record BootsOpen (o : OpenFlash) (c : BootCourse) : Type 0 where
   -- the second attempt is that at the update
   pub tries : TriesUpdate o c.attempts
@@ -160,14 +161,14 @@ pub record BootsOpen (o : OpenFlash) (c : BootCourse) : Type 0 where
   pub full : (update : PlanData) → HasFullUpdate o update → StartsUpdate o update c
   -- where the update fails and CTL0 forbids a fallback, the boot stops
   pub stops : (t : AttemptCourse) (cause : Cause) → UpdateStops o t cause → EndsAtUpdate o t boot_end.Stopped c
-  -- where the update fails and CTL0 allows a fallback, the full stream of a plan starts as
-  -- golden stream, with the memory of the plan
+  -- where the update fails and CTL0 allows a fallback, a golden stream that is the full stream of a plan starts, with
+  -- the memory of the plan
   pub falls_back : (t : AttemptCourse) (cause : Cause) (golden : PlanData) → HasFullGolden o golden → UpdateFallsBack o t cause → FallsBack o cause golden c
   -- where the update fails and CTL0 allows a fallback, a golden stream of any kind that starts at power after an erased
   -- first sector and begins clean starts as it did there
   pub falls_clean : (t : AttemptCourse) (cause : Cause) (golden : AttemptCourse) → StartsClean o.part o.flash golden → UpdateFallsBack o t cause → FallsBackClean o cause golden c
-  -- where the update fails and CTL0 allows a fallback, any golden stream with which some fallback
-  -- over the flash starts does as that fallback
+  -- where the update fails and CTL0 allows a fallback, a golden stream with which some fallback over the flash starts
+  -- does as that fallback
   pub falls_alike : (t : AttemptCourse) (cause : Cause) (f : AttemptCourse) → StartsAsFallback o f → UpdateFallsBack o t cause → FallsBackAlike o cause f c
 
 -- every boot from the flash comes to what a boot from a flash with an open slot comes to

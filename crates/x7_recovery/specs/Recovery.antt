@@ -1,5 +1,5 @@
--- What a device does with a flash that a power loss left in an update (UG470, MultiBoot and
--- fallback; the layout is this project's choice).
+-- What a device does with a flash that a power loss left in an update, where the golden stream is the full stream of a
+-- plan (UG470, MultiBoot and fallback; the layout is this project's choice).
 use Rattle.std.specs.Prelude.{◌≡◌, ℕ, ◌+◌, ◌≤◌, false, List, [], ◌∷◌, ◌++◌, None, drop, length}
 use Rattle.x7_packets.specs.FlashSlot.{sector_size}
 use Rattle.x7_part.specs.Part.{PartData}
@@ -10,7 +10,7 @@ use Rattle.x7_regs.specs.declared.boot_status.Kind.TheVariants.{Power}
 use Rattle.x7_memory.specs.FrameMap.{HaveSameFrames}
 use Rattle.x7_memory.specs.Plan.{IsPlanFor, PlanData, total}
 use Rattle.x7_planner.specs.FullStream.{full_stream}
-use Rattle.x7_engine.specs.State.{memory_in}
+use Rattle.x7_engine.specs.State.{memory_of_bytes}
 use Rattle.x7_boot.specs.Boot.{BootedState, IsBoot, end_state}
 use Rattle.x7_boot.specs.Boots.{BootCourse, course_of}
 use Rattle.x7_recovery.specs.PlannedImage.{golden_image}
@@ -37,8 +37,8 @@ pub record HasGolden (part : PartData) (golden : PlanData) (flash : List ℕ) : 
   pub stands : drop sector_size flash ≡ full_stream part golden ++ rest
   pub ends : sector_size + length (full_stream part golden) ≤ update_place flash
 
--- an update is prepared: the part's numbers are in range, the plan is one for the part, and the flash can be
--- updated, with the full stream of the plan as its golden stream
+-- an update is prepared: the part's numbers are in range, the plan is one for the part, and the flash can be updated,
+-- with the full stream of the plan as its golden stream
 pub record IsPrepared (u : Updating) : Type 0 where
   pub is_part : IsPart u.part
   pub plan : IsPlanFor u.part u.golden
@@ -62,11 +62,11 @@ power_status = boot_status_of power_attempt None
 pub record StartsGolden (part : PartData) (golden : PlanData) (c : BootCourse) : Type 0 where
   pub attempts_are : c.attempts ≡ started_at_power
   pub started : c.end ≡ boot_end.Started
-  pub memory : HaveSameFrames (memory_in part c.last.kept c.last.bytes) (total part golden)
+  pub memory : HaveSameFrames (memory_of_bytes part c.last.kept c.last.bytes) (total part golden)
   pub bootsts : (end_state part c.last).bootsts ≡ power_status
 
--- a boot of what was left: that of the flash before the update, or one that starts with the
--- golden stream, or that of the updated flash
+-- a boot of what was left: that of the flash before the update, or one that starts with the golden stream, or that of
+-- the updated flash
 pub data BootsAs (u : Updating) (found : List ℕ) (b : BootedState) : Type 0 where
   as_before : IsBoot u.part u.flash b → BootsAs u found b
   golden : (boot : IsBoot u.part found b) → StartsGolden u.part u.golden (course_of b boot.last) → BootsAs u found b

@@ -1,5 +1,5 @@
-//! What a boot from the image of a golden and an update stream comes to. The functions
-//! do nothing: their contracts are the laws.
+//! What a boot from the image of a golden and an update stream comes to. The functions do nothing: their contracts are
+//! the laws.
 ghost use Rattle.std.specs.Prelude.{◌≢◌, ◌≤◌, ◌++◌, List, [], ℕ, length};
 ghost use Rattle.x7_part.specs.Part.{PartData};
 ghost use Rattle.x7_part.specs.Ranges.{IsPart};

@@ -1,5 +1,5 @@
-//! What a device does with a flash that a power loss left in an update. The functions
-//! do nothing: their contracts are the laws.
+//! What a device does with a flash that a power loss left in an update. The functions do nothing: their contracts are
+//! the laws.
 ghost use Rattle.std.specs.Prelude.{◌≡◌, ◌≤◌, List, ℕ, length};
 ghost use Rattle.x7_words.specs.Flash.{flash_limit};
 ghost use Rattle.x7_part.specs.Part.{PartData};
@@ -11,9 +11,9 @@ ghost use Rattle.x7_update.specs.After.{MayBeLeft};
 ghost use Rattle.x7_update.specs.Layout.{IsUpdatable};
 ghost use Rattle.x7_recovery.specs.Recovery.{BootsAs, IsPrepared, Updating, updating_image};
 
-/// Of a flash that can be updated, whose golden stream is the full stream of a plan for the part and ends at the
-/// update's place or before it, whatever a power loss left in an update boots as the flash did before, or starts with
-/// the golden stream, or boots as the updated flash.
+/// A flash can be updated, and its golden stream is the full stream of a plan for the part, and ends at the update's
+/// place or before it. Then whatever a power loss in an update leaves of the flash boots as the flash did before, or
+/// starts with the golden stream, or boots as the updated flash.
 pub fn found_flashes_boot()
     ensures { (u : Updating) (found : List ℕ) (b : BootedState) → IsPrepared u
         → MayBeLeft u.stream u.flash found → IsBoot u.part found b → BootsAs u found b }

@@ -12,20 +12,20 @@ ghost use Rattle.x7_recovery.specs.Recovery.{HasGolden};
 ghost use Rattle.x7_update.specs.After.{IsAfterUpdate};
 ghost use Rattle.x7_update.specs.Layout.{IsUpdatable, IsOpen, update_place};
 
-/// From a flash with an open slot a boot tries the update at the place to which the slot leads; where it starts the
-/// boot ends there, and where it fails and CTL0 forbids a fallback it stops. Else it falls back, and starts with a
+/// From a flash with an open slot a boot tries the update at the place to which the slot leads. Where the update starts
+/// the boot ends there; an update that is the full stream of a plan does, with the memory of the plan. Where the update
+/// fails and CTL0 forbids a fallback the boot stops. Where CTL0 allows one the boot falls back, and starts with a
 /// golden stream of these three kinds: the full stream of a plan; one that starts at power after an erased first sector
-/// and begins clean; one with which some fallback over this flash starts. An update that is a full stream starts with
-/// the memory of its plan.
+/// and begins clean; one with which some fallback over this flash starts.
 pub fn open_slots_boot()
     ensures { (o : OpenFlash) → IsOpenFlash o → EachBootsOpen o }
 {}
 
 /// A flash that begins with the first sector of an image for a part has its first slot open, whatever follows. For a
-/// part whose start address counts bytes a flash that can be updated has each slot open that begins with the sync word,
-/// and after an update the next one, where the items of the first sector are bytes. After an update of a flash that can
-/// be updated the full stream of a plan that stood as golden stream stands as it did, and the stream of the update
-/// stands at the update's place.
+/// part whose start address counts bytes, and where the items of the first sector are bytes: of a flash that can be
+/// updated, a slot that begins with the sync word is open, and after an update the next slot is. After an update a
+/// golden stream that is the full stream of a plan stands as it did, and the stream of the update stands at the
+/// update's place.
 pub fn flashes_have_an_open_slot()
     ensures image { (part : PartData) (flash : List ℕ) (place : ℕ) → IsPart part → BeginsAsImage part flash place → IsOpenFlash (image_of_flash part flash place) }
     ensures updatable { (part : PartData) (flash : List ℕ) (slot : ℕ) → part.start_unit ≡ 1 → IsUpdatable flash → AreBytes (take sector_size flash)

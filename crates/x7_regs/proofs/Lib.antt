@@ -1,3 +1,4 @@
-pub mod CommandLemmas
-pub mod NameLemmas
+mod CommandLemmas
+mod NameLemmas
 pub mod NamedLemmas
+mod StatusLemmas

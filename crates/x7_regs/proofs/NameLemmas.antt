@@ -1,8 +1,10 @@
 -- The names of the registers differ: each has its own place in the table, by a computed test.
-use Rattle.std.proofs.Common.{◌≡◌, ℕ, zero, suc, ◌+◌, ◌<◌, ◌==◌, Bool, true, false, ◌&&◌, if◌then◌else◌, List, [], ◌∷◌, refl, ap, sym, ◌∙◌, arith, inl, inr, subst}
-use Rattle.std.proofs.lemmas.Bool.{cases_lt}
+use Rattle.std.proofs.Common.{◌≤◌, length, map, get_or, nat_le, ◌≡◌, ℕ, zero, suc, ◌+◌, ◌<◌, ◌==◌, Bool, true, false, ◌&&◌, if◌then◌else◌, List, [], ◌∷◌, refl, ap, sym, ◌∙◌, arith, inl, inr, subst}
+use Rattle.std.proofs.lemmas.Bool.{cases_lt, leb-true}
 use Rattle.std.proofs.lemmas.Grind.{common_steps}
-use Rattle.x7_regs.specs.Register.{reg_name, reg_names, reg_number_count}
+use Rattle.std.proofs.lemmas.List.{get_or-map, length-map}
+use Rattle.std.specs.Borrow.{Bor}
+use Rattle.x7_regs.specs.Register.{reg_name, reg_name_limit, reg_names, reg_number_count}
 
 same_text : List ℕ → List ℕ → Bool
 same_text [] [] = true
@@ -44,3 +46,27 @@ place_is (suc k) n h e =
 
 pub reg_name_distinct : (m n : ℕ) → m < reg_number_count → n < reg_number_count → reg_name m ≡ reg_name n → m ≡ n
 reg_name_distinct m n h k e = sym (place_is 32 m h all_stand) ∙ ap (place_in reg_names) e ∙ place_is 32 n k all_stand
+
+-- each of the names has at most this many bytes
+are_short : ℕ → List (List ℕ) → Bool
+are_short most [] = true
+are_short most (x ∷ xs) = nat_le (length x) most && are_short most xs
+
+short_at : (most : ℕ) (xs : List (List ℕ)) (n : ℕ) → are_short most xs ≡ true → length (get_or xs n []) ≤ most
+unfolding are_short
+short_at most [] n e = omega arith
+short_at most (x ∷ xs) zero e = leb-true _ _ (both (nat_le (length x) most) (are_short most xs) e).0
+short_at most (x ∷ xs) (suc n) e = short_at most xs n (both (nat_le (length x) most) (are_short most xs) e).1
+
+pub reg_name_short : (n : ℕ) → length (reg_name n) ≤ reg_name_limit
+unfolding are_short
+reg_name_short n = short_at 7 reg_names n (let h : are_short 7 reg_names ≡ true = refl in h)
+
+-- texts that are the names have the name of a register number at that number
+pub text_at : (texts : List (Bor (List ℕ))) (place n : ℕ) (other : Bor (List ℕ)) → place ≡ n → n < reg_number_count → map (λ (text : Bor (List ℕ)). text.now) texts ≡ reg_names
+    → (get_or texts place other).now ≡ reg_name n
+text_at texts place n other e below names =
+    let count : length texts ≡ reg_number_count = sym (length-map texts (λ (text : Bor (List ℕ)). text.now)) ∙ ap length names in
+    sym (get_or-map (λ (text : Bor (List ℕ)). text.now) texts place other [] (omega (arith, count, e, below)))
+    ∙ ap (λ (all : List (List ℕ)). get_or all place []) names
+    ∙ ap (λ (k : ℕ). get_or reg_names k []) e

@@ -6,7 +6,7 @@ use Rattle.x7_words.specs.Word.{field_of}
 abbrev pub gts_user_b : ℕ
 gts_user_b = 0
 
--- the lower bit of SBITS in CTL0, two bits: 00 allows reading and writing of frames, 01 forbids reading, 1x both
+-- the lowest bit of SBITS in CTL0, two bits: 00 lets frames be read and written, 01 forbids to read them, 1x both
 abbrev pub sbits : ℕ
 sbits = 4
 

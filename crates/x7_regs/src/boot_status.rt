@@ -39,53 +39,50 @@ pub struct Attempt {
     pub ignored: bool,
 }
 
-/// VALID: the register has an attempt.
-const VALID: u32 = 1 << 0;
+// The bits of an attempt's byte of BOOTSTS, each by its number (UG470, boot history status register).
+const VALID: u32 = 0;
 
-/// FALLBACK: the attempt before failed.
-const FALLBACK: u32 = 1 << 1;
+const FALLBACK: u32 = 1;
 
-/// IPROG: an IPROG command began the attempt, or was ignored in it.
-const IPROG: u32 = 1 << 2;
+const IPROG: u32 = 2;
 
-/// WTO_ERROR: the watchdog fired.
-const WTO_ERROR: u32 = 1 << 3;
+const WTO_ERROR: u32 = 3;
 
-/// ID_ERROR: a written idcode was not the part's.
-const ID_ERROR: u32 = 1 << 4;
+const ID_ERROR: u32 = 4;
 
-/// CRC_ERROR: a check word that was written differed from the running check.
-const CRC_ERROR: u32 = 1 << 5;
+const CRC_ERROR: u32 = 5;
 
-/// WRAP_ERROR: the flash ended before startup did.
-const WRAP_ERROR: u32 = 1 << 6;
+const WRAP_ERROR: u32 = 6;
 
-/// The bits of an attempt's kind: VALID, FALLBACK and IPROG.
+/// The number of the lowest bit of BOOTSTS that speaks of the attempt before.
+const ATTEMPT_BEFORE_BIT: u32 = 8;
+
+/// The bits VALID, FALLBACK and IPROG of an attempt.
 #[tactic(auto, unfolding(crate::specs::Status::flag_of))]
 fn kind_bits(kind: Kind, ignored: bool) -> u32
     ensures value { result ≡ kind_bits_of kind ignored }
     ensures most { result < 2 ^ 3 }
 {
-    let iprog = if ignored { IPROG } else { 0 };
+    let ignored = if ignored { 1 << IPROG } else { 0 };
     match kind {
         Kind::Bench => 0,
-        Kind::Power => VALID + iprog,
-        Kind::Iprog => VALID + IPROG,
-        Kind::Fallback => VALID + FALLBACK + iprog,
+        Kind::Power => (1 << VALID) + ignored,
+        Kind::Iprog => (1 << VALID) + (1 << IPROG),
+        Kind::Fallback => (1 << VALID) + (1 << FALLBACK) + ignored,
     }
 }
 
-/// The bit of a failure's cause, 0 where there is none.
+/// The bit of what an attempt failed by, and 0 where it did not fail.
 fn cause_bits(cause: Option<Cause>) -> u32
     ensures value { result ≡ cause_bits_of cause }
     ensures most { result ≤ 2 ^ 6 }
 {
     match cause {
         None => 0,
-        Some(Cause::Watchdog) => WTO_ERROR,
-        Some(Cause::Id) => ID_ERROR,
-        Some(Cause::Crc) => CRC_ERROR,
-        Some(Cause::Wrap) => WRAP_ERROR,
+        Some(Cause::Watchdog) => 1 << WTO_ERROR,
+        Some(Cause::Id) => 1 << ID_ERROR,
+        Some(Cause::Crc) => 1 << CRC_ERROR,
+        Some(Cause::Wrap) => 1 << WRAP_ERROR,
     }
 }
 
@@ -118,6 +115,6 @@ pub fn boot_word(latest: Attempt, before: Option<Attempt>) -> u32
 {
     match latest.kind {
         Kind::Bench => 0,
-        _ => attempt_bits(latest) + before_bits(before) * (1 << 8),
+        _ => attempt_bits(latest) + before_bits(before) * (1 << ATTEMPT_BEFORE_BIT),
     }
 }

@@ -21,7 +21,7 @@ pub enum Command {
     Rcap,
     /// Clears the running check.
     Rcrc,
-    /// Holds the interconnect.
+    /// Turns the interconnect off.
     Aghigh,
     /// Changes the configuration clock.
     Switch,

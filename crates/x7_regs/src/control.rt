@@ -5,7 +5,7 @@ ghost use Rattle.x7_regs.specs.Control.{forbids_fallback, forbids_reading, forbi
 /// The number of the bit of CTL0 with which the outputs are as startup says; without it they are high-impedance.
 pub const GTS_USER_B: u32 = 0;
 
-/// The number of the lower of two bits of CTL0: 00 allows reading and writing of frames, 01 forbids reading, 1x both.
+/// The number of the lowest of two bits of CTL0: 00 lets frames be read and written, 01 forbids to read them, 1x both.
 const SBITS: u32 = 4;
 
 /// The number of the bit of CTL0 that says that a stream would be encrypted.

@@ -1,9 +1,11 @@
 //! Laws of the tables, for the proofs of crates above.
-ghost use Rattle.std.specs.Prelude.{◌≡◌, ◌≢◌, ◌<◌, ◌%◌, ◌^◌, ℕ};
+ghost use Rattle.std.specs.Prelude.{◌≡◌, ◌≢◌, ◌<◌, ℕ};
 ghost use Rattle.x7_regs.specs.Command.{code_of, command_by, command_code_count, command_code_of, command_name_of};
 ghost use Rattle.x7_regs.specs.Register.{number_of, reg_name, reg_number_count};
+ghost use Rattle.x7_regs.specs.Status.{FitStatus, HasStatusFields, status_of};
 ghost use Rattle.x7_regs.specs.declared.command.Command.{Command};
 ghost use Rattle.x7_regs.specs.declared.register.Reg.{Reg};
+ghost use Rattle.x7_regs.specs.declared.status.StatParts.{StatParts};
 
 /// Registers with the same number are the same, and each number is below 32.
 pub fn numbers_are_distinct()
@@ -23,4 +25,9 @@ pub fn codes_are_distinct()
 pub fn names_are_distinct()
     ensures registers { (m n : ℕ) → m < reg_number_count → n < reg_number_count → reg_name m ≡ reg_name n → m ≡ n }
     ensures commands { (a b : Command) → command_name_of a ≡ command_name_of b → a ≡ b }
+{}
+
+/// The word of the status register holds each part in the field of the guide, with nothing else in it.
+pub fn status_has_its_fields()
+    ensures { (p : StatParts) → FitStatus p → HasStatusFields p (status_of p) }
 {}

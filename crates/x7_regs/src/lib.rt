@@ -18,7 +18,9 @@ pub use control::{
     CONFIG_FALLBACK, GLUTMASK_B, GTS_USER_B, forbids_fallback, forbids_reading, forbids_writing,
     has_dec,
 };
-pub use laws::{codes_are_distinct, names_are_distinct, numbers_are_distinct};
+pub use laws::{
+    codes_are_distinct, names_are_distinct, numbers_are_distinct, status_has_its_fields,
+};
 pub use name::{CommandName, RegName, command_text, name_of};
 pub use named::{command_named, reg_named};
 pub use register::{Reg, reg_of};

@@ -60,47 +60,25 @@ impl CommandName {
     }
 }
 
-/// The name of a register number: of a number without a register, `R` and its two digits (this project's choice).
+/// The names by register number, from 0 to 31 (UG470, configuration registers); a number without a register is `R` and
+/// its two digits (this project's choice).
 #[rattlefmt::skip]
+static REG_NAMES: [&str; 32] = [
+    "CRC", "FAR", "FDRI", "FDRO", "CMD", "CTL0", "MASK", "STAT",
+    "LOUT", "COR0", "MFWR", "CBC", "IDCODE", "AXSS", "COR1", "R15",
+    "WBSTAR", "TIMER", "R18", "R19", "R20", "R21", "BOOTSTS", "R23",
+    "CTL1", "R25", "R26", "R27", "R28", "R29", "R30", "BSPI",
+];
+
+/// The name of a register number: of a number without a register, `R` and its two digits (this project's choice).
 pub fn name_of(number: u8) -> RegName
     requires { number < reg_number_count }
     ensures { result ≡ reg_name number }
 {
-    let text: &'static [u8] = match number {
-        0  => b"CRC",
-        1  => b"FAR",
-        2  => b"FDRI",
-        3  => b"FDRO",
-        4  => b"CMD",
-        5  => b"CTL0",
-        6  => b"MASK",
-        7  => b"STAT",
-        8  => b"LOUT",
-        9  => b"COR0",
-        10 => b"MFWR",
-        11 => b"CBC",
-        12 => b"IDCODE",
-        13 => b"AXSS",
-        14 => b"COR1",
-        15 => b"R15",
-        16 => b"WBSTAR",
-        17 => b"TIMER",
-        18 => b"R18",
-        19 => b"R19",
-        20 => b"R20",
-        21 => b"R21",
-        22 => b"BOOTSTS",
-        23 => b"R23",
-        24 => b"CTL1",
-        25 => b"R25",
-        26 => b"R26",
-        27 => b"R27",
-        28 => b"R28",
-        29 => b"R29",
-        30 => b"R30",
-        _  => b"BSPI",
-    };
-    RegName { text }
+    let name: &'static str = REG_NAMES[usize::from(number)];
+    RegName {
+        text: name.as_bytes(),
+    }
 }
 
 /// The name of a command (UG470, command register).

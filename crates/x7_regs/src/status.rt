@@ -1,7 +1,6 @@
 //! The word of the status register (UG470, status register).
 ghost use Rattle.std.specs.Prelude.{◌≡◌, ◌<◌, ◌*◌, ◌^◌};
 ghost use Rattle.x7_regs.specs.Status.{flag_of, startup_state_of, status_of};
-ghost use Rattle.x7_words.specs.Word.{field_of};
 
 /// What the status register shows, bit by bit (UG470, status register).
 #[derive(Clone, Copy)]
@@ -34,6 +33,38 @@ pub struct StatParts {
     pub bus_width: u8,
 }
 
+// The fields of STAT that may hold a 1, each by the number of its lowest bit (UG470, status register). MODE and
+// STARTUP_STATE have three bits, BUS_WIDTH two, each other one bit.
+const CRC_ERROR: u32 = 0;
+
+const MMCM_LOCK: u32 = 2;
+
+const DCI_MATCH: u32 = 3;
+
+const EOS: u32 = 4;
+
+const GTS_CFG_B: u32 = 5;
+
+const GWE: u32 = 6;
+
+const GHIGH_B: u32 = 7;
+
+const MODE: u32 = 8;
+
+const INIT_COMPLETE: u32 = 11;
+
+const INIT_B: u32 = 12;
+
+const RELEASE_DONE: u32 = 13;
+
+const DONE: u32 = 14;
+
+const ID_ERROR: u32 = 15;
+
+const STARTUP_STATE: u32 = 18;
+
+const BUS_WIDTH: u32 = 25;
+
 /// A word of which the bit of this number alone is 1, where it is set; else 0.
 #[tactic(auto, unfolding(crate::specs::Status::flag_of))]
 fn flag(is_set: bool, bit: u32) -> u32
@@ -65,47 +96,26 @@ fn startup_state(phase: u8) -> u32
 }
 
 /// The word of the status register.
-#[rattlefmt::skip]
 #[tactic(auto, unfolding(crate::specs::Status::status_of))]
 pub fn stat_word(parts: &StatParts) -> u32
     requires mode { parts.now.mode < 8 }
     requires phase { parts.now.phase < 8 }
     requires bus_width { parts.now.bus_width < 4 }
     ensures value { result ≡ status_of parts.now }
-    ensures crc_error { field_of 0 1 result ≡ flag_of parts.now.crc_error }
-    ensures part_secured { field_of 1 1 result ≡ 0 }
-    ensures lock { field_of 2 1 result ≡ flag_of parts.now.lock }
-    ensures matched { field_of 3 1 result ≡ flag_of parts.now.matched }
-    ensures eos { field_of 4 1 result ≡ flag_of parts.now.eos }
-    ensures gts { field_of 5 1 result ≡ flag_of parts.now.gts }
-    ensures gwe { field_of 6 1 result ≡ flag_of parts.now.gwe }
-    ensures ghigh { field_of 7 1 result ≡ flag_of parts.now.ghigh }
-    ensures mode { field_of 8 3 result ≡ parts.now.mode }
-    ensures init_complete { field_of 11 1 result ≡ 1 }
-    ensures init_b { field_of 12 1 result ≡ flag_of parts.now.init_b }
-    ensures release_done { field_of 13 1 result ≡ flag_of parts.now.done }
-    ensures done { field_of 14 1 result ≡ flag_of parts.now.done }
-    ensures id_error { field_of 15 1 result ≡ flag_of parts.now.id_error }
-    ensures dec_error { field_of 16 1 result ≡ 0 }
-    ensures over_temperature { field_of 17 1 result ≡ 0 }
-    ensures startup_state { field_of 18 3 result ≡ startup_state_of parts.now.phase }
-    ensures reserved { field_of 21 4 result ≡ 0 }
-    ensures bus_width { field_of 25 2 result ≡ parts.now.bus_width }
-    ensures upper { field_of 27 5 result ≡ 0 }
 {
-    flag(parts.crc_error, 0)
-        + flag(parts.lock, 2)
-        + flag(parts.matched, 3)
-        + flag(parts.eos, 4)
-        + flag(parts.gts, 5)
-        + flag(parts.gwe, 6)
-        + flag(parts.ghigh, 7)
-        + u32::from(parts.mode) * (1 << 8)
-        + (1 << 11)
-        + flag(parts.init_b, 12)
-        + flag(parts.done, 13)
-        + flag(parts.done, 14)
-        + flag(parts.id_error, 15)
-        + startup_state(parts.phase) * (1 << 18)
-        + u32::from(parts.bus_width) * (1 << 25)
+    flag(parts.crc_error, CRC_ERROR)
+        + flag(parts.lock, MMCM_LOCK)
+        + flag(parts.matched, DCI_MATCH)
+        + flag(parts.eos, EOS)
+        + flag(parts.gts, GTS_CFG_B)
+        + flag(parts.gwe, GWE)
+        + flag(parts.ghigh, GHIGH_B)
+        + u32::from(parts.mode) * (1 << MODE)
+        + (1 << INIT_COMPLETE)
+        + flag(parts.init_b, INIT_B)
+        + flag(parts.done, RELEASE_DONE)
+        + flag(parts.done, DONE)
+        + flag(parts.id_error, ID_ERROR)
+        + startup_state(parts.phase) * (1 << STARTUP_STATE)
+        + u32::from(parts.bus_width) * (1 << BUS_WIDTH)
 }

@@ -1,3 +1,3 @@
-pub mod DigitLemmas
-pub mod LinesLemmas
-pub mod ReportLemmas
+mod DigitLemmas
+mod LinesLemmas
+mod ReportLemmas

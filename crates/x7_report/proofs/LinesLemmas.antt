@@ -1,5 +1,5 @@
 -- Lines of frames, some written at once.
-use Rattle.std.proofs.Common.{◌≡◌, ◌++◌, ℕ, List, [], Option, codes, decimal, length, take, drop, refl, sym, ap, subst, ◌∙◌, append_assoc, append-nil}
+use Rattle.std.proofs.Common.{◌≡◌, ◌++◌, ℕ, Bool, List, [], Option, codes, decimal, length, take, drop, refl, sym, ap, subst, ◌∙◌, append_assoc, append-nil}
 use Rattle.std.proofs.lemmas.Grind.{flat_map-append}
 use Rattle.std.proofs.lemmas.List.{take-append-drop}
 use Rattle.x7_words.specs.Sink.{appended, PutsPrefix}
@@ -9,9 +9,14 @@ use Rattle.x7_part.specs.Part.{PartData}
 use Rattle.x7_memory.specs.FrameMap.{HaveSameFrames, FrameMap}
 use Rattle.x7_memory.specs.PartFrames.{frame_at}
 use Rattle.x7_engine.specs.declared.regs.Regs.{Regs}
+use Rattle.x7_engine.specs.declared.kept.Kept.{Kept}
+use Rattle.x7_engine.specs.Standing.{DeviceState, NoWordDue, frames_due}
+use Rattle.x7_engine.specs.State.{state_of, state_owing}
+use Rattle.x7_engine.proofs.FrameLemmas.{none_frames}
+use Rattle.x7_engine.proofs.StateLemmas.{state_now}
 use Rattle.x7_report.specs.Frames.{frames_text, frame_text_if, frame_lines_text, addresses_shown}
 use Rattle.x7_report.specs.Reads.{reads_text}
-use Rattle.x7_report.specs.Reports.{report_text}
+use Rattle.x7_report.specs.Reports.{report_head, report_text}
 use Rattle.x7_report.specs.State.{state_text}
 use Rattle.x7_report.proofs.ReportLemmas.{frames_same}
 
@@ -65,7 +70,7 @@ head_is name part_name regs state reads old first second third count a b e f g =
     g ∙ ap (λ (t : List ℕ). t ++ codes "frames " ++ decimal count ++ codes "\n") (f ∙ ap (λ (t : List ℕ). t ++ reads_text reads) (e ∙ ap (λ (x : List ℕ). old ++ state_text x regs) a ∙ ap (λ (x : Regs). old ++ state_text part_name x) b))
     ∙ ap (λ (t : List ℕ). t ++ codes "\n") (after old shown (reads_text reads) (codes "frames ") (decimal count)) ∙ append_assoc old (shown ++ reads_text reads ++ codes "frames " ++ decimal count) (codes "\n")
 
-pub play_is : (p q : PartData) (state : Regs) (reads : List ℕ) (frames : List (List ℕ)) (n : FrameMap) (head fars : List ℕ) → p ≡ q → HaveSameFrames (frame_at q frames) n → fars ≡ addresses_shown (frame_at p frames) (addresses_in p) →
+play_is : (p q : PartData) (state : Regs) (reads : List ℕ) (frames : List (List ℕ)) (n : FrameMap) (head fars : List ℕ) → p ≡ q → HaveSameFrames (frame_at q frames) n → fars ≡ addresses_shown (frame_at p frames) (addresses_in p) →
     head ≡ state_text q.name state ++ reads_text reads ++ codes "frames " ++ decimal (length fars) ++ codes "\n" → head ++ frame_lines_text (frame_at p frames) fars ≡ report_text q state reads n
 unfolding report_text frames_text
 play_is p q state reads frames n head fars d same e h =
@@ -76,6 +81,18 @@ play_is p q state reads frames n head fars d same e h =
     ∙ ap (λ (t : List ℕ). prefix ++ (codes "frames " ++ decimal (length t) ++ codes "\n" ++ frame_lines_text m t)) e
     ∙ ap (λ (x : PartData). prefix ++ frames_text (frame_at x frames) (addresses_in x)) d
     ∙ ap (λ (t : List ℕ). prefix ++ t) (frames_same (frame_at q frames) n (addresses_in q) same)
+
+-- the text after which a report begins, and then the whole report
+pub begun_is : (p q : PartData) (state : Regs) (reads : List ℕ) (frames : List (List ℕ)) (n : FrameMap) (old head fars : List ℕ) → p ≡ q → HaveSameFrames (frame_at q frames) n → fars ≡ addresses_shown (frame_at p frames) (addresses_in p)
+    → head ≡ old ++ report_head q state reads (length fars) → head ++ frame_lines_text (frame_at p frames) fars ≡ old ++ report_text q state reads n
+begun_is p q state reads frames n old head fars d same e h =
+    let shown = report_head q state reads (length fars) in
+    let lines = frame_lines_text (frame_at p frames) fars in
+    ap (λ (t : List ℕ). t ++ lines) h ∙ append_assoc old shown lines ∙ ap (λ (t : List ℕ). old ++ t) (play_is p q state reads frames n shown fars d same e refl)
+
+-- where no word is due, the state reported is that of the bytes
+pub owing_none : (part : PartData) (kept : Kept) (wrapped : Bool) (bytes : List ℕ) (d : DeviceState) → NoWordDue d → state_owing part kept wrapped bytes (frames_due d.registers.due) ≡ state_of part kept wrapped bytes
+owing_none part kept wrapped bytes d none = ap (state_owing part kept wrapped bytes) (none_frames d.registers.due none) ∙ state_now part kept wrapped bytes
 
 -- ---- a report that is written
 

@@ -19,9 +19,7 @@ fn put_head(
     reads: &[u32],
     count: usize,
 ) -> Result<(), NoMemory>
-    ensures value { OnOk result (ForEachPast device.now (λ p. NoWordDue device.now
-        → text.new.items ≡ text.old.items ++ report_head p.part (state_at p) reads.now count)) }
-    ensures owing { OnOk result (ForEachPast device.now (λ p.
+    ensures { OnOk result (ForEachPast device.now (λ p.
         text.new.items ≡ text.old.items ++ report_head p.part (state_reported device.now p) reads.now count)) }
 {
     put_state(text, device.part().name(), &device.state())?;
@@ -29,21 +27,19 @@ fn put_head(
     put_frame_count(text, count)
 }
 
-/// What a report has before the lines of its frames, and the addresses of the frames that it shows.
-pub(crate) fn head_and_frames(
+/// Appends what a report has before the lines of its frames, and gives the addresses of the frames that it shows.
+pub(crate) fn begin_report(
     alloc: Global,
+    text: &mut Vec<u8>,
     device: &Device,
     reads: &[u32],
-) -> Result<(Vec<u8>, Vec<u32>), NoMemory>
-    ensures value { IfOk result (λ begun. ForEachPast device.now (λ p. NoWordDue device.now
-        → text_begun device.now begun.0.items begun.1.items ≡ report_text p.part (state_at p) reads.now (memory_at p))) }
-    ensures owing { IfOk result (λ begun. ForEachPast device.now (λ p.
-        text_begun device.now begun.0.items begun.1.items ≡ report_text p.part (state_reported device.now p) reads.now (memory_at p))) }
+) -> Result<Vec<u32>, NoMemory>
+    ensures { IfOk result (λ fars. ForEachPast device.now (λ p.
+        text_begun device.now text.new.items fars.items ≡ text.old.items ++ report_text p.part (state_reported device.now p) reads.now (memory_at p))) }
 {
     let fars = shown_addresses(alloc, device.part(), device.memory())?;
-    let mut head = Vec::new(alloc);
-    put_head(&mut head, device, reads, fars.len())?;
-    Ok((head, fars))
+    put_head(text, device, reads, fars.len())?;
+    Ok(fars)
 }
 
 /// The report of a device and of the words that it read out (this project's choice): `part NAME`; `taken N`, the bytes
@@ -55,7 +51,8 @@ pub fn report(alloc: Global, device: &Device, reads: &[u32]) -> Result<Vec<u8>, 
         → text.items ≡ report_text p.part (state_at p) reads.now (memory_at p))) }
     ensures owing { IfOk result (λ text. ForEachPast device.now (λ p. text.items ≡ report_text p.part (state_reported device.now p) reads.now (memory_at p))) }
 {
-    let (mut text, fars) = head_and_frames(alloc, device, reads)?;
+    let mut text = Vec::new(alloc);
+    let fars = begin_report(alloc, &mut text, device, reads)?;
     put_frame_lines(&mut text, device.part(), device.memory(), &fars)?;
     Ok(text)
 }

@@ -9,7 +9,7 @@ ghost use Rattle.x7_report.specs.Frames.{frame_line_room, room_at_once, frame_li
 ghost use Rattle.x7_report.specs.Reports.{report_text, state_reported};
 
 use crate::frames::{FRAME_LINE_ROOM, put_frame_at};
-use crate::reports::head_and_frames;
+use crate::reports::begin_report;
 use std::alloc::Global;
 use std::marker::Model;
 use x7_engine::Device;
@@ -61,15 +61,26 @@ fn write_lines<S: Sink>(
     Ok(())
 }
 
-/// The report of a device, ready to be written: what comes before the lines of its frames, the addresses of the frames
-/// that it shows, and room for the lines that are written at once.
-#[derive(Drop)]
+/// Lines and after them the report of a device, ready to be written: what comes before the lines of its frames, the
+/// addresses of the frames that it shows, and room for the lines that are written at once.
 pub struct PlayText {
     stopped: bool,
     device: Device,
     head: Vec<u8>,
     fars: Vec<u32>,
     buffer: Vec<u8>,
+}
+
+impl Drop for PlayText {
+    fn drop(self) {
+        let PlayText {
+            stopped: _,
+            device: _,
+            head: _,
+            fars: _,
+            buffer: _,
+        } = self;
+    }
 }
 
 impl Model for PlayText {
@@ -86,22 +97,23 @@ impl Model for PlayText {
 }
 
 impl PlayText {
-    /// The report of a device and of the words that it read out. While words of frame data are due, FAR is that of the
-    /// words given so far. `stopped` says whether what is reported stopped: the device at a fault, or what used the
-    /// device, as a scan that differs or a boot that no attempt started.
+    /// The lines of `head`, and after them the report of a device and of the words that it read out. While words of
+    /// frame data are due, FAR is that of the words given so far. `stopped` says whether what is reported stopped: the
+    /// device at a fault, or what used the device, as a scan that differs or a boot that no attempt started.
     pub fn new(
         alloc: Global,
+        mut head: Vec<u8>,
         device: Device,
         reads: &[u32],
         stopped: bool,
     ) -> Result<PlayText, NoMemory>
         ensures value { IfOk result (λ text. ForEachPast device (λ p. NoWordDue device
-            → text ≡ record { stopped = stopped; text = report_text p.part (state_at p) reads.now (memory_at p) })) }
+            → text ≡ record { stopped = stopped; text = head.items ++ report_text p.part (state_at p) reads.now (memory_at p) })) }
         ensures owing { IfOk result (λ text. ForEachPast device (λ p.
-            text ≡ record { stopped = stopped; text = report_text p.part (state_reported device p) reads.now (memory_at p) })) }
+            text ≡ record { stopped = stopped; text = head.items ++ report_text p.part (state_reported device p) reads.now (memory_at p) })) }
     {
         let buffer = Vec::with_capacity(alloc, ROOM_AT_ONCE)?;
-        let (head, fars) = head_and_frames(alloc, &device, reads)?;
+        let fars = begin_report(alloc, &mut head, &device, reads)?;
         Ok(PlayText {
             stopped,
             device,
@@ -111,17 +123,7 @@ impl PlayText {
         })
     }
 
-    /// The report with other lines before it.
-    pub fn after(mut self, lines: Vec<u8>) -> Result<PlayText, NoMemory>
-        ensures { IfOk result (λ text. text ≡ record { stopped = self.stopped; text = lines.items ++ self.text }) }
-    {
-        let mut head = lines;
-        head.extend_from_slice(&self.head)?;
-        self.head = head;
-        Ok(self)
-    }
-
-    /// Whether what it reports stopped, as it was made with.
+    /// Whether what is reported stopped, as `new` was told.
     pub fn is_stopped(&self) -> bool
         ensures { result ≡ self.now.stopped }
     {

@@ -77,25 +77,8 @@ fn due_out<'a>(expected: &'a Expected, came: &'a [u8]) -> &'a [u8] {
     }
 }
 
-/// The message that should come, where a call of `err` failed a prefix of it.
-fn due_err<'a>(expected: &'a Expected, variation: &Variation, came: &'a [u8]) -> &'a [u8] {
-    if variation.fails_err() {
-        prefix_of(&expected.err, came)
-    } else {
-        &expected.err
-    }
-}
-
-/// What the flash should hold afterwards.
-fn due_flash<'a>(expected: &'a Expected, given: &'a Given) -> &'a [u8] {
-    if expected.has_flash {
-        &expected.flash
-    } else {
-        &given.flash.bytes
-    }
-}
-
-/// Compares all that a run left with what it should come to.
+/// Compares all that a run left with what it should come to. Where a call of `err` failed, a prefix of the message will
+/// do.
 pub(crate) fn compare<'a>(
     notes: &mut Notes,
     given: &'a Given,
@@ -104,19 +87,26 @@ pub(crate) fn compare<'a>(
     came: &'a Ending,
 ) {
     let mut due = all_of(came);
-    due.flash = due_flash(expected, given);
+    due.flash = if expected.has_flash {
+        &expected.flash
+    } else {
+        &given.flash.bytes
+    };
     if let Extent::Any = expected.extent {
         return compare_run(notes, due, came);
     }
-    let text = due.out;
     due.status = expected.status;
-    due.out = due_out(expected, text);
-    due.err = due_err(expected, variation, due.err);
+    due.out = due_out(expected, &came.out);
+    due.err = if variation.fails_err() {
+        prefix_of(&expected.err, &came.err)
+    } else {
+        &expected.err
+    };
     compare_run(notes, due, came);
     if let Some(length) = expected.length {
-        notes.compare_numbers("out length", u64::from(length), text.len() as u64);
+        notes.compare_numbers("out length", u64::from(length), came.out.len() as u64);
     }
     if let Extent::Parts = expected.extent {
-        compare_parts(notes, &expected.out, text);
+        compare_parts(notes, &expected.out, &came.out);
     }
 }

@@ -1,4 +1,4 @@
-//! What a run should come to.
+//! What a run should come to, and what is kept of it.
 use crate::fault::Fault;
 use crate::named::{Named, put};
 use crate::token::put_line;
@@ -18,7 +18,6 @@ pub(crate) enum Extent {
 }
 
 /// What a run should come to.
-#[derive(Drop)]
 pub(crate) struct Expected {
     alloc: Global,
     /// The status of the command.
@@ -35,10 +34,31 @@ pub(crate) struct Expected {
     pub(crate) has_flash: bool,
     /// The bytes of the flash afterwards, where the case says them.
     pub(crate) flash: Vec<u8>,
+    /// The name under which later cases have what `out` got; empty where they don't.
+    pub(crate) kept: String,
+    /// Whether later cases have what the flash holds in place of what `out` got.
+    pub(crate) keeps_flash: bool,
+}
+
+impl Drop for Expected {
+    fn drop(self) {
+        let Expected {
+            alloc: _,
+            status: _,
+            extent: _,
+            out: _,
+            length: _,
+            err: _,
+            has_flash: _,
+            flash: _,
+            kept: _,
+            keeps_flash: _,
+        } = self;
+    }
 }
 
 impl Expected {
-    /// Status 0, and no text.
+    /// Status 0 and no text, and nothing is kept.
     pub(crate) fn new(alloc: Global) -> Expected {
         Expected {
             alloc,
@@ -49,28 +69,27 @@ impl Expected {
             err: Vec::new(alloc),
             has_flash: false,
             flash: Vec::new(alloc),
+            kept: String::new(alloc),
+            keeps_flash: false,
         }
     }
 
-    /// Takes a line that says what a run comes to.
+    /// Takes a line that says what a run comes to, or what is kept of it.
     pub(crate) fn take(&mut self, shared: &[Named], key: &str, rest: &str) -> Result<(), Fault> {
         match key {
             "out" | "out_lines" | "out_bytes" | "out_slice" => {
-                put(self.alloc, &mut self.out, shared, key, rest)
+                return put(self.alloc, &mut self.out, shared, key, rest);
             }
-            "err" => put_line(&mut self.err, rest),
+            "err" => return put_line(&mut self.err, rest),
             "flash_after" | "flash_after_slice" => {
                 self.has_flash = true;
-                put(self.alloc, &mut self.flash, shared, key, rest)
+                return put(self.alloc, &mut self.flash, shared, key, rest);
             }
-            _ => self.take_extent(key, rest),
-        }
-    }
-
-    /// Takes a line that says the status, or how much of the text is given.
-    fn take_extent(&mut self, key: &str, rest: &str) -> Result<(), Fault> {
-        match key {
-            "status" => self.status = rest.parse::<u8>()?,
+            "keep" | "keep_flash" => {
+                self.keeps_flash = key == "keep_flash";
+                self.kept.clear();
+                return self.kept.push_str(rest).or(Err(Fault::NoMemory));
+            }
             "has" => {
                 self.extent = Extent::Parts;
                 return put_line(&mut self.out, rest);
@@ -79,6 +98,7 @@ impl Expected {
                 self.extent = Extent::Parts;
                 self.length = Some(rest.parse::<u32>()?);
             }
+            "status" => self.status = rest.parse::<u8>()?,
             "prefix" => self.extent = Extent::Prefix,
             "any" => self.extent = Extent::Any,
             _ => return Err(Fault::Key),

@@ -15,11 +15,6 @@ const WRITE_FAULT: u8 = 7;
 /// The message of a run in which a write failed.
 const WRITE_MESSAGE: &[u8] = b"x7: write fault\n";
 
-/// Notes where a run in which no call failed differs from the whole run.
-pub(crate) fn compare_alike(notes: &mut Notes, whole: &Ending, came: &Ending) {
-    compare_run(notes, all_of(whole), came);
-}
-
 /// The name in the message of a read fault.
 fn name_of(message: &[u8]) -> Option<&str> {
     text_of(message)

@@ -3,7 +3,6 @@ use crate::damage::{Damage, Damaged};
 use crate::fault::Fault;
 use crate::named::{Named, put, put_named};
 use crate::token::{first_word, positive, put_number};
-use crate::writing::Writing;
 use std::alloc::Global;
 
 /// An object that a run works on, and whose calls can fail.
@@ -55,7 +54,6 @@ pub(crate) struct Failing {
 }
 
 /// What a case gives to a run.
-#[derive(Drop)]
 pub(crate) struct Given {
     alloc: Global,
     /// The words of the command line.
@@ -66,8 +64,14 @@ pub(crate) struct Given {
     pub(crate) damaged: Damaged,
     /// The flash of the run: without bytes and a name where the case has none.
     pub(crate) flash: Named,
-    /// How much the flash records of its writes, and which of them is torn.
-    pub(crate) writing: Writing,
+    /// How many writes the flash has room to record.
+    pub(crate) write_room: u32,
+    /// How many bytes of their ranges it has room for.
+    pub(crate) range_room: u32,
+    /// The number of the call that is torn, from 1 among the flash's; 0 for none.
+    pub(crate) torn_call: u32,
+    /// The bits of each byte of the torn write that keep their old value.
+    pub(crate) torn_bits: u8,
     /// The most bytes of one read: a run for each, or one run without a limit.
     pub(crate) pieces: Vec<u32>,
     /// The most bytes of one read of a run that should come to the same as the one beside it.
@@ -80,6 +84,28 @@ pub(crate) struct Given {
     pub(crate) each: Vec<Object>,
     /// The most bytes that `out` takes.
     pub(crate) room: u32,
+}
+
+impl Drop for Given {
+    fn drop(self) {
+        let Given {
+            alloc: _,
+            words: _,
+            inputs: _,
+            damaged: _,
+            flash: _,
+            write_room: _,
+            range_room: _,
+            torn_call: _,
+            torn_bits: _,
+            pieces: _,
+            alike: _,
+            write_piece: _,
+            failing: _,
+            each: _,
+            room: _,
+        } = self;
+    }
 }
 
 /// Takes a number from 1.
@@ -122,7 +148,10 @@ impl Given {
                 name: String::new(alloc),
                 bytes: Vec::new(alloc),
             },
-            writing: Writing::new(),
+            write_room: 0,
+            range_room: 0,
+            torn_call: 0,
+            torn_bits: 0,
             pieces: Vec::new(alloc),
             alike: Vec::new(alloc),
             write_piece: u32::MAX,
@@ -145,6 +174,22 @@ impl Given {
         put(self.alloc, &mut flash.bytes, shared, key, rest)
     }
 
+    /// Takes `WRITES BYTES`: what the flash has room to record.
+    fn put_room(&mut self, line: &str) -> Result<(), Fault> {
+        let (writes, bytes) = first_word(line);
+        self.write_room = positive(writes)?;
+        self.range_room = positive(bytes)?;
+        Ok(())
+    }
+
+    /// Takes `CALL HEX`: the call that is torn, and the bits that keep their old value.
+    fn put_tear(&mut self, line: &str) -> Result<(), Fault> {
+        let (call, bits) = first_word(line);
+        self.torn_call = positive(call)?;
+        self.torn_bits = u8::from_str_radix(bits, 16)?;
+        Ok(())
+    }
+
     /// Takes a line that says what a run is given.
     pub(crate) fn take(&mut self, shared: &[Named], key: &str, rest: &str) -> Result<(), Fault> {
         match key {
@@ -154,15 +199,8 @@ impl Given {
             "flash" | "flash_slice" => self.put_flash(shared, key, rest),
             "cut_each" => self.damaged.put(Damage::Cut, shared, rest),
             "change_each" => self.damaged.put(Damage::Bit, shared, rest),
-            _ => self.take_limit(key, rest),
-        }
-    }
-
-    /// Takes a line that says what calls take and give, and which of them fail.
-    fn take_limit(&mut self, key: &str, rest: &str) -> Result<(), Fault> {
-        match key {
-            "flash_room" => self.writing.put_room(rest),
-            "flash_tears" => self.writing.put_tear(rest),
+            "flash_room" => self.put_room(rest),
+            "flash_tears" => self.put_tear(rest),
             "write_piece" => put_positive(&mut self.write_piece, rest),
             "room" => put_positive(&mut self.room, rest),
             "fails_each" => put_each(&mut self.each, rest),
@@ -173,18 +211,14 @@ impl Given {
     /// Takes a line of words, or of numbers.
     fn take_list(&mut self, key: &str, rest: &str) -> Result<(), Fault> {
         for token in rest.split(' ') {
-            self.take_token(key, token)?;
+            let done = match key {
+                "words" => put_word(self.alloc, &mut self.words, token),
+                "piece" => put_number(&mut self.pieces, token),
+                "alike" => put_number(&mut self.alike, token),
+                _ => put_failing(&mut self.failing, key, token),
+            };
+            done?;
         }
         Ok(())
-    }
-
-    /// Takes one of a line's words or numbers.
-    fn take_token(&mut self, key: &str, token: &str) -> Result<(), Fault> {
-        match key {
-            "words" => put_word(self.alloc, &mut self.words, token),
-            "piece" => put_number(&mut self.pieces, token),
-            "alike" => put_number(&mut self.alike, token),
-            _ => put_failing(&mut self.failing, key, token),
-        }
     }
 }

@@ -1,7 +1,6 @@
 //! Runs worked cases of a command over objects in memory.
 #![tactic(auto)]
 
-mod case;
 mod command;
 mod comparing;
 mod damage;
@@ -15,7 +14,6 @@ mod running;
 mod subject;
 mod token;
 mod trial;
-mod writing;
 
 pub use command::Command;
 pub use fault::Fault;

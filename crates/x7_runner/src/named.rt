@@ -4,10 +4,15 @@ use crate::token::{append, first_word, put_line, put_lines, put_tokens, range_of
 use std::alloc::Global;
 
 /// Bytes under a name.
-#[derive(Drop)]
 pub(crate) struct Named {
     pub(crate) name: String,
     pub(crate) bytes: Vec<u8>,
+}
+
+impl Drop for Named {
+    fn drop(self) {
+        let Named { name: _, bytes: _ } = self;
+    }
 }
 
 /// The place of the name in the list; the list's length where it lacks the name.
@@ -68,14 +73,6 @@ fn slice_of<'a>(list: &'a [Named], line: &str) -> Option<&'a [u8]> {
     bytes_of(list, name)?.get(from as usize..to as usize)
 }
 
-/// Appends the bytes of `NAME FROM TO` in the list.
-fn put_slice(bytes: &mut Vec<u8>, list: &[Named], line: &str) -> Result<(), Fault> {
-    match slice_of(list, line) {
-        Some(slice) => append(bytes, slice),
-        None => Err(Fault::Line),
-    }
-}
-
 /// Appends what stands in a line, in the form that its key has: bytes of the others, a line N times or once, or bytes
 /// in hex digits.
 pub(crate) fn put(
@@ -86,7 +83,7 @@ pub(crate) fn put(
     rest: &str,
 ) -> Result<(), Fault> {
     if key.ends_with("slice") {
-        return put_slice(bytes, others, rest);
+        return append(bytes, slice_of(others, rest).ok_or(Fault::Line)?);
     }
     if key.ends_with("lines") {
         return put_lines(alloc, bytes, rest);

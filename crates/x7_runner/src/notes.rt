@@ -47,7 +47,6 @@ fn shown(alloc: Global, line: &[u8]) -> Result<String, Fault> {
 }
 
 /// Notes on the runs of one file of cases.
-#[derive(Drop)]
 pub(crate) struct Notes {
     alloc: Global,
     /// The case, and what differs from run to run.
@@ -56,6 +55,17 @@ pub(crate) struct Notes {
     pub(crate) text: String,
     /// Whether memory lacked for a run or for a note on it, so that the notes say too little.
     pub(crate) lacks_memory: bool,
+}
+
+impl Drop for Notes {
+    fn drop(self) {
+        let Notes {
+            alloc: _,
+            run: _,
+            text: _,
+            lacks_memory: _,
+        } = self;
+    }
 }
 
 impl Notes {

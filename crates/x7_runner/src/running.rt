@@ -63,7 +63,6 @@ impl Variation {
 }
 
 /// How a run ended, and what it left.
-#[derive(Drop)]
 pub(crate) struct Ending {
     /// The status of the command.
     pub(crate) status: u8,
@@ -75,6 +74,18 @@ pub(crate) struct Ending {
     pub(crate) err: Vec<u8>,
     /// What the flash holds.
     pub(crate) flash: Vec<u8>,
+}
+
+impl Drop for Ending {
+    fn drop(self) {
+        let Ending {
+            status: _,
+            is_spared: _,
+            out: _,
+            err: _,
+            flash: _,
+        } = self;
+    }
 }
 
 impl Ending {
@@ -91,12 +102,22 @@ impl Ending {
 }
 
 /// The objects that a run works on.
-#[derive(Drop)]
 struct Objects {
     inputs: MemoryInputs,
     flash: MemoryFlash,
     out: MemorySink,
     err: MemorySink,
+}
+
+impl Drop for Objects {
+    fn drop(self) {
+        let Objects {
+            inputs: _,
+            flash: _,
+            out: _,
+            err: _,
+        } = self;
+    }
 }
 
 /// Puts all inputs of the list.
@@ -139,17 +160,8 @@ impl Objects {
         }
     }
 
-    /// Says how many bytes each call takes or gives at most, and which of them fails.
-    fn limit(&mut self, given: &Given, variation: &Variation) -> Result<(), NoMemory> {
-        self.inputs.piece((variation.piece as usize).max(1));
-        let piece = (given.write_piece as usize).max(1);
-        self.out.piece(piece);
-        self.err.piece(piece);
-        self.fail(variation.object, variation.call)?;
-        self.fail(Object::Err, u32::from(variation.is_mute))
-    }
-
-    /// Puts the inputs of the file of cases, and the case's own, which come before them, and prepares the calls.
+    /// Puts the inputs of the file of cases, and the case's own, which come before them, and says how many bytes each
+    /// call takes or gives at most, and which calls fail.
     fn prepare(
         &mut self,
         shared: &[Named],
@@ -159,8 +171,18 @@ impl Objects {
         put_all(&mut self.inputs, shared)?;
         put_all(&mut self.inputs, &given.inputs)?;
         given.damaged.give(&mut self.inputs, variation.damage)?;
-        given.writing.prepare(&mut self.flash)?;
-        self.limit(given, variation)?;
+        self.inputs.piece((variation.piece as usize).max(1));
+        let piece = (given.write_piece as usize).max(1);
+        self.out.piece(piece);
+        self.err.piece(piece);
+        let (writes, bytes) = (given.write_room, given.range_room);
+        self.flash.make_room(u64::from(writes), u64::from(bytes))?;
+        if given.torn_call > 0 {
+            let call = u64::from(given.torn_call);
+            self.flash.tear_at(call, given.torn_bits);
+        }
+        self.fail(variation.object, variation.call)?;
+        self.fail(Object::Err, u32::from(variation.is_mute))?;
         Ok(())
     }
 

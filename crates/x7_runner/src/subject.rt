@@ -1,17 +1,17 @@
 //! A file of cases: its shared inputs, and its cases one after the other.
-use crate::case::Case;
 use crate::command::Command;
+use crate::expected::Expected;
 use crate::fault::Fault;
+use crate::given::Given;
 use crate::named::{Named, has_name, put_named, put_under};
 use crate::notes::Notes;
 use crate::running::Ending;
 use crate::token::first_word;
-use crate::trial::Trial;
+use crate::trial::{Case, Trial};
 use std::alloc::Global;
 use x7_words::raised;
 
 /// A file of cases, by the lines taken so far.
-#[derive(Drop)]
 struct Subject {
     alloc: Global,
     /// The inputs of each case: the part file `p`, the streams named outside a case, and what cases kept.
@@ -30,17 +30,37 @@ struct Subject {
     came: Ending,
 }
 
+impl Drop for Subject {
+    fn drop(self) {
+        let Subject {
+            alloc: _,
+            shared: _,
+            is_open: _,
+            case: _,
+            notes: _,
+            good: _,
+            kept: _,
+            came: _,
+        } = self;
+    }
+}
+
 /// Makes the text of a case's run, or what its flash holds, an input of later cases, under a name that none has yet,
 /// where the case says so.
-fn keep(alloc: Global, shared: &mut Vec<Named>, case: &Case, kept: &Ending) -> Result<(), Fault> {
-    let name = case.kept.as_str();
+fn keep(
+    alloc: Global,
+    shared: &mut Vec<Named>,
+    expected: &Expected,
+    kept: &Ending,
+) -> Result<(), Fault> {
+    let name = expected.kept.as_str();
     if name.is_empty() {
         return Ok(());
     }
     if has_name(shared, name) {
         return Err(Fault::Line);
     }
-    let bytes = if case.keeps_flash {
+    let bytes = if expected.keeps_flash {
         &kept.flash
     } else {
         &kept.out
@@ -55,7 +75,11 @@ impl Subject {
             alloc,
             shared: Vec::new(alloc),
             is_open: false,
-            case: Case::new(alloc),
+            case: Case {
+                name: String::new(alloc),
+                given: Given::new(alloc),
+                expected: Expected::new(alloc),
+            },
             notes: Notes::new(alloc),
             good: 0,
             kept: Ending::new(alloc),
@@ -84,17 +108,10 @@ impl Subject {
     /// Opens a case of this name.
     fn open(&mut self, name: &str) -> Result<(), Fault> {
         self.is_open = true;
-        self.case = Case::new(self.alloc);
+        self.case.given = Given::new(self.alloc);
+        self.case.expected = Expected::new(self.alloc);
+        self.case.name.clear();
         self.case.name.push_str(name).or(Err(Fault::NoMemory))
-    }
-
-    /// Takes a line outside a case.
-    fn take_outside(&mut self, key: &str, rest: &str) -> Result<(), Fault> {
-        match key {
-            "case" => self.open(rest),
-            "stream" => put_named(self.alloc, &mut self.shared, &[], key, rest),
-            _ => Err(Fault::Line),
-        }
     }
 
     /// Takes a line of the file.
@@ -103,49 +120,43 @@ impl Subject {
             return Ok(());
         }
         let (key, rest) = first_word(line);
-        if !self.is_open {
-            return self.take_outside(key, rest);
-        }
-        if line == "end" {
-            self.is_open = false;
-            self.run(command);
-            return keep(self.alloc, &mut self.shared, &self.case, &self.kept);
-        }
-        self.case.take(&self.shared, key, rest)
-    }
-
-    /// Takes a line of this number, and notes where it isn't taken.
-    fn take_numbered<C: Command>(&mut self, command: &C, name: &str, number: u64, line: &str) {
-        match self.take(command, line) {
-            Ok(()) => {}
-            Err(Fault::NoMemory) => self.notes.lacks_memory = true,
-            Err(_) => self
-                .notes
-                .put_line(name, "line ", number, " is not taken: ", line),
+        match key {
+            "case" if !self.is_open => self.open(rest),
+            "stream" if !self.is_open => put_named(self.alloc, &mut self.shared, &[], key, rest),
+            _ if !self.is_open => Err(Fault::Line),
+            _ if line == "end" => {
+                self.is_open = false;
+                self.run(command);
+                let expected = &self.case.expected;
+                keep(self.alloc, &mut self.shared, expected, &self.kept)
+            }
+            _ => match self.case.given.take(&self.shared, key, rest) {
+                Err(Fault::Key) => self.case.expected.take(&self.shared, key, rest),
+                taken => taken,
+            },
         }
     }
 
-    /// Takes all lines of the file, as long as memory is left.
+    /// Takes all lines of the file, as long as memory is left, and notes each that isn't one of the format.
     fn take_all<C: Command>(&mut self, command: &C, name: &str, text: &str) {
         let mut number = 0;
         for line in text.lines() {
             number = raised(number);
-            if !self.notes.lacks_memory {
-                self.take_numbered(command, name, number, line);
+            match self.take(command, line) {
+                Ok(()) => {}
+                Err(Fault::NoMemory) => self.notes.lacks_memory = true,
+                Err(_) => self
+                    .notes
+                    .put_line(name, "line ", number, " is not taken: ", line),
+            }
+            if self.notes.lacks_memory {
+                return;
             }
         }
     }
 
-    /// Notes a case without an end, and how many cases came as they are written.
-    fn finish(&mut self, name: &str) {
-        if self.is_open {
-            self.notes.put_open(self.case.name.as_str());
-        }
-        let good = u64::from(self.good);
-        self.notes.put_line(name, "", good, " cases as written", "");
-    }
-
-    /// Takes the part file as the input `p`, and then the whole file, and appends the report.
+    /// Takes the part file as the input `p`, and then the whole file, and appends the report: the notes, also on a case
+    /// without an end, and how many cases came as they are written.
     fn run_all<C: Command>(
         &mut self,
         command: &C,
@@ -156,7 +167,11 @@ impl Subject {
     ) -> Result<(), Fault> {
         put_under(self.alloc, &mut self.shared, "p", part)?;
         self.take_all(command, name, text);
-        self.finish(name);
+        if self.is_open {
+            self.notes.put_open(self.case.name.as_str());
+        }
+        let good = u64::from(self.good);
+        self.notes.put_line(name, "", good, " cases as written", "");
         if self.notes.lacks_memory {
             return Err(Fault::NoMemory);
         }

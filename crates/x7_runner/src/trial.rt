@@ -1,9 +1,9 @@
 //! All runs of one case.
-use crate::case::Case;
 use crate::command::Command;
-use crate::comparing::compare;
-use crate::failing::{Blamed, compare_alike, compare_failed};
-use crate::given::Object;
+use crate::comparing::{all_of, compare, compare_run};
+use crate::expected::Expected;
+use crate::failing::{Blamed, compare_failed};
+use crate::given::{Given, Object};
 use crate::named::Named;
 use crate::notes::Notes;
 use crate::running::{Ending, Variation, run_command};
@@ -12,6 +12,29 @@ use std::mem::swap;
 
 /// The most calls of an object that fail in turn.
 const MOST_CALLS: u32 = 1_000_000;
+
+/// The limits of one read, in bytes, where a case gives none: one run without a limit.
+const NO_LIMIT: [u32; 1] = [u32::MAX];
+
+/// A case, by the lines taken so far.
+pub(crate) struct Case {
+    /// The name, as the notes on its runs have it.
+    pub(crate) name: String,
+    /// What its runs are given.
+    pub(crate) given: Given,
+    /// What they should come to.
+    pub(crate) expected: Expected,
+}
+
+impl Drop for Case {
+    fn drop(self) {
+        let Case {
+            name: _,
+            given: _,
+            expected: _,
+        } = self;
+    }
+}
 
 /// A case and the inputs that it shares with others of its file, the command, and what its runs left.
 #[derive(Drop)]
@@ -70,7 +93,7 @@ impl<'a, C: Command> Trial<'a, C> {
         self.run_once(variation);
         let object = variation.object;
         if self.came.is_spared {
-            compare_alike(self.notes, self.kept, self.came);
+            compare_run(self.notes, all_of(self.kept), self.came);
         } else {
             let words = &self.case.given.words;
             compare_failed(self.notes, words, blamed, object, self.kept, self.came);
@@ -114,7 +137,7 @@ impl<'a, C: Command> Trial<'a, C> {
         for piece in &self.case.given.alike {
             variation.piece = *piece;
             self.run_once(&variation);
-            compare_alike(self.notes, self.kept, self.came);
+            compare_run(self.notes, all_of(self.kept), self.came);
         }
     }
 
@@ -144,21 +167,18 @@ impl<'a, C: Command> Trial<'a, C> {
         }
     }
 
-    /// All runs with one damage of an input.
-    fn run_pieces(&mut self, damage: u32) {
-        if self.case.given.pieces.is_empty() {
-            self.run_piece(damage, u32::MAX);
-        }
-        for piece in &self.case.given.pieces {
-            self.run_piece(damage, *piece);
-        }
-    }
-
-    /// All runs of the case.
+    /// All runs of the case: for each damage of an input those with each limit of a read.
     pub(crate) fn run(&mut self) {
-        let damaged = &self.case.given.damaged;
-        for number in damaged.from..damaged.to {
-            self.run_pieces(number);
+        let given = &self.case.given;
+        let pieces: &[u32] = if given.pieces.is_empty() {
+            &NO_LIMIT
+        } else {
+            &given.pieces
+        };
+        for damage in given.damaged.from..given.damaged.to {
+            for piece in pieces {
+                self.run_piece(damage, *piece);
+            }
         }
     }
 }

@@ -1,4 +1,4 @@
 pub mod CallLemmas
 pub mod WatchdogLemmas
 pub mod PhaseLemmas
-pub mod TickLemmas
+mod TickLemmas

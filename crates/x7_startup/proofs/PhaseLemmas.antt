@@ -3,30 +3,30 @@ use Rattle.std.proofs.Common.{◌≡◌, ℕ, zero, suc, ◌+◌, ◌-◌, ◌<�
 use Rattle.std.proofs.lemmas.Bool.{cases_lt}
 use Rattle.x7_startup.specs.Phases.{first_tick_of, IsPhase}
 
-pub arrival_grows : (w : ℕ → ℕ) (p : ℕ) → first_tick_of w p + 1 ≤ first_tick_of w (suc p)
+pub first_tick_grows : (w : ℕ → ℕ) (p : ℕ) → first_tick_of w p + 1 ≤ first_tick_of w (suc p)
 unfolding first_tick_of
-arrival_grows w p = omega arith
+first_tick_grows w p = omega arith
 
-pub arrival_waits : (w : ℕ → ℕ) (p : ℕ) → w p + 1 ≤ first_tick_of w (suc p)
+pub first_tick_waits : (w : ℕ → ℕ) (p : ℕ) → w p + 1 ≤ first_tick_of w (suc p)
 unfolding first_tick_of
-arrival_waits w p = omega arith
+first_tick_waits w p = omega arith
 
-pub arrival_comes : (w : ℕ → ℕ) (p t : ℕ) → first_tick_of w p ≤ t → w p ≤ t → first_tick_of w (suc p) ≤ t + 1
+pub first_tick_comes : (w : ℕ → ℕ) (p t : ℕ) → first_tick_of w p ≤ t → w p ≤ t → first_tick_of w (suc p) ≤ t + 1
 unfolding first_tick_of
-arrival_comes w p t h k = omega arith
+first_tick_comes w p t h k = omega arith
 
-arrival_far : (w : ℕ → ℕ) (p k : ℕ) → first_tick_of w p ≤ first_tick_of w (p + k)
-arrival_far w p zero = let e : p + 0 ≡ p = omega arith in rw e (omega arith)
-arrival_far w p (suc k) =
+first_tick_rises_by : (w : ℕ → ℕ) (p k : ℕ) → first_tick_of w p ≤ first_tick_of w (p + k)
+first_tick_rises_by w p zero = let e : p + 0 ≡ p = omega arith in rw e (omega arith)
+first_tick_rises_by w p (suc k) =
     let e : p + suc k ≡ suc (p + k) = omega arith in
-    let h : first_tick_of w p ≤ first_tick_of w (p + k) = arrival_far w p k in
-    let g : first_tick_of w (p + k) + 1 ≤ first_tick_of w (suc (p + k)) = arrival_grows w (p + k) in
+    let h : first_tick_of w p ≤ first_tick_of w (p + k) = first_tick_rises_by w p k in
+    let g : first_tick_of w (p + k) + 1 ≤ first_tick_of w (suc (p + k)) = first_tick_grows w (p + k) in
     rw e (omega arith)
 
-pub arrival_rises : (w : ℕ → ℕ) (p q : ℕ) → p ≤ q → first_tick_of w p ≤ first_tick_of w q
-arrival_rises w p q h =
+pub first_tick_rises : (w : ℕ → ℕ) (p q : ℕ) → p ≤ q → first_tick_of w p ≤ first_tick_of w q
+first_tick_rises w p q h =
     let e : p + (q - p) ≡ q = omega arith in
-    let far : first_tick_of w p ≤ first_tick_of w (p + (q - p)) = arrival_far w p (q - p) in
+    let far : first_tick_of w p ≤ first_tick_of w (p + (q - p)) = first_tick_rises_by w p (q - p) in
     rw e at far
 
 pub phase_first : (w : ℕ → ℕ) → IsPhase w 0 0
@@ -35,8 +35,8 @@ phase_first w = record {
   most = omega arith;
   begun = omega arith;
   greatest = λ p small h. elim (cases_lt 0 p) [
-    | inl some ↦ let up : first_tick_of w 1 ≤ first_tick_of w p = arrival_rises w 1 p some in
-        let one : 0 + 1 ≤ first_tick_of w 1 = arrival_grows w 0 in absurd (omega arith)
+    | inl some ↦ let up : first_tick_of w 1 ≤ first_tick_of w p = first_tick_rises w 1 p some in
+        let one : 0 + 1 ≤ first_tick_of w 1 = first_tick_grows w 0 in absurd (omega arith)
     | inr none ↦ none
   ];
 }
@@ -47,8 +47,8 @@ phase_stays w t k p s h = record {
   most = s.most;
   begun = let b : first_tick_of w p ≤ t = s.begun in omega arith;
   greatest = λ q small come. elim (cases_lt p q) [
-    | inl above ↦ let up : first_tick_of w (suc p) ≤ first_tick_of w q = arrival_rises w (suc p) q above in
-        let waits : w p + 1 ≤ first_tick_of w (suc p) = arrival_waits w p in absurd (omega arith)
+    | inl above ↦ let up : first_tick_of w (suc p) ≤ first_tick_of w q = first_tick_rises w (suc p) q above in
+        let waits : w p + 1 ≤ first_tick_of w (suc p) = first_tick_waits w p in absurd (omega arith)
     | inr below ↦ below
   ];
 }
@@ -66,10 +66,10 @@ phase_moves w t p s h k =
     let b : first_tick_of w p ≤ t = s.begun in
     rw e record {
       most = omega arith;
-      begun = arrival_comes w p t b k;
+      begun = first_tick_comes w p t b k;
       greatest = λ q small come. elim (cases_lt (suc p) q) [
-        | inl above ↦ let up : first_tick_of w (suc (suc p)) ≤ first_tick_of w q = arrival_rises w (suc (suc p)) q above in
-            let more : first_tick_of w (suc p) + 1 ≤ first_tick_of w (suc (suc p)) = arrival_grows w (suc p) in
+        | inl above ↦ let up : first_tick_of w (suc (suc p)) ≤ first_tick_of w q = first_tick_rises w (suc (suc p)) q above in
+            let more : first_tick_of w (suc p) + 1 ≤ first_tick_of w (suc (suc p)) = first_tick_grows w (suc p) in
             let now : suc p ≤ p = s.greatest (suc p) h (omega arith) in absurd (omega arith)
         | inr below ↦ below
       ];

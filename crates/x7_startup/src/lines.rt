@@ -51,7 +51,7 @@ fn line_phase(code: u32, done: u8) -> Option<u8>
     }
 }
 
-/// Whether a line that rises in this phase, if it rises, is 1.
+/// Whether a line that rises in phase `rise`, or never, is 1 in phase `phase`.
 fn is_up(rise: Option<u8>, phase: u8) -> bool
     ensures { result ≡ has_risen rise phase }
 {

@@ -5,8 +5,8 @@ use Rattle.x7_listing.specs.declared.assembler.AsmFault.{AsmFault}
 use Rattle.x7_listing.specs.declared.assembler.AsmFault.TheVariants as fault
 use Rattle.x7_words.specs.Input.{InputsState}
 use Rattle.x7_forms.specs.Event.{Event, no_memory}
-use Rattle.x7_forms.specs.Known.{Answer, whole_known}
-use Rattle.x7_outcome.specs.Outcome.{AssembledAs, asm_event, text_limit}
+use Rattle.x7_forms.specs.Known.{Answer, whole_known, text_limit}
+use Rattle.x7_outcome.specs.Outcome.{AssembledAs, asm_event}
 use Rattle.x7_forms.specs.Step.{IsDecided, IsPossible, ReadsWhole}
 use Rattle.x7_forms.specs.Form.{Assembling}
 use Rattle.x7_outcome.specs.Ending.{AnswersForm}

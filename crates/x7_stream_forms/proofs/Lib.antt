@@ -1,9 +1,9 @@
-pub mod AheadLemmas
-pub mod AsmLemmas
-pub mod Causes
-pub mod FullTextLemmas
-pub mod McsLemmas
-pub mod PlanLemmas
-pub mod ReadyLemmas
-pub mod StopLemmas
-pub mod TurnLemmas
+mod AheadLemmas
+mod AsmLemmas
+mod Causes
+mod FullTextLemmas
+mod McsLemmas
+mod PlanLemmas
+mod ReadyLemmas
+mod StopLemmas
+mod TurnLemmas

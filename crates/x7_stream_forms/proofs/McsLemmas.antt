@@ -8,10 +8,10 @@ use Rattle.x7_mcs.specs.declared.fault.McsFault.{McsFault}
 use Rattle.x7_mcs.specs.declared.fault.McsFault.TheVariants as mcs
 use Rattle.x7_forms.specs.Event.{Event, no_memory}
 use Rattle.x7_forms.specs.Form.{FromMcs}
-use Rattle.x7_forms.specs.Known.{Answer, and_so, whole_known}
+use Rattle.x7_forms.specs.Known.{Answer, and_so, whole_known, text_limit}
 use Rattle.x7_forms.specs.Step.{IsDecided, IsPossible, ReadsWhole}
 use Rattle.x7_forms.proofs.ReadLemmas.{answers_end, whole_steady}
-use Rattle.x7_outcome.specs.Outcome.{mcs_event, mcs_image, mcs_read, text_limit}
+use Rattle.x7_outcome.specs.Outcome.{mcs_event, mcs_image, mcs_read}
 use Rattle.x7_outcome.specs.Ending.{AnswersForm}
 use Rattle.x7_outcome.proofs.FeedLemmas.{unread_by}
 

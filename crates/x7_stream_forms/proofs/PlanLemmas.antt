@@ -17,10 +17,10 @@ use Rattle.x7_planner.specs.declared.fault.PlanFault.TheVariants as planner
 use Rattle.x7_words.specs.Input.{InputsState, InputsStay}
 use Rattle.x7_forms.specs.declared.refusal.Refusal.{Refusal}
 use Rattle.x7_forms.specs.Event.{Event, event_of, no_memory}
-use Rattle.x7_forms.specs.Known.{Answer, and_so, part_known, whole_known}
+use Rattle.x7_forms.specs.Known.{Answer, and_so, part_known, whole_known, text_limit}
 use Rattle.x7_forms.specs.Step.{AnswersAs, AnswersBy, IsDecided, IsPossible, ReadsWhole, result_by, step_over}
 use Rattle.x7_forms.proofs.ReadLemmas.{answers_by, answers_kept, answers_stop, first_of}
-use Rattle.x7_outcome.specs.Outcome.{IsUnplanned, PartAndText, PlannedFull, PlannedPartial, frames_event, part_and_text, planner_event, text_limit}
+use Rattle.x7_outcome.specs.Outcome.{IsUnplanned, PartAndText, PlannedFull, PlannedPartial, frames_event, part_and_text, planner_event}
 use Rattle.x7_stream_forms.specs.Plan.{HasNoPlan, ReadsPlan}
 use Rattle.x7_stream_forms.specs.FullText.{PlanFor, full_answer}
 use Rattle.x7_outcome.specs.Ready.{bytes_answer}

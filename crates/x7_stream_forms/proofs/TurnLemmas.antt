@@ -1,6 +1,6 @@
 -- A listing that is written turn by turn.
 use Rattle.std.proofs.Common.{length-append, arith, inl, inr, ◌≡◌, ℕ, ◌+◌, ◌<◌, Bool, true, List, [], ◌∷◌, ◌++◌, false, Option, None, Some, Ok, Err, length, refl, ap, sym, subst, ◌∙◌, append_assoc, append-nil, Result}
-use Rattle.x7_words.specs.Sink.{appended, PutsPrefix, SinkState, PutsOrFails}
+use Rattle.x7_words.specs.Sink.{appended, PutsPrefix, SinkState}
 use Rattle.x7_words.specs.Word.{AreBytes}
 use Rattle.x7_words.proofs.SinkLemmas.{appended_appended, appended_nil, prefix_more}
 use Rattle.x7_packets.specs.ByHand.{reading_of}
@@ -89,11 +89,6 @@ pub whole_text : (l fed done : ListerState) (content text : List ℕ) → Lister
 whole_text l fed done content text stands feeds ends same =
     let f = ends [] [] content (feeds [] [] [] stands) in
     same ∙ f.listed ∙ listing_is content f.listing f.listing_is
-
--- a text was put whole, or a prefix of it and the sink failed
-pub puts_a_prefix : (old new : SinkState) (text : List ℕ) → PutsOrFails old text new → PutsPrefix old.written text new.written
-puts_a_prefix old new text (inl all) = (text, ([], sym (append-nil text), all))
-puts_a_prefix old new text (inr some) = some.1
 
 -- what was put is a prefix of the listing of the stream's bytes
 pub line_prefix : (first now : Option (List ℕ)) (line text : List ℕ) → PutsPrefix (appended first line) text now → PutsPrefix first (line ++ text) now

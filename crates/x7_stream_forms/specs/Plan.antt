@@ -7,7 +7,8 @@ use Rattle.x7_frames.specs.FramesText.{IsPlanOf}
 use Rattle.x7_frames.specs.declared.fault.FramesFault.{FramesFault}
 use Rattle.x7_forms.specs.Event.{Event}
 use Rattle.x7_forms.specs.Step.{ReadsWhole}
-use Rattle.x7_outcome.specs.Outcome.{frames_event, text_limit}
+use Rattle.x7_forms.specs.Known.{text_limit}
+use Rattle.x7_outcome.specs.Outcome.{frames_event}
 
 -- the event is that of the text's first line at fault
 abbrev pub HasNoPlan : List ℕ → PartData → List ℕ → Event → Type 0

@@ -19,11 +19,20 @@ use x7_words::{Failed, Sink, write_all};
 
 /// The full stream of a plan, a binary one, which is ready to be written: a part, a plan for it, and room for a piece
 /// of the stream.
-#[derive(Drop)]
 pub struct FullText {
     part: Part,
     plan: Plan,
     piece: Vec<u8>,
+}
+
+impl Drop for FullText {
+    fn drop(self) {
+        let FullText {
+            part: _,
+            plan: _,
+            piece: _,
+        } = self;
+    }
 }
 
 impl Model for FullText {

@@ -21,10 +21,18 @@ use x7_part::Part;
 use x7_words::Inputs;
 
 /// A golden and an update stream that were read whole.
-#[derive(Drop)]
 pub(crate) struct Streams {
     golden: Stream,
     update: Stream,
+}
+
+impl Drop for Streams {
+    fn drop(self) {
+        let Streams {
+            golden: _,
+            update: _,
+        } = self;
+    }
 }
 
 /// Reads the golden and then the update stream, each with the limit of a stream of its own.

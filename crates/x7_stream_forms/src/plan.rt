@@ -5,13 +5,14 @@ ghost use Rattle.x7_words.specs.Input.{AsksAtMost, InputsStay};
 ghost use Rattle.x7_part.specs.Part.{frame_words};
 ghost use Rattle.x7_frames.specs.FramesText.{IsPlanOf};
 ghost use Rattle.x7_forms.specs.Event.{event_of, no_memory};
-ghost use Rattle.x7_outcome.specs.Outcome.{PlannedPartial, PlannedRead, frames_event, planner_event, text_limit};
+ghost use Rattle.x7_outcome.specs.Outcome.{PlannedPartial, PlannedRead, frames_event, planner_event};
 ghost use Rattle.x7_forms.specs.Turn.{IsLastAsked};
 ghost use Rattle.x7_forms.specs.Form.{PlanningFull, PlanningPartial, PlanningRead};
 ghost use Rattle.x7_stream_forms.specs.Plan.{ReadsPlan};
 ghost use Rattle.x7_stream_forms.specs.FullText.{full_answer};
 ghost use Rattle.x7_outcome.specs.Ready.{bytes_answer};
 ghost use Rattle.x7_forms.specs.Step.{result_by};
+ghost use Rattle.x7_forms.specs.Known.{text_limit};
 ghost use Rattle.x7_outcome.specs.Ending.{MakesReady};
 
 use crate::full_text::FullText;

@@ -1,16 +1,16 @@
-pub mod BitLemmas
-pub mod ByteLemmas
-pub mod DigitLemmas
-pub mod FieldLemmas
-pub mod HexLemmas
-pub mod NextLemmas
-pub mod NumberLemmas
-pub mod OutcomeLemmas
-pub mod TokenLemmas
-pub mod ReadingLemmas
-pub mod ScannerLemmas
+mod BitLemmas
+mod ByteLemmas
+mod DigitLemmas
+mod FieldLemmas
+mod HexLemmas
+mod NextLemmas
+mod NumberLemmas
+mod OutcomeLemmas
+mod TokenLemmas
+mod ReadingLemmas
+mod ScannerLemmas
 pub mod SourceLemmas
-pub mod SpanLemmas
-pub mod SvfLemmas
-pub mod ValueLemmas
-pub mod WordsLemmas
+mod SpanLemmas
+mod SvfLemmas
+mod ValueLemmas
+mod WordsLemmas

@@ -1,5 +1,5 @@
--- What a text comes to: its statements, or the line on which the first begins that is none (this project's profile of
--- SVF).
+-- What a text comes to: its statements, or the line on which its first bad statement begins, one that isn't of the
+-- profile or lacks its `;` (this project's profile of SVF).
 use Rattle.std.specs.Prelude.{◌≡◌, ℕ, zero, suc, false, List, [], ◌∷◌, length, Option, Some, None, Result, Ok, Err}
 use Rattle.x7_svf.specs.Comment.{clean_text}
 use Rattle.x7_svf.specs.Token.{Token, Word, Open, Close, End, TokenOnLine, tokens}
@@ -42,7 +42,7 @@ abbrev pub tokens_if_ended : Option (List TokenOnLine) → List TokenOnLine
 tokens_if_ended None = []
 tokens_if_ended (Some after) = after
 
--- a statement before what the tokens after it come to, or the line on which one begins that is none
+-- a statement before what the tokens after it come to, or the line on which it begins where it is bad
 abbrev pub with_first : ℕ → Option Statement → Result (List Statement) SvfFault → Result (List Statement) SvfFault
 with_first line None more = Err (fault.Line line)
 with_first line (Some s) (Ok ss) = Ok (s ∷ ss)
@@ -66,6 +66,6 @@ BeginWithStatement ts = (one : Statement) × (first_statement ts ≡ Some one)
 abbrev pub tokens_of : List ℕ → List TokenOnLine
 tokens_of text = tokens 1 (clean_text false text)
 
--- what a text comes to: its statements, or the line on which the first begins that is none
+-- what a text comes to: its statements, or the line on which its first bad statement begins
 abbrev pub IsSvfOf : List ℕ → Result (List Statement) SvfFault → Type 0
 IsSvfOf text r = outcome (tokens_of text) ≡ r

@@ -1,6 +1,6 @@
 //! Blanks in place of comments.
 ghost use Rattle.std.specs.Prelude.{◌≡◌, ◌+◌, false, length};
-ghost use Rattle.x7_svf.specs.Comment.{begins_comment, clean_text, begins_with, is_inside, stand_in};
+ghost use Rattle.x7_svf.specs.Comment.{begins_with, clean_text, is_inside, stand_in};
 
 /// Whether a text begins with a byte.
 fn begins_with(text: &[u8], byte: u8) -> bool
@@ -12,21 +12,14 @@ fn begins_with(text: &[u8], byte: u8) -> bool
     }
 }
 
-/// Whether a comment begins at a byte, by the bytes after it: `!`, or `//`.
-fn begins_comment(byte: u8, after: &[u8]) -> bool
-    ensures { result ≡ begins_comment byte after.now }
-{
-    byte == b'!' || byte == b'/' && begins_with(after, b'/')
-}
-
-/// Whether a byte is one of a comment, by whether the byte before it was one.
+/// Whether a byte is one of a comment, by whether the byte before it was one. A comment begins at `!`, or at `//`.
 fn is_inside(is_in_comment: bool, byte: u8, after: &[u8]) -> bool
     ensures { result ≡ is_inside is_in_comment byte after.now }
 {
     if is_in_comment {
         byte != b'\n'
     } else {
-        begins_comment(byte, after)
+        byte == b'!' || byte == b'/' && begins_with(after, b'/')
     }
 }
 

@@ -1,5 +1,5 @@
 //! One statement of a text.
-ghost use Rattle.std.specs.Prelude.{◌≡◌, ◌<◌, ◌≤◌, ◌+◌, ◌*◌, true, false, length, take, IfSome, IsTrue, Option, Some, None};
+ghost use Rattle.std.specs.Prelude.{◌≡◌, ◌<◌, ◌≤◌, ◌+◌, ◌*◌, true, false, length, take, IfSome, Option, Some, None};
 ghost use Rattle.std.specs.List.{list_all};
 ghost use Rattle.x7_words.specs.Characters.{digit_number, is_hex_digit};
 ghost use Rattle.x7_svf.specs.Fields.{all_fit, are_hex, fits, hex_value, scan_by, scan_if, scan_of};
@@ -40,30 +40,18 @@ fn is_free_token(token: NextToken, text: &[u8]) -> bool
     }
 }
 
-/// Whether the tokens that come next of a statement are brackets and words without 0D alone; they are passed.
-fn are_free_tokens(source: &mut Source) -> bool
-    ensures value { result ≡ list_all is_free_token (tokens_before_end (tokens_left source.old)) }
-    ensures reads_on { IsTrue result → ReadsOn source.old source.new }
-{
-    while let Some(token) = next_within(source) {
-        if !is_free_token(token, source.rest()) {
-            return false;
-        }
-        source.skip(token.size());
-    }
-    true
-}
-
-/// The statement of tokens without meaning that come next, which are passed.
+/// The statement of tokens without meaning that come next, which are passed: brackets, and words without 0D.
 fn free_statement(source: &mut Source) -> Option<StoredStatement>
     ensures says { IsStored source.new.kept result (some_if (list_all is_free_token (tokens_before_end (tokens_left source.old))) StatementData.Nothing) }
     ensures reads_on { IfSome result (λ s. ReadsOn source.old source.new) }
 {
-    if are_free_tokens(source) {
-        Some(StoredStatement::Nothing)
-    } else {
-        None
+    while let Some(token) = next_within(source) {
+        if !is_free_token(token, source.rest()) {
+            return None;
+        }
+        source.skip(token.size());
     }
+    Some(StoredStatement::Nothing)
 }
 
 /// Keeps the word of this many bytes that comes next, and says where.

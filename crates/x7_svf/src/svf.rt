@@ -20,11 +20,19 @@ use std::marker::Model;
 pub const SVF_TEXT_LIMIT: usize = 1 << 29;
 
 /// The statements of a text, fewer than the bytes that a text may have.
-#[derive(Drop)]
 pub struct Svf {
     statements: Vec<StoredStatement>,
     // the digits of their scans, among keywords and the words of other statements
     digits: Vec<u8>,
+}
+
+impl Drop for Svf {
+    fn drop(self) {
+        let Svf {
+            statements: _,
+            digits: _,
+        } = self;
+    }
 }
 
 impl Model for Svf {
@@ -83,7 +91,7 @@ fn statements(alloc: Global, source: &mut Source) -> Result<Vec<StoredStatement>
     Ok(out)
 }
 
-/// The statements of a text that is given up for them, or the line on which the first begins that is none. The digits
+/// The statements of a text that is given up for them, or the line on which its first bad statement begins. The digits
 /// of the scans stay in the text's bytes, at most `SVF_TEXT_LIMIT`. Memory is wanting only for a text that begins with
 /// a statement.
 pub fn svf_from(alloc: Global, text: Vec<u8>) -> Result<Svf, SvfFault>
@@ -102,8 +110,8 @@ pub fn svf_from(alloc: Global, text: Vec<u8>) -> Result<Svf, SvfFault>
     })
 }
 
-/// The statements of a text, or the line on which the first begins that is none. A text has at most
-/// `SVF_TEXT_LIMIT` bytes.
+/// The statements of a text, or the line on which its first bad statement begins. A text has at most `SVF_TEXT_LIMIT`
+/// bytes.
 pub fn svf_of(alloc: Global, text: &[u8]) -> Result<Svf, SvfFault>
     requires { length text.now ≤ svf_text_limit }
     ensures statements { IfOk result (λ svf. IsSvfOf text.now (Ok svf)) }

@@ -87,7 +87,7 @@ pub(crate) fn is_free_word(word: &[u8]) -> bool
     )
 }
 
-/// The run of as many clocks as the digits say.
+/// A run of as many clocks as the digits say; none where they are no decimal number, or one over 2^24.
 fn run_for(digits: &[u8]) -> Option<StoredStatement>
     ensures { IsStored [] result (run_by (number_within most_run_clocks digits.now)) }
 {
@@ -95,7 +95,7 @@ fn run_for(digits: &[u8]) -> Option<StoredStatement>
     Some(StoredStatement::Run(count))
 }
 
-/// The run of as many clocks as the digits say, where the condition is met.
+/// A run of as many clocks as the digits say, where the condition is met and they are a decimal number of 2^24 at most.
 fn run_if(is_met: bool, digits: &[u8]) -> Option<StoredStatement>
     ensures { IsStored [] result (run_if is_met digits.now) }
 {

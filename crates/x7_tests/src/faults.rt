@@ -6,16 +6,6 @@ use x7_forms::Status;
 use x7_listing::AsmFault;
 use x7_part::{PartFault, PartKey, Which};
 
-/// The key in the first row of a part file.
-fn in_first_row(key: PartKey) -> Which {
-    Which { row: Some(1), key }
-}
-
-/// The key outside the rows.
-fn at_the_top(key: PartKey) -> Which {
-    Which { row: None, key }
-}
-
 /// Whether the value is printed as this text. Without memory it isn't.
 fn is_printed<D: Display>(alloc: Global, value: &D, text: &str) -> bool {
     match format!(in alloc; "{value}") {
@@ -26,16 +16,18 @@ fn is_printed<D: Display>(alloc: Global, value: &D, text: &str) -> bool {
 
 #[test]
 fn part_faults_name_the_key_and_the_row(rt: HostRuntime) {
+    let at_the_top = Which {
+        row: None,
+        key: PartKey::BusWidth,
+    };
+    let in_first_row = Which {
+        row: Some(1),
+        key: PartKey::Minors,
+    };
     let cases = [
         (PartFault::Toml, "the text is no TOML"),
-        (
-            PartFault::Key(at_the_top(PartKey::BusWidth)),
-            "key bus_width",
-        ),
-        (
-            PartFault::Range(in_first_row(PartKey::Minors)),
-            "range minors in row 1",
-        ),
+        (PartFault::Key(at_the_top), "key bus_width"),
+        (PartFault::Range(in_first_row), "range minors in row 1"),
         (PartFault::SameRow(2), "same row 2"),
         (PartFault::TooMany(131_073), "too many frames: 131073"),
     ];

@@ -34,13 +34,14 @@ fn after_iprog(alloc: Global, kind: Kind) -> Option<(Fed, u32)> {
 }
 
 #[test]
-fn a_fallback_ignores_iprog_and_bootsts_says_so(rt: HostRuntime) {
-    // VALID, FALLBACK and IPROG; of the attempt before VALID, IPROG and CRC_ERROR
-    assert!(rt; after_iprog(rt.alloc(), Kind::Fallback) == Some((Fed::All, 0x0000_2507)));
-}
-
-#[test]
-fn another_attempt_obeys_iprog(rt: HostRuntime) {
-    // VALID and IPROG; of the attempt before VALID, IPROG and CRC_ERROR
-    assert!(rt; after_iprog(rt.alloc(), Kind::Iprog) == Some((Fed::Iprog(12), 0x0000_2505)));
+fn a_fallback_alone_ignores_iprog(rt: HostRuntime) {
+    // the kind, what becomes of IPROG, and BOOTSTS: VALID, IPROG and, of a fallback, FALLBACK; of the attempt before
+    // VALID, IPROG and CRC_ERROR
+    let cases = [
+        (Kind::Fallback, Fed::All, 0x0000_2507),
+        (Kind::Iprog, Fed::Iprog(12), 0x0000_2505),
+    ];
+    for (kind, fed, bootsts) in cases {
+        assert!(rt; after_iprog(rt.alloc(), kind) == Some((fed, bootsts)));
+    }
 }

@@ -90,9 +90,8 @@ const RUNS: [Run<'static>; 8] = [
     Run::End,
 ];
 
-/// Whether a lister that took the runs, one after another, has this text; an error without memory.
-fn is_listed_by_runs(alloc: Global, want: &[u8]) -> Result<bool, NoMemory> {
-    let mut lister = Lister::new(alloc);
+/// Whether a lister that takes the runs, one after another, has this text; an error without memory.
+fn is_listed_by_runs(lister: &mut Lister, want: &[u8]) -> Result<bool, NoMemory> {
     for run in &RUNS {
         lister.take(run)?;
     }
@@ -102,7 +101,8 @@ fn is_listed_by_runs(alloc: Global, want: &[u8]) -> Result<bool, NoMemory> {
 #[test]
 fn a_stream_is_listed_by_its_runs(rt: HostRuntime) {
     let want = b"bytes FF\nsync\nnop\nwrite FDRI 2\ndata 00000011 00000012\nbytes 0102\n";
-    assert!(rt; is_listed_by_runs(rt.alloc(), want) == Ok(true));
+    let mut lister = Lister::new(rt.alloc());
+    assert!(rt; is_listed_by_runs(&mut lister, want) == Ok(true));
 }
 
 /// Three streams, each of which begins with the other half of a word.
@@ -112,9 +112,8 @@ const HALVES: [&[u8]; 3] = [
     b"\0\x07\x20\0\0\0",
 ];
 
-/// Whether a lister that has listed the three streams has this text; an error without memory.
-fn is_listed_in_turn(alloc: Global, want: &[u8]) -> Result<bool, NoMemory> {
-    let mut lister = Lister::new(alloc);
+/// Whether a lister that lists the three streams has this text; an error without memory.
+fn is_listed_in_turn(lister: &mut Lister, want: &[u8]) -> Result<bool, NoMemory> {
     for stream in HALVES {
         lister.feed(stream)?;
         lister.finish()?;
@@ -125,5 +124,6 @@ fn is_listed_in_turn(alloc: Global, want: &[u8]) -> Result<bool, NoMemory> {
 #[test]
 fn a_new_listing_begins_after_finish(rt: HostRuntime) {
     let want = b"bytes AA99\nbytes 5566\nsync\nwrite CMD 2\nbytes 0000\nbytes 000720000000\n";
-    assert!(rt; is_listed_in_turn(rt.alloc(), want) == Ok(true));
+    let mut lister = Lister::new(rt.alloc());
+    assert!(rt; is_listed_in_turn(&mut lister, want) == Ok(true));
 }

@@ -1,11 +1,11 @@
 pub mod AppendsLemmas
-pub mod BlockLemmas
-pub mod SixteenLemmas
-pub mod ByteLemmas
+mod BlockLemmas
+mod SixteenLemmas
+mod ByteLemmas
 pub mod CaseLemmas
-pub mod DecodeLemmas
+mod DecodeLemmas
 pub mod DigitLemmas
-pub mod PrefixLemmas
+mod PrefixLemmas
 pub mod LineLemmas
 pub mod LineReaderLemmas
 pub mod PieceLemmas

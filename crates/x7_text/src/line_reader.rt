@@ -88,7 +88,6 @@ pub fn read_lines<T: TakesLines>(taker: T, text: &[u8]) -> Result<T::Out, T::Fau
 }
 
 /// Reads a text that comes in pieces, line by line.
-#[derive(Drop)]
 pub struct LineReader<T> {
     // what takes the lines
     taker: T,
@@ -96,6 +95,16 @@ pub struct LineReader<T> {
     held: Vec<u8>,
     // how many lines were taken
     count: u64,
+}
+
+impl<T: Drop> Drop for LineReader<T> {
+    fn drop(self) {
+        let LineReader {
+            taker: _,
+            held: _,
+            count: _,
+        } = self;
+    }
 }
 
 impl<T> Model for LineReader<T> {

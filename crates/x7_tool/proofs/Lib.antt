@@ -1,6 +1,6 @@
-pub mod AnswerLemmas
-pub mod FlashLemmas
-pub mod FoundLemmas
-pub mod PromiseLemmas
-pub mod RunLemmas
-pub mod StopLemmas
+mod AnswerLemmas
+mod FlashLemmas
+mod FoundLemmas
+mod PromiseLemmas
+mod RunLemmas
+mod StopLemmas

@@ -33,9 +33,9 @@ use Rattle.x7_effects.proofs.LawLemmas.{full_law, partial_law, read_law}
 use Rattle.x7_forms.specs.declared.bad_input.InputFault.TheVariants as input
 use Rattle.x7_forms.specs.Event.{Event, bad_input, too_many_reads}
 use Rattle.x7_forms.specs.Form.{AskedForm, Booting, Generating, Imaging, ImagingFor, PlanningFull, PlanningPartial, PlanningRead, Playing, PlayingSvf}
-use Rattle.x7_forms.specs.Known.{Answer, Found, Held, Known, and_so, streams_known, part_by, part_limit, part_known, reads_limit, stream_limit, whole_known}
+use Rattle.x7_forms.specs.Known.{Answer, Found, Held, Known, and_so, streams_known, part_by, part_limit, part_known, reads_limit, stream_limit, whole_known, text_limit}
 use Rattle.x7_outcome.specs.Play.{report_of, reported}
-use Rattle.x7_outcome.specs.Outcome.{BootedAs, IsBootText, FlashBoots, FormGives, ImageStreams, PartAndText, PlannedFull, PlannedPartial, PlannedRead, PlayedSvf, gen_answer, has_failed, image_by, image_streams, part_and_text, text_limit}
+use Rattle.x7_outcome.specs.Outcome.{BootedAs, IsBootText, FlashBoots, FormGives, ImageStreams, PartAndText, PlannedFull, PlannedPartial, PlannedRead, PlayedSvf, gen_answer, has_failed, image_by, image_streams, part_and_text}
 use Rattle.x7_tool.specs.Promise.{BootsFromOpen, HoldsOpen, PromiseOf, PromisesFull, PromisesImage, PromisesImageFor, PromisesPartial, PromisesPlayed, PromisesPort, PromisesRead, PromisesStart, PromisesSummary, StartsChecked}
 use Rattle.x7_device_forms.proofs.GenerateLemmas.{generated_plays, planned_is}
 

@@ -18,11 +18,11 @@ use Rattle.x7_forms.specs.declared.status.Status.TheVariants as status
 use Rattle.x7_forms.specs.Event.{Event, ReasonCause, Wording, Want, Fault, Absence, Break, Contents, Difference, cause_of_event, no_memory, status_of_event, usage, writing_failed}
 use Rattle.x7_forms.specs.Form.{AskedForm, Assembling, FlashUse, FromMcs, Unused, flash_use, listed_by, names_of, names_used, updated_by}
 use Rattle.x7_forms.specs.Status.{final_status, text_status}
-use Rattle.x7_forms.specs.Known.{Answer, Failing, Known, Lacking, Mishap, and_so, input_found, known_of, taken_whole, whole_known, with_inputs, if_within}
+use Rattle.x7_forms.specs.Known.{Answer, Failing, Known, Lacking, Mishap, and_so, input_found, known_of, taken_whole, whole_known, with_inputs, if_within, text_limit}
 use Rattle.x7_forms.specs.Step.{Among}
 use Rattle.x7_outcome.specs.Ahead.{StaysNear}
 use Rattle.x7_outcome.specs.Leaving.{UpdateLeaves}
-use Rattle.x7_outcome.specs.Outcome.{AssembledAs, FormGives, IsOutcome, mcs_image, text_limit}
+use Rattle.x7_outcome.specs.Outcome.{AssembledAs, FormGives, IsOutcome, mcs_image}
 use Rattle.x7_outcome.specs.Outside.{CameInRun, NothingFailed, UsesFlashAs, Outside, known_in, sources}
 use Rattle.x7_tool.specs.Promise.{Promise}
 use Rattle.x7_outcome.specs.Ending.{GivesIfKnown, AnswersForm, AnswersOver, CausedBy, EndIsCaused, CommandEnds, CommandEndsAs, FailsLast, GetsPrefixOfKnown, GetsPrefixOfText, IsMeasured, JudgesFlash, OutputAfterFailure, PutsAnswer}

@@ -58,47 +58,53 @@ TextsLeadBack (Some (Assembling name)) old new s end = ListingAssembles name old
 TextsLeadBack (Some (FromMcs name)) old new s end = GivesImage name old new s end
 TextsLeadBack form old new s end = Unit {0}
 
--- a run of the command that the words ask for
+-- What a run of the command came to: `form` is what its words ask for, `old` and `new` the outside before and after it,
+-- and `s` its status.
 pub record Runs (form : Option AskedForm) (old new : Outside) (s : Status) : Type 0 where
-  -- how it ended: a whole text, or the event that came before
+  -- the run ended with a whole text, or with an event in place of one
   pub end : Result Answer Event
-  -- the status is that end's
+  -- the status is that of the end
   pub ends_as : s ≡ final_status end
-  -- the end has its cause
-  pub cause : EndIsCaused form old new end
   -- the output got the whole text, or what the event leaves of it
   pub wrote : OutputGets form old new end
-  -- messages got nothing after a whole text, and else the event's one line, or a prefix of it where they failed
+  -- the sink of messages got nothing after a whole text, and else the event's one line, or a prefix of that line where
+  -- the sink failed
   pub said : SaysEnd old.err new.err end
-  -- by the status: how far a stream that is listed was read where the output failed, the stream failed or is too
-  -- large, memory is wanting, or its header is refused
-  pub near : StaysNear s form old new
-  -- where all that the form needs is known and nothing failed, the end is the outcome, or want of memory
-  pub outcome : (known : Known) → known_in old ≡ Some known → NothingFailed form old new → (s ≡ status.NoMemory) ⊎ IsOutcome known form end
   -- words without a form are a wrong usage
   pub no_form : form ≡ None → s ≡ status.Usage
-  -- a text that equals the listing of a stream, or the Intel HEX of an image, leads back to that: of `asm`, of `unmcs`
-  pub back : TextsLeadBack form old new s end
-  -- a whole text over known contents keeps the promise of its form: a planned stream does on a device at rest what was
-  -- planned, a report shows no startup without its checks, a device boots from an image or a flash as is said
+  -- where the bytes of the inputs are known, and nothing failed or was missing, the end is what the words come to, or
+  -- memory was wanting
+  pub outcome : (known : Known) → known_in old ≡ Some known → NothingFailed form old new → (s ≡ status.NoMemory) ⊎ IsOutcome known form end
+  -- a whole text over known inputs keeps the promise of its form: a planned stream does on a device at rest what was
+  -- planned, a report shows no startup without its checks, and a device boots from an image or a flash as is said
   pub promise : Promise (known_in old) form end
-  -- the flash of the form is within the limit after a whole text, and over it where it is too
-  -- large, whether its bytes are known or not
-  pub measured : IsMeasured form new.flash end
-  -- a fault of a flash that is attached comes last: the flash is within the limit, and
-  -- all that the form reads of inputs is good
-  pub fails_last : FailsLast form old.inputs new.flash end
-  -- where an input ends the command, no later one was asked for, and no more than a byte over its limit was given of it
+  -- where the inputs are known, nothing failed and the bytes are within their limit, `asm` of the listing of a stream
+  -- gives the stream, and `unmcs` of the Intel HEX text of an image the image; or memory was wanting
+  pub back : TextsLeadBack form old new s end
+  -- where the contents are known, a whole text is theirs, and an event has its cause in them; or a fault or an absence
+  -- came; or memory was wanting
+  pub cause : EndIsCaused form old new end
+  -- an event that lies in an input names the last one that was asked for, and no more than a byte over its limit was
+  -- given of that
   pub stops : StopsReading form old.inputs new.inputs end
-  -- an update whose flash isn't there, wasn't attached or is too large asks for no stream; a boot touches its flash
-  -- only once its part is good
-  pub judges : JudgesFlash form (sources old.inputs old.flash) (sources new.inputs new.flash) end
-  -- no more inputs were asked for than the words name, so that none was read again, nor more ends of inputs read
+  -- no more inputs were asked for than the words name, and no more ends of inputs were read
   pub asks : AsksAtMost old.inputs (length (names_of form)) new.inputs
-  -- every input keeps its bytes, and the counts of faults and of absences don't fall
+  -- where the stream and the output are known and `list` ends by an event, it has read its stream little further than it
+  -- has listed it, or than the byte at which its header is refused
+  pub near : StaysNear s form old new
+  -- every input keeps its bytes, and the counts of faults and of absences of inputs don't fall
   pub stays : InputsStay old.inputs new.inputs
   -- the flash is untouched, read or written as the form says, and was asked for no name but the form's
   pub flash : UsesFlashAs (flash_use form) old.flash new.flash
-  -- an update that is done left the flash as it is after one; one that isn't left its bytes, but where a write or a
-  -- read of the flash failed, or a byte differs
+  -- an update that is done leaves the flash as it is after one with the stream's data; one that isn't leaves its bytes,
+  -- unless a write or a read of the flash failed, or a byte differs
   pub updates : UpdateLeaves (updated_by form) old new end
+  -- the flash of the form is within the limit after a whole text, and over it where it is told as too large, whether
+  -- its bytes are known or not; unless an input has its name
+  pub measured : IsMeasured form new.flash end
+  -- an update whose flash isn't there, wasn't attached or is too large asks for no stream, unless that has the flash's
+  -- name, and a boot touches its flash only once its part is good, unless memory was wanting
+  pub judges : JudgesFlash form (sources old.inputs old.flash) (sources new.inputs new.flash) end
+  -- a fault of a flash that is attached comes last: the flash is within the limit, and the form would have a whole text
+  -- of its inputs; unless an input has its name
+  pub fails_last : FailsLast form old.inputs new.flash end

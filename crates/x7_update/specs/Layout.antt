@@ -5,8 +5,8 @@
 --     65,536    the golden stream
 --     U         the update stream, and FF after it
 --
--- A device takes the one slot whose switch word is the sync word: that slot is open. A slot
--- of FFFFFFFF is free, any other is spent.
+-- A device takes the one slot whose switch word is the sync word: that slot is open. A slot of FFFFFFFF is free, any
+-- other is spent.
 use Rattle.std.specs.Prelude.{◌≡◌, ◌≢◌, ℕ, suc, ◌+◌, ◌-◌, ◌*◌, ◌%◌, ◌<◌, ◌≤◌, List, [], ◌∷◌, length, get_or}
 use Rattle.x7_words.specs.Flash.{flash_limit}
 use Rattle.x7_words.specs.Word.{word_of_bytes}

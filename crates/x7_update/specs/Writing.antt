@@ -18,8 +18,8 @@ abbrev pub BecomesBytes : (List ℕ → List ℕ → Type 0) → Option (List �
 BecomesBytes Relates None new = new ≡ None
 BecomesBytes Relates (Some all) new = (now : List ℕ) × (new ≡ Some now) × Relates all now
 
--- a flash's bytes that were known are still known, and in this relation to what they
--- were; bytes that weren't known still aren't
+-- a flash's bytes that were known are still known, and in this relation to what they were; bytes that weren't known
+-- still aren't
 abbrev pub Becomes : FlashState → FlashState → (List ℕ → List ℕ → Type 0) → Type 0
 Becomes old new Relates = BecomesBytes Relates old.bytes new.bytes
 
@@ -147,9 +147,9 @@ IsWrong stream_place stream place buffer TooLong = ⊥
 IsWrong stream_place stream place buffer (NoLayout at) = ⊥
 IsWrong stream_place stream place buffer NoMemory = ⊥
 
--- A piece that an update with a stream writes in a flash of a size, from one place on up to another: the
--- stream, and FF after it up to the flash's end, from a place on at which the stream can stand and fits; or
--- the switch word of the slot that is opened.
+-- A piece that an update with a stream writes in a flash of a size, from one place on up to another: the stream, and FF
+-- after it up to the flash's end, from a place on at which the stream can stand and fits; or the switch word of the slot
+-- that is opened.
 pub data IsWritten (size : ℕ) (stream piece : List ℕ) (from end : ℕ) : Type 0 where
   in_stream : CanStandAt size from → from + length stream ≤ size → piece ≡ stream → end ≡ size → IsWritten size stream piece from end
   in_switch : (slot : ℕ) → slot < flash_slot_count → from ≡ flash_slot_size * slot → piece ≡ open_switch → end ≡ from + switch_size → IsWritten size stream piece from end

@@ -1,5 +1,5 @@
-//! The update of a flash that may lose its power at any moment: it spends the open
-//! slot, writes the stream, and opens the next.
+//! The update of a flash that may lose its power at any moment: the open slot is spent, the stream is written and
+//! verified, and the next slot is opened.
 #![tactic(auto)]
 
 mod fault;

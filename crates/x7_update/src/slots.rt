@@ -50,7 +50,8 @@ fn slot_difference(first_sector: &[u8], wanted: &[u8; 32], slot: usize) -> Optio
     None
 }
 
-/// The slots up to `slot`, by those before it, or the place that shows that `slot` isn't as the layout has it.
+/// The open slot and the next one among the slots up to and with `slot`, by those among the slots before it; or the
+/// place that shows that `slot` isn't as the layout has it.
 fn look_at_slot(
     first_sector: &[u8],
     wanted: &[u8; 32],
@@ -86,7 +87,7 @@ fn look_at_slot(
     })
 }
 
-/// The slots of the first sector, or the place that shows that one isn't as the layout has it.
+/// The open slot and the next one of the first sector, or the place that shows that a slot isn't as the layout has it.
 fn look_at_slots(first_sector: &[u8], wanted: &[u8; 32]) -> Result<Slots, u64>
     requires { HasFirstSlot first_sector.now wanted.now }
     ensures slots { IfOk result (SlotsAmong first_sector.now flash_slot_count) }

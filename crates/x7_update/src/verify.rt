@@ -62,7 +62,8 @@ pub(crate) fn verify_stream<F: Flash>(
     Ok(())
 }
 
-/// Reads a sector of the update, and compares it with the stream and FF after it; those before it were verified.
+/// Reads a sector of the update, and compares it with the stream and FF after it. The sectors from the stream's place up
+/// to this one were verified before.
 fn verify_sector<F: Flash>(
     flash: &mut F,
     sector: u64,

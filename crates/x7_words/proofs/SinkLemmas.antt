@@ -1,5 +1,5 @@
 -- Lemmas on bytes that are written one after the other.
-use Rattle.std.proofs.Common.{◌≡◌, ℕ, List, [], ◌∷◌, ◌++◌, ◌+◌, ◌<◌, take, drop, length, Option, None, Some, refl, ap, append_assoc, append-nil, sym, ◌∙◌, arith, inr, flat_map, zero, suc, get_or}
+use Rattle.std.proofs.Common.{◌≡◌, ℕ, List, [], ◌∷◌, ◌++◌, ◌+◌, ◌<◌, take, drop, length, Option, None, Some, Result, Ok, Err, OnOk, OnErr, refl, ap, append_assoc, append-nil, sym, ◌∙◌, arith, inl, inr, flat_map, zero, suc, get_or}
 use Rattle.std.proofs.Math.Seq.{take-add}
 use Rattle.std.proofs.lemmas.List.{take-append-drop}
 use Rattle.x7_words.specs.Sink.{appended, PutsAll, PutsOrFails, PutsPrefix, PutsSome, SinkFails, SinkFaultsNeverFall, SinkState}
@@ -34,9 +34,10 @@ flat_map_at f [] k d h = absurd (omega arith)
 flat_map_at f (p ∷ ps) zero d h = refl
 flat_map_at f (p ∷ ps) (suc k) d h = ap (λ r. f p ++ r) (flat_map_at f ps k d (omega arith)) ∙ sym (append_assoc (f p) (flat_map f (take k ps)) (f (get_or ps k d) ++ flat_map f (drop (suc k) ps)))
 
--- a failure in the piece after some whole ones
-pub puts_a_prefix : (first mid last : SinkState) (all a b c : List ℕ) → all ≡ a ++ (b ++ c) → PutsAll first a mid → PutsSome mid b last → SinkFails first last → PutsOrFails first all last
-puts_a_prefix first mid last all a b c e p q r = inr (r, rw e (prefix_more first.written mid.written last.written a b c p q))
+-- a call that writes the whole text or fails, and in any case a prefix of it
+pub puts_or_fails : {E : Type 0} (old new : SinkState) (text : List ℕ) (result : Result (Unit {0}) E) → OnOk result (PutsAll old text new) → OnErr result (SinkFails old new) → PutsSome old text new → PutsOrFails old text new
+puts_or_fails old new text (Ok _) whole failed prefix = inl whole
+puts_or_fails old new text (Err _) whole failed prefix = inr (failed, prefix)
 
 -- a count that does not fall over one call and over the next does not fall over both
 pub counts_on : (a b c : SinkState) → SinkFaultsNeverFall a b → SinkFaultsNeverFall b c → SinkFaultsNeverFall a c

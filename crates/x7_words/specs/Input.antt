@@ -109,7 +109,7 @@ pub record ReadFails (old new : InputsState) : Type 0 where
   pub given : new.given ≤ old.given
   pub ends : new.ends ≤ old.ends
 
--- why a name was not selected
+-- what caused the fault of a select that was refused: the name is missing, or the inputs failed
 abbrev pub InputsRefuse : InputsState → List ℕ → InputsState → SelectFault → Type 0
 InputsRefuse old name new Missing = MissesInput old name new
 InputsRefuse old name new Failed = InputsFail old new

@@ -5,7 +5,7 @@ ghost use Rattle.x7_words.specs.Word.{AreBytes};
 /// Whether two texts have the same bytes: `==`, with a contract that proofs cite in both directions.
 #[inline(always)]
 pub fn is_same(a: &[u8], b: &[u8]) -> bool
-    ensures { IsTrue result ↔ a.now ≡ b.now }
+    ensures { IsTrue result ↔ (a.now ≡ b.now) }
 {
     a == b
 }

@@ -47,8 +47,8 @@ pub trait Flash {
         ensures known_length { ExtentIsLength (state self.now) }
         ensures bytes { KnownAreBytes (state self.now) };
 
-    /// Fills the buffer with the bytes from the place on, and counts no fault. After an error it may hold anything, as
-    /// after a failed read of a file.
+    /// Fills the buffer with the bytes from the place on, and counts no fault. After an error the buffer may hold
+    /// anything, as after a failed read of a file.
     fn read_at(&mut self, place: u64, buf: &mut [u8]) -> Result<(), Failed>
         requires attached { (state self.old).attached ≡ true }
         requires within { place + length buf.old ≤ (state self.old).extent }

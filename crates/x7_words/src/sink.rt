@@ -1,6 +1,6 @@
 //! Where text is written, and writing all of a text.
 ghost use Rattle.std.specs.Prelude.{◌≡◌, ◌<◌, ◌≤◌, ◌^◌, length, take, flat_map, IfOk, OnOk, OnErr};
-ghost use Rattle.x7_words.specs.Sink.{SinkFaultsNeverFall, PutsAll, PutsSome, SinkFails, SinkState, PutsOrFails};
+ghost use Rattle.x7_words.specs.Sink.{SinkFaultsNeverFall, PutsAll, PutsSome, SinkFails, SinkState};
 
 use crate::input::Failed;
 
@@ -43,7 +43,7 @@ pub fn write_all<S: Sink>(sink: &mut S, text: &[u8]) -> Result<(), Failed>
 /// After an error a prefix of the joined pieces was written.
 pub fn write_pieces<S: Sink>(sink: &mut S, pieces: &[&[u8]]) -> Result<(), Failed>
     ensures appends { OnOk result (PutsAll (S.state sink.old) (flat_map (λ p. p.now) pieces.now) (S.state sink.new)) }
-    ensures puts { PutsOrFails (S.state sink.old) (flat_map (λ p. p.now) pieces.now) (S.state sink.new) }
+    ensures prefix { PutsSome (S.state sink.old) (flat_map (λ p. p.now) pieces.now) (S.state sink.new) }
     ensures failed { OnErr result (SinkFails (S.state sink.old) (S.state sink.new)) }
     ensures counts { SinkFaultsNeverFall (S.state sink.old) (S.state sink.new) }
 {

@@ -1,13 +1,13 @@
 //! Feeding up to where startup begins, or up to its end.
-ghost use Rattle.std.specs.Prelude.{◌≡◌, ◌≤◌, ◌<◌, ◌+◌, ◌-◌, ◌⊎◌, false, if◌then◌else◌, length, take, is_some, IsSome, IsTrue};
+ghost use Rattle.std.specs.Prelude.{◌≡◌, ◌≤◌, ◌<◌, ◌+◌, ◌-◌, ◌⊎◌, false, if◌then◌else◌, length, is_some};
 ghost use Rattle.x7_packets.specs.Cutter.{between};
-ghost use Rattle.x7_engine.specs.UntilRead.{RoomBefore};
 ghost use Rattle.x7_engine.specs.SoonestEnd.{soonest_end};
-ghost use Rattle.x7_engine.specs.Standing.{CanBeGiven, HasBegun, HasStopped, NoWordDue, fed_more, fed_of};
+ghost use Rattle.x7_engine.specs.Standing.{CanBeGiven, HasBegun, HasStopped, NoWordDue};
 ghost use Rattle.x7_engine.specs.Turns.{MayTakePiece, TurnAnswers};
 ghost use Rattle.x7_engine.specs.UntilStarted.{HasNotBegun, NoneBegun, NoneStarted, says_started, taken_until};
 ghost use Rattle.x7_engine.specs.declared.until_started.UntilStarted.TheVariants as until;
-ghost use Rattle.x7_engine.specs.Past.{AnswersUntilFor, ForEachPast, TakesJust, TakesNothing, GivesWordsNext, later, prefix_taken_until, started_at, state_at, stop_at, reads_given_at};
+ghost use Rattle.x7_engine.specs.Feeding.{GivesWordsOf, TakesFirst, with_buffer};
+ghost use Rattle.x7_engine.specs.Past.{AnswersUntilFor, ForEachPast, later, prefix_taken_until, started_at, state_at};
 
 use super::{Device, answer_at_stop};
 use crate::fed::Fed;
@@ -67,18 +67,13 @@ impl Device {
     /// phase is 7.
     pub fn feed_until_started(&mut self, piece: &[u8], read: &mut ReadBuf) -> UntilStarted
         requires { CanBeGiven self.old (length piece.now) }
-        ensures within { taken_until (length piece.now) result ≤ length piece.now }
-        ensures part { self.new.part ≡ self.old.part }
-        ensures taken { self.new.taken ≡ self.old.taken + taken_until (length piece.now) result }
-        ensures fed { fed_of self.new ≡ fed_more self.old (taken_until (length piece.now) result) }
-        ensures takes { TakesJust self.old self.new (prefix_taken_until piece.now result) }
+        ensures takes { TakesFirst self.old self.new piece.now (taken_until (length piece.now) result) }
+        ensures gives { GivesWordsOf (with_buffer self.old read.old) (with_buffer self.new read.new) piece.now (taken_until (length piece.now) result) }
         ensures first { ForEachPast self.old (λ p. NoneStarted p.part p.kept p.bytes piece.now (taken_until (length piece.now) result)) }
         ensures started { ForEachPast self.old (λ p. NoWordDue self.new → says_started result ≡ started_at (later p (prefix_taken_until piece.now result))) }
         ensures answer { AnswersUntilFor self.old self.new (prefix_taken_until piece.now result) read.new result }
-        ensures reads { GivesWordsNext self.old self.new (prefix_taken_until piece.now result) read.old read.new }
-        ensures room { ForEachPast self.old (λ p. RoomBefore p piece.now (taken_until (length piece.now) result) (reads_given_at self.old p) read.old) }
-        ensures stopped { ForEachPast self.old (λ p. IsSome (stop_at p) → TakesNothing self.old self.new read.old read.new (taken_until (length piece.now) result)) }
     {
+        read.holds_within_most();
         let mut at = 0;
         'runs: loop {
             if let Some(stop) = self.stop() {
@@ -108,11 +103,7 @@ impl Device {
     /// startup begins. Says how many these are.
     pub fn feed_until_begun(&mut self, piece: &[u8]) -> usize
         requires { CanBeGiven self.old (length piece.now) }
-        ensures within { result ≤ length piece.now }
-        ensures part { self.new.part ≡ self.old.part }
-        ensures taken { self.new.taken ≡ self.old.taken + result }
-        ensures fed { fed_of self.new ≡ fed_more self.old result }
-        ensures takes { TakesJust self.old self.new (take result piece.now) }
+        ensures takes { TakesFirst self.old self.new piece.now result }
         ensures no_word_due { ForEachPast self.old (λ p. NoWordDue self.new) }
         ensures first { ForEachPast self.old (λ p. NoneBegun p.part p.kept p.bytes piece.now result) }
         ensures ends { ForEachPast self.old (λ p. result < length piece.now → HasStopped self.new ⊎ HasBegun self.new) }

@@ -1,12 +1,13 @@
 //! A device goes back over bytes that it took.
-ghost use Rattle.std.specs.Prelude.{◌≡◌, ◌≤◌, ◌+◌, ℕ, List, [], false, length, IfOk, IsSome, Some};
+ghost use Rattle.std.specs.Prelude.{◌≡◌, ◌≤◌, ℕ, List, [], false, length, IfOk, Some};
 ghost use Rattle.x7_flow.specs.Standing.{FramesFit};
 ghost use Rattle.x7_engine.specs.Kept.{on_the_bench};
 ghost use Rattle.x7_engine.specs.ReadBuffer.{dropping};
 ghost use Rattle.x7_engine.specs.declared.stop.StopCause.{StopCause};
-ghost use Rattle.x7_engine.specs.Standing.{CanBeGiven, DeviceState, DeviceStandsFor, NoWordDue, answer_at_stop, fed_more, fed_of, taken_in};
+ghost use Rattle.x7_engine.specs.Standing.{CanBeGiven, DeviceState, DeviceStandsFor, NoWordDue, answer_at_stop, fed_of, taken_in};
 ghost use Rattle.x7_engine.specs.Undo.{AreEqualButForFed, IsUndoOf, SavesDevice, TookFewSince, UndoLeadsBack, device_saved, undo_reach};
-ghost use Rattle.x7_engine.specs.Past.{AnswersFor, ForEachPast, TakesJust, TakesNothing, prefix_taken, stop_at, HasPast, Past, later};
+ghost use Rattle.x7_engine.specs.Feeding.{TakesFirst};
+ghost use Rattle.x7_engine.specs.Past.{AnswersFor, ForEachPast, prefix_taken, HasPast, Past, later};
 
 use super::Device;
 use crate::fed::Fed;
@@ -93,13 +94,8 @@ impl Device {
         requires fits { CanBeGiven self.old (length piece.now) }
         requires no_word_due { NoWordDue self.old }
         requires undo { IsUndoOf self.old.part undo.old }
-        ensures within { taken_in (length piece.now) result ≤ length piece.now }
-        ensures takes { TakesJust self.old self.new (prefix_taken piece.now result) }
+        ensures takes { TakesFirst self.old self.new piece.now (taken_in (length piece.now) result) }
         ensures answer { AnswersFor self.old self.new (prefix_taken piece.now result) dropping result }
-        ensures part { self.new.part ≡ self.old.part }
-        ensures taken { self.new.taken ≡ self.old.taken + taken_in (length piece.now) result }
-        ensures fed { fed_of self.new ≡ fed_more self.old (taken_in (length piece.now) result) }
-        ensures stopped { ForEachPast self.old (λ p. IsSome (stop_at p) → TakesNothing self.old self.new dropping dropping (taken_in (length piece.now) result)) }
         ensures answers_stop { (why : StopCause) → self.old.registers.stop ≡ Some why → result ≡ answer_at_stop why 0 }
         ensures saves { SavesDevice undo.new self.old }
         ensures back { ForEachPast self.old (λ p. UndoLeadsBack undo.new self.new self.old) }

@@ -1,5 +1,5 @@
 -- The lines that AsmLines takes: the first, one more, many at once, and the last.
-use Rattle.std.proofs.Common.{◌≡◌, inl, inr, ℕ, ◌+◌, ◌-◌, ◌≤◌, true, List, [], ◌∷◌, ◌++◌, Option, Some, IfSome, Result, Ok, Err, IfErr, OnOk, MatchResult, length, map, take, drop, refl, ap, sym, subst, ◌∙◌, arith, append_assoc, append-nil, length-append, take_all, Bool, false, codes}
+use Rattle.std.proofs.Common.{◌≡◌, inl, inr, ℕ, ◌+◌, ◌-◌, ◌≤◌, true, List, [], ◌∷◌, ◌++◌, Option, Some, IfSome, Result, Ok, Err, IfErr, OnOk, MatchResult, length, map, take, drop, refl, ap, sym, subst, ◌∙◌, arith, append_assoc, append-nil, length-append, take_all, Bool, false}
 use Rattle.std.proofs.lemmas.List.{drop-append-le, length-map}
 use Rattle.std.proofs.lemmas.Result.{err_from_is_err_and}
 use Rattle.std.specs.Result.{IsErrAnd}
@@ -15,7 +15,7 @@ use Rattle.x7_listing.specs.Assembly.{AreHeadedAsm}
 use Rattle.x7_listing.specs.Assembling.{HasReadWithRoom, AsmState, FailsFirst, FailsNext, TextsAreRead, HasAsmFault, HasLineRoom, IsOutputOf, IsFirstOrGood, IsSoundOutput, Output, ReadsFirst, ReadsNext, AppendsLines, Unbegun, AreReadOrUnbegun, LinesAreRead, state_of_output, asm_state, has_any}
 use Rattle.x7_listing.specs.BitLine.{bit_text, IsHeaderOf, FitsHeader}
 use Rattle.x7_text.specs.Reads.{AppendsIfRead}
-use Rattle.x7_listing.specs.Line.{Line, Empty, Comment, Bytes, Sync, Nop, Write, Read, Write2, Read2, Word, Data, Cmd, Check, line_bytes, FitsLine, text_of}
+use Rattle.x7_listing.specs.Line.{Line, line_bytes, FitsLine, text_of}
 use Rattle.x7_listing.specs.declared.assembler.AsmFault.{AsmFault}
 use Rattle.x7_listing.specs.declared.assembler.AsmFault.TheVariants as fault
 use Rattle.x7_listing.proofs.AssemblingLemmas.{goes_whole, went_nothing}
@@ -82,26 +82,6 @@ pub if_some : {X : Type 0} → (P : X → Type 0) (o : Option X) (x : X) → o �
 if_some P o x e h = subst (λ p. IfSome p P) e h
 
 -- ---- one line more
-
--- the bytes of a line other than `crc` are those under any check
-any_check : (check : ℕ) (l : Line) → (text_of l ≡ codes "crc" → ⊥) → line_bytes 0 l ≡ line_bytes check l
-any_check check Empty n = refl
-any_check check (Comment text) n = refl
-any_check check (Bytes bytes) n = refl
-any_check check Sync n = refl
-any_check check Nop n = refl
-any_check check (Write register count) n = refl
-any_check check (Read register count) n = refl
-any_check check (Write2 count) n = refl
-any_check check (Read2 count) n = refl
-any_check check (Word word) n = refl
-any_check check (Data words) n = refl
-any_check check (Cmd command) n = refl
-any_check check Check n = absurd (n refl)
-
-pub reads_any : (check : ℕ) (b : Bool) (t old new : List ℕ) → (t ≡ codes "crc" → ⊥) → AppendsIfRead FitsLine text_of (line_bytes 0) b t old new → AppendsIfRead FitsLine text_of (line_bytes check) b t old new
-reads_any check true t old new n r = (r.0, r.1, r.2, r.3 ∙ ap (λ (bs : List ℕ). old ++ bs) (any_check check r.0 (λ e. n (r.2 ∙ e))))
-reads_any check false t old new n r = r
 
 -- a line only appends
 grown : (check : ℕ) (b : Bool) (t old new : List ℕ) → AppendsIfRead FitsLine text_of (line_bytes check) b t old new → (more : List ℕ) × (new ≡ old ++ more)

@@ -1,5 +1,5 @@
 -- The texts of lines hold no line end, and lines of a listing stand for bytes.
-use Rattle.std.proofs.Common.{◌≡◌, ◌==◌, ℕ, ◌<◌, ◌^◌, if◌then◌else◌, Bool, true, false, List, [], ◌∷◌, ◌++◌, refl, ap, arith, codes}
+use Rattle.std.proofs.Common.{◌≡◌, ◌==◌, ℕ, ◌<◌, ◌^◌, if◌then◌else◌, Bool, true, false, List, [], ◌∷◌, ◌++◌, refl, ap, sym, arith, codes}
 use Rattle.std.proofs.lemmas.Bool.Decides.{nat_tests}
 use Rattle.std.proofs.lemmas.Grind.{common_steps}
 use Rattle.std.proofs.lemmas.Fmt.{digits_decimal}
@@ -15,9 +15,13 @@ use Rattle.x7_text.specs.Digits.{hex_word}
 use Rattle.x7_text.specs.Lines.{has_no_end}
 use Rattle.x7_text.specs.Row.{spaced}
 use Rattle.x7_text.proofs.PieceLemmas.{free_both, free_more, hex_free, word_free}
-use Rattle.x7_listing.specs.Line.{Line, Empty, Comment, Bytes, Sync, Nop, Write, Read, Write2, Read2, Word, Data, Cmd, Check, cmd_line, ended_text, line_bytes, FitsLine, IsNeitherCommentNorCheck, text_of}
+use Rattle.x7_listing.specs.Line.{Line, Empty, Comment, Bytes, Sync, Nop, Write, Read, Write2, Read2, Word, Data, Cmd, Check, cmd_line, ended_text, line_bytes, FitsLine, IsNeitherCommentNorCheck, IsWordLine, text_of, word_of_line}
+use Rattle.x7_listing.specs.HeadLine.{best_line, line_of_head}
 use Rattle.x7_listing.proofs.GuessLemmas.{own, each_name, each_holds}
-use Rattle.x7_packets.specs.PacketWords.{type1_count_bound}
+use Rattle.x7_packets.specs.Packet.{register_of, type1_count_of, type2_count_of, header_kind_of}
+use Rattle.x7_packets.specs.PacketWords.{no_op, sync_word, type1_count_bound, type1_read_header, type1_write_header, type2_read_kind, type2_write_kind}
+use Rattle.x7_packets.specs.declared.header.Step.{Step}
+use Rattle.x7_packets.specs.declared.header.Step.TheVariants as step
 
 -- texts that hold no line end
 words_free : (ws : List ℕ) → has_no_end (flat_map spaced ws) ≡ true
@@ -124,3 +128,61 @@ is_apart a b c = grind (arith, nat_tests)
 -- a payload word of CMD that is no command's code
 pub no_command_line : (w : ℕ) → (code_of (command_by w) ≡ w → ⊥) → ended_text (cmd_line w) ≡ codes "data " ++ hex_word w ++ 10 ∷ []
 no_command_line w c = rw (is_apart (code_of (command_by w)) w c) refl
+
+-- the bytes of a line of one word
+pub word_bytes : (check : ℕ) (l : Line) → IsWordLine l → bytes_of_word (word_of_line l) ≡ line_bytes check l
+word_bytes check Empty h = absurd h
+word_bytes check (Comment text) h = absurd h
+word_bytes check (Bytes bs) h = absurd h
+word_bytes check Sync h = refl
+word_bytes check Nop h = refl
+word_bytes check (Write n k) h = refl
+word_bytes check (Read n k) h = refl
+word_bytes check (Write2 k) h = refl
+word_bytes check (Read2 k) h = refl
+word_bytes check (Word x) h = refl
+word_bytes check (Data ws) h = absurd h
+word_bytes check (Cmd x) h = refl
+word_bytes check Check h = absurd h
+
+pick : (P : Line → Type 0) (b : Bool) (x y : Line) → (b ≡ true → P x) → P y → P (if b then x else y)
+pick P true x y f g = f refl
+pick P false x y f g = g
+
+by_step : (P : Line → Type 0) (s : Step) (w : ℕ) → P (Word w) → P (best_line w) → P (line_of_head s w)
+by_step P (step.Bad x) w b h = b
+by_step P step.Filler w b h = h
+by_step P step.Nop w b h = h
+by_step P (step.Open r c) w b h = h
+by_step P (step.Payload r x) w b h = h
+by_step P (step.Read r c) w b h = h
+
+-- the line of a word in a header's place is one of one word
+best_is_one : (w : ℕ) → IsWordLine (best_line w)
+best_is_one w =
+    pick IsWordLine (w == no_op) Nop _ (λ _. tt)
+    (pick IsWordLine (w == sync_word) Sync _ (λ _. tt)
+    (pick IsWordLine (w == type1_write_header (register_of w) (type1_count_of w)) (Write (register_of w) (type1_count_of w)) _ (λ _. tt)
+    (pick IsWordLine (w == type1_read_header (register_of w) (type1_count_of w)) (Read (register_of w) (type1_count_of w)) _ (λ _. tt)
+    (pick IsWordLine (header_kind_of w == type2_write_kind) (Write2 (type2_count_of w)) _ (λ _. tt)
+    (pick IsWordLine (header_kind_of w == type2_read_kind) (Read2 (type2_count_of w)) (Word w) (λ _. tt) tt)))))
+
+pub head_is_one : (s : Step) (w : ℕ) → IsWordLine (line_of_head s w)
+head_is_one s w = by_step IsWordLine s w tt (best_is_one w)
+
+-- it is a line of a listing, and stands for just this word
+abbrev pub IsLineOfWord : ℕ → Line → Type 0
+IsLineOfWord w l = (word_of_line l ≡ w) × Listed l
+
+best_is_of_word : (w : ℕ) → w < 2 ^ 32 → IsLineOfWord w (best_line w)
+best_is_of_word w h =
+    let r : register_of w < reg_number_count = omega arith in
+    pick (IsLineOfWord w) (w == no_op) Nop _ (λ e. (sym (is_eq w no_op e), (tt, tt)))
+    (pick (IsLineOfWord w) (w == sync_word) Sync _ (λ e. (sym (is_eq w sync_word e), (tt, tt)))
+    (pick (IsLineOfWord w) (w == type1_write_header (register_of w) (type1_count_of w)) (Write (register_of w) (type1_count_of w)) _ (λ e. (sym (is_eq w (type1_write_header (register_of w) (type1_count_of w)) e), ((r, omega arith), tt)))
+    (pick (IsLineOfWord w) (w == type1_read_header (register_of w) (type1_count_of w)) (Read (register_of w) (type1_count_of w)) _ (λ e. (sym (is_eq w (type1_read_header (register_of w) (type1_count_of w)) e), ((r, omega arith), tt)))
+    (pick (IsLineOfWord w) (header_kind_of w == type2_write_kind) (Write2 (type2_count_of w)) _ (λ e. let k : header_kind_of w ≡ type2_write_kind = is_eq (header_kind_of w) type2_write_kind e in (omega arith, (omega arith, tt)))
+    (pick (IsLineOfWord w) (header_kind_of w == type2_read_kind) (Read2 (type2_count_of w)) (Word w) (λ e. let k : header_kind_of w ≡ type2_read_kind = is_eq (header_kind_of w) type2_read_kind e in (omega arith, (omega arith, tt))) (refl, (h, tt)))))))
+
+pub head_is_of_word : (s : Step) (w : ℕ) → w < 2 ^ 32 → IsLineOfWord w (line_of_head s w)
+head_is_of_word s w h = by_step (IsLineOfWord w) s w (refl, (h, tt)) (best_is_of_word w h)

@@ -11,11 +11,13 @@ ghost use Rattle.x7_listing.specs.declared.assembler.AsmFault.{AsmFault};
 
 use super::fast::{WholeLines, next_line, read_quick};
 use super::header::header_of_line;
-use super::reading::{MOST_ROW_SIZE, read_line};
+use super::reading::{MOST_ROW_SIZE, put_two_words, read_line};
 use crate::assembler::{ASM_LIMIT, AsmFault};
 use std::alloc::Global;
 use std::marker::Model;
 use x7_crc::Checker;
+use x7_packets::type1_write_header;
+use x7_regs::Reg;
 use x7_text::TakesLines;
 use x7_words::is_same;
 
@@ -30,10 +32,11 @@ fn read_checked_line(out: &mut Vec<u8>, start: usize, checker: &mut Checker, lin
     ensures keeps { KeepsCheckOf checker.new (drop start out.new.items) }
 {
     if !is_same(line, b"crc") {
-        return read_line(out, 0, line);
+        return read_line(out, line);
     }
     let check = checker.check_of(&out[start..]);
-    read_line(out, check, line)
+    put_two_words(out, type1_write_header(Reg::Crc.number(), 1), check);
+    true
 }
 
 /// The bytes that the lines of a text gave so far, the place where those after a header begin, and their check.

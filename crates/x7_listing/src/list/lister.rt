@@ -102,13 +102,10 @@ impl Lister {
             → ListerStandsFor self.new given before (bytes ++ piece.now)) }
         ensures unchanged { OnErr result (self.new ≡ self.old) }
     {
-        let Some(room) = piece.len().checked_mul(BYTE_ROOM) else {
-            return Err(NoMemory);
-        };
-        let Some(room) = room.checked_add(3 * self.cutter.kept().len() + SPARE_ROOM) else {
-            return Err(NoMemory);
-        };
-        self.text.reserve(room)?;
+        // A product or a sum that is cut off is more than memory ever has: `reserve` refuses it.
+        let room = piece.len().saturating_mul(BYTE_ROOM);
+        let spare_room = 3 * self.cutter.kept().len() + SPARE_ROOM;
+        self.text.reserve(room.saturating_add(spare_room))?;
         self.pen = take_piece(&mut self.text, &mut self.cutter, self.pen, piece);
         Ok(())
     }

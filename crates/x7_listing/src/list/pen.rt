@@ -7,8 +7,8 @@ ghost use Rattle.x7_regs.specs.Register.{number_of};
 ghost use Rattle.x7_regs.specs.declared.register.Reg.TheVariants.{Cmd};
 ghost use Rattle.x7_text.specs.Appends.{Appends, HasSpareRoom};
 ghost use Rattle.x7_text.specs.Reads.{StaysWithin};
-ghost use Rattle.x7_text.specs.Row.{close, in_line_after, open_bytes, bytes_row_size, rows_text_limit};
-ghost use Rattle.x7_listing.specs.HeadLine.{line_size};
+ghost use Rattle.x7_text.specs.Row.{rows_text_limit};
+ghost use Rattle.x7_listing.specs.HeadLine.{head_line_limit};
 ghost use Rattle.x7_listing.specs.Pens.{EndsWith, GapGoesOn, gap_written, held_by, is_in_session, in_line_of, written_with};
 ghost use Rattle.x7_listing.specs.Lister.{in_line_after_words, open_words, WritesRun};
 
@@ -122,9 +122,9 @@ fn hold_all(text: &mut Vec<u8>, pen: GapPen, bytes: &[u8]) -> GapPen
 
 /// Appends a payload word after an open line. Gives how many words stand in the open line then.
 fn put_payload(text: &mut Vec<u8>, in_line: OpenWords, register: u8, word: u32) -> OpenWords
-    requires room { HasSpareRoom text.old (1 + line_size) }
+    requires room { HasSpareRoom text.old (1 + head_line_limit) }
     ensures count { result.count ≡ in_line_after_words in_line.count (payload_steps register (word ∷ [])) }
-    ensures appends { Appends text.old text.new (open_words in_line.count (payload_steps register (word ∷ []))) (1 + line_size) }
+    ensures appends { Appends text.old text.new (open_words in_line.count (payload_steps register (word ∷ []))) (1 + head_line_limit) }
 {
     if register == Reg::Cmd.number() {
         put_command(text, in_line.count, word);
@@ -158,7 +158,9 @@ fn put_body(text: &mut Vec<u8>, in_line: OpenWords, register: u8, body: &[u8]) -
     }
 }
 
-/// Appends what a run adds to the listing, and gives the pen after it.
+/// Appends what a run adds to the listing, and gives the pen after it. A call of its own, so that the loop of short runs
+/// has the registers for itself.
+#[inline(never)]
 pub(crate) fn put_run(text: &mut Vec<u8>, pen: Pen, run: Cut) -> Pen
     requires run { IsRun run }
     requires room { HasSpareRoom text.old (CALL_ROOM + 3 * length (run_bytes run)) }
@@ -182,35 +184,19 @@ pub(crate) fn put_run(text: &mut Vec<u8>, pen: Pen, run: Cut) -> Pen
     }
 }
 
-/// Appends what is left of a gap.
-fn end_gap(text: &mut Vec<u8>, pen: GapPen)
-    requires room { HasSpareRoom text.old CALL_ROOM }
-    ensures appends { text.new.items ≡ text.old.items ++ open_bytes pen.in_line (take pen.count pen.held)
-        ++ close (in_line_after bytes_row_size pen.in_line (take pen.count pen.held)) }
-{
-    let in_line = put_bytes(text, pen.in_line, &pen.held[..pen.count]);
-    put_close(text, in_line);
-}
-
-/// Appends what is left of a session: the end of an open line, and the bytes of no whole word.
-fn end_session(text: &mut Vec<u8>, in_line: usize, kept: &[u8])
-    requires short { length kept.now ≤ 3 }
-    requires room { HasSpareRoom text.old CALL_ROOM }
-    ensures appends { text.new.items ≡ text.old.items ++ close in_line ++ open_bytes 0 kept.now ++ close (in_line_after bytes_row_size 0 kept.now) }
-{
-    put_close(text, in_line);
-    let count = put_bytes(text, 0, kept);
-    put_close(text, count);
-}
-
-/// Appends what is left at the end of a stream.
+/// Appends what is left at the end of a stream: the bytes that a gap holds, or those of no whole word (`kept`), and the
+/// end of the open line.
 pub(crate) fn put_end(text: &mut Vec<u8>, pen: Pen, kept: &[u8])
     requires short { length kept.now ≤ 3 }
     requires room { HasSpareRoom text.old CALL_ROOM }
     ensures listed { EndsWith (written_with pen text.old.items) kept.now text.new.items }
 {
-    match pen {
-        Pen::Gap(gap) => end_gap(text, gap),
-        _ => end_session(text, open_in(pen).count, kept),
+    if let Pen::Gap(gap) = pen {
+        let in_line = put_bytes(text, gap.in_line, &gap.held[..gap.count]);
+        put_close(text, in_line);
+        return;
     }
+    put_close(text, open_in(pen).count);
+    let in_line = put_bytes(text, 0, kept);
+    put_close(text, in_line);
 }

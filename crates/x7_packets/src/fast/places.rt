@@ -104,8 +104,8 @@ pub(crate) fn first_of_places(bytes: &[u8], at: usize) -> Option<usize>
     Some(at + lowest_bit(bits))
 }
 
-/// The first place where the sync word stands, none where it stands nowhere. The
-/// last 32 places may overlap those before.
+/// The first place where the sync word stands, none where it stands nowhere. The last 32 places may overlap those
+/// before.
 pub(crate) fn first_sync(bytes: &[u8]) -> Option<usize>
     requires { places_reach ≤ length bytes.now }
     ensures { IsFirst (OccursAt bytes.now sync_bytes) 0 (length bytes.now + 1) result }

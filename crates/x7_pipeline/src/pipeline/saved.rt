@@ -51,7 +51,7 @@ fn address_at_slot(slot: Slot) -> Option<u32>
     }
 }
 
-/// Makes the vector, which has room for them, hold the words.
+/// Makes the vector, which has room for them, hold the words of `from`.
 fn copy_words(words: &mut Vec<u32>, from: &[u32])
     requires { length from.now ≤ vec_capacity words.old }
     ensures items { words.new.items ≡ from.now }
@@ -65,7 +65,7 @@ fn copy_words(words: &mut Vec<u32>, from: &[u32])
     }
 }
 
-/// Makes the vector, which has room for them, hold the words, where `has_words` says that there are any.
+/// Makes the vector, which has room for them, hold the words of `from`, where `has_words` says that these count.
 fn copy_some(words: &mut Vec<u32>, from: &[u32], has_words: bool)
     requires { has_words ≡ true → length from.now ≤ vec_capacity words.old }
     ensures items { has_words ≡ true → words.new.items ≡ from.now }

@@ -27,8 +27,8 @@ returns-clause-at_position c =
     takes.0 takes.1) in
     record {
       there = record {
-        on = on_more part stream c.args.device.now c.feed.new.device c.args.journal.now c.feed.new.self c.args.to c.feed.ensures.recorded.0 c.requires.may_move.may.on there
-            c.requires.may_move.forward c.requires.one_record c.feed.ensures.records c.feed.ensures.recorded.1 c.feed.ensures.recorded.2;
+        on = on_more part stream c.args.device.now c.feed.new.device c.args.journal.now c.feed.new.self c.args.to c.feed.ensures.recorded.undo c.requires.may_move.may.on there
+            c.requires.may_move.forward c.requires.one_record c.feed.ensures.records c.feed.ensures.recorded.saves c.feed.ensures.recorded.records;
         part = there.stands.part_is;
         taken = there.taken;
       };

@@ -8,8 +8,8 @@ use Rattle.x7_debug.proofs.moving.go_back.Goals as goal
 pub returns-then-taken-to-clause-oldest : goal.returns-then-taken-to-clause-oldest
 returns-then-taken-to-clause-oldest c =
     let us : List UndoState = records_of c.take_back.new.journal in
-    ap (oldest_by c.feed_recorded.new.device.taken) c.feed_recorded.ensures.recorded.2
-    ∙ ap (λ (n : ℕ). oldest_by n (take 63 us)) c.feed_recorded.ensures.recorded.1
+    ap (oldest_by c.feed_recorded.new.device.taken) c.feed_recorded.ensures.recorded.records
+    ∙ ap (λ (n : ℕ). oldest_by n (take 63 us)) c.feed_recorded.ensures.recorded.saves.values.taken
     ∙ ap (oldest_by c.take_back.new.device.taken) (take_all 63 us (omega (arith, c.take_back.ensures.room_for_one)))
     ∙ c.take_back.ensures.oldest
 

@@ -22,8 +22,8 @@ loop-device-preserved c =
           before (c.taken-next.result + 4) c.loop-device.invariant.since (omega (arith, next)) c.loop-device.invariant.comes c.feed_recorded.ensures.at_position);
       within = omega (arith, next, c.loop-device-test.true, c.taken.ensures.stored);
       since = omega (arith, next, c.loop-device.invariant.since);
-      reaches = subst (Reaches c.args.device.now.taken to) (sym c.feed_recorded.ensures.recorded.2)
-          (reaches_whole c.args.device.now.taken before to c.feed_recorded.ensures.recorded.0 (records_of c.loop-device.journal) c.feed_recorded.ensures.recorded.1 next c.loop-device.invariant.reaches);
+      reaches = subst (Reaches c.args.device.now.taken to) (sym c.feed_recorded.ensures.recorded.records)
+          (reaches_whole c.args.device.now.taken before to c.feed_recorded.ensures.recorded.undo (records_of c.loop-device.journal) c.feed_recorded.ensures.recorded.saves.values.taken next c.loop-device.invariant.reaches);
     }
 
 pub returns-then-taken-to : goal.returns-then-taken-to
@@ -33,10 +33,10 @@ returns-then-taken-to c =
     let more = c.feed_recorded-then-taken-to.ensures.recorded in
     let before : ℕ = c.loop-device.device.taken in
     let l : before < c.args.to = omega (arith, c.if-taken-to.true, c.taken-2.ensures.stored) in
-    let last : oldest_by c.args.to (more.0 ∷ take 63 (records_of c.loop-device.journal)) ≤ max c.args.device.now.taken (c.args.to - 253) =
-    reaches_last c.args.device.now.taken before c.args.to more.0 (records_of c.loop-device.journal) more.1 l here.reaches in
-    let same : oldest_by c.feed_recorded-then-taken-to.new.device.taken (records_of c.feed_recorded-then-taken-to.new.journal) ≡ oldest_by c.args.to (more.0 ∷ take 63 (records_of c.loop-device.journal)) =
-    ap (λ (n : ℕ). oldest_by n (records_of c.feed_recorded-then-taken-to.new.journal)) there.there.taken ∙ ap (oldest_by c.args.to) more.2 in
+    let last : oldest_by c.args.to (more.undo ∷ take 63 (records_of c.loop-device.journal)) ≤ max c.args.device.now.taken (c.args.to - 253) =
+    reaches_last c.args.device.now.taken before c.args.to more.undo (records_of c.loop-device.journal) more.saves.values.taken l here.reaches in
+    let same : oldest_by c.feed_recorded-then-taken-to.new.device.taken (records_of c.feed_recorded-then-taken-to.new.journal) ≡ oldest_by c.args.to (more.undo ∷ take 63 (records_of c.loop-device.journal)) =
+    ap (λ (n : ℕ). oldest_by n (records_of c.feed_recorded-then-taken-to.new.journal)) there.there.taken ∙ ap (oldest_by c.args.to) more.records in
     record {
       at_position = record {
         forward = comes_on c.args.stream.now c.args.device.now c.loop-device.device c.feed_recorded-then-taken-to.new.device c.loop-device.journal c.feed_recorded-then-taken-to.new.journal before c.args.to here.since (omega (arith, l, there.there.taken)) here.comes there;

@@ -16,13 +16,13 @@ returns-in_err-show-clause-some_orders c =
     let o : Order = get_or items i (order.Step 0) in
     let same : items ≡ orders = c.orders-order-items.ensures in
     let below : i < length orders = omega (arith, ap length same, c.loop-order-test.true) in
-    let some : FollowsSomeOrders old c.follow.new.self orders = (
-      take (i + 1) orders,
-      drop (i + 1) orders,
-      sym (take-append-drop (i + 1) orders),
-      moves_on old c.loop-order.session c.follow.new.self (final_position old.part old.stream (take i orders)) (final_position old.part old.stream (take (i + 1) orders)) o c.loop-order.invariant.moves c.follow.ensures
-          (position_more old.part old.stream orders i o (order.Step 0) below (ap (λ (t : List Order). get_or t i (order.Step 0)) same)),
-    ) in
+    let some : FollowsSomeOrders old c.follow.new.self orders = record {
+      done = take (i + 1) orders;
+      left = drop (i + 1) orders;
+      all = sym (take-append-drop (i + 1) orders);
+      follows = moves_on old c.loop-order.session c.follow.new.self (final_position old.part old.stream (take i orders)) (final_position old.part old.stream (take (i + 1) orders)) o c.loop-order.invariant.moves c.follow.ensures
+          (position_more old.part old.stream orders i o (order.Step 0) below (ap (λ (t : List Order). get_or t i (order.Step 0)) same));
+    } in
     search rules
 
 pub loop-order-preserved : goal.loop-order-preserved

@@ -38,21 +38,21 @@ returns-then-seek_word-clause-at_position c =
     let found : holds_at part stream c.args.stop m ≡ true = subst (λ (p : PartData). holds_at p stream c.args.stop m ≡ true) here.comes.there.part (there.found c.if-seek_word.true) in
     let later : (k : ℕ) → n < k → k < m → holds_at part stream c.args.stop k ≡ false = λ k h j. subst (λ (p : PartData). holds_at p stream c.args.stop k ≡ false) here.comes.there.part (there.none_before k h j) in
     let some : n < c.args.last = omega (arith, c.loop-stop-test.true, c.taken.ensures.stored) in
-    let last : oldest_by m (there.recorded.0 ∷ take (record_room - 1) (records_of c.loop-stop.journal)) ≤ max from (m - reach) =
-    reaches_last from n m there.recorded.0 (records_of c.loop-stop.journal) there.recorded.1 there.forward.0 (here.reaches some) in
+    let last : oldest_by m (there.recorded.undo ∷ take (record_room - 1) (records_of c.loop-stop.journal)) ≤ max from (m - reach) =
+    reaches_last from n m there.recorded.undo (records_of c.loop-stop.journal) there.recorded.saves.values.taken there.forward (here.reaches some) in
     let both : ComesForward stream c.args.device.now c.seek_word.new.device c.seek_word.new.journal m =
-    comes_on stream c.args.device.now c.loop-stop.device c.seek_word.new.device c.loop-stop.journal c.seek_word.new.journal n m here.since (omega (arith, there.forward.0)) here.comes there.at_position in
+    comes_on stream c.args.device.now c.loop-stop.device c.seek_word.new.device c.loop-stop.journal c.seek_word.new.journal n m here.since (omega (arith, there.forward)) here.comes there.at_position in
     record {
       forward = record {
         there = record {
           on = both.there.on;
           part = both.there.part;
-          taken = sym (until_there part stream c.args.stop from m (omega (arith, here.since, there.forward.0)) (omega (arith, there.forward.1, c.requires.last_is)) found
+          taken = sym (until_there part stream c.args.stop from m (omega (arith, here.since, there.forward)) (omega (arith, there.within, c.requires.last_is)) found
               (none_between (holds_at part stream c.args.stop) from n m here.none later));
         };
         fed = both.fed;
       };
-      oldest = omega (arith, ap (oldest_by m) there.recorded.2, last);
+      oldest = omega (arith, ap (oldest_by m) there.recorded.records, last);
     }
 
 pub loop-stop-preserved : goal.loop-stop-preserved
@@ -66,17 +66,17 @@ loop-stop-preserved c =
     let some : n < c.args.last = omega (arith, c.loop-stop-test.true, c.taken.ensures.stored) in
     let here : holds_at part stream c.args.stop m ≡ false = subst (λ (p : PartData). holds_at p stream c.args.stop m ≡ false) same (c.seek_word.ensures.none_at_end c.if-seek_word.false) in
     let later : (k : ℕ) → n < k → k < m → holds_at part stream c.args.stop k ≡ false = λ k h j. subst (λ (p : PartData). holds_at p stream c.args.stop k ≡ false) same (c.seek_word.ensures.none_before k h j) in
-    let last : oldest_by m (c.seek_word.ensures.recorded.0 ∷ take (record_room - 1) (records_of c.loop-stop.journal)) ≤ max from (m - reach) =
-    reaches_last from n m c.seek_word.ensures.recorded.0 (records_of c.loop-stop.journal) c.seek_word.ensures.recorded.1 c.seek_word.ensures.forward.0 (c.loop-stop.invariant.reaches some) in
+    let last : oldest_by m (c.seek_word.ensures.recorded.undo ∷ take (record_room - 1) (records_of c.loop-stop.journal)) ≤ max from (m - reach) =
+    reaches_last from n m c.seek_word.ensures.recorded.undo (records_of c.loop-stop.journal) c.seek_word.ensures.recorded.saves.values.taken c.seek_word.ensures.forward (c.loop-stop.invariant.reaches some) in
     record {
-      comes = comes_on stream c.args.device.now c.loop-stop.device c.seek_word.new.device c.loop-stop.journal c.seek_word.new.journal n m c.loop-stop.invariant.since (omega (arith, c.seek_word.ensures.forward.0)) c.loop-stop.invariant.comes c.seek_word.ensures.at_position;
-      since = omega (arith, c.loop-stop.invariant.since, c.seek_word.ensures.forward.0);
-      within = c.seek_word.ensures.forward.1;
+      comes = comes_on stream c.args.device.now c.loop-stop.device c.seek_word.new.device c.loop-stop.journal c.seek_word.new.journal n m c.loop-stop.invariant.since (omega (arith, c.seek_word.ensures.forward)) c.loop-stop.invariant.comes c.seek_word.ensures.at_position;
+      since = omega (arith, c.loop-stop.invariant.since, c.seek_word.ensures.forward);
+      within = c.seek_word.ensures.within;
       none = none_up_to (holds_at part stream c.args.stop) from m (none_between (holds_at part stream c.args.stop) from n m c.loop-stop.invariant.none later) here;
       reaches = λ l.
-          subst (Reaches from m) (sym c.seek_word.ensures.recorded.2)
-          (reaches_whole from n m c.seek_word.ensures.recorded.0 (records_of c.loop-stop.journal) c.seek_word.ensures.recorded.1 (c.seek_word.ensures.whole_record c.if-seek_word.false l) (c.loop-stop.invariant.reaches some));
-      oldest = λ l. omega (arith, ap (oldest_by m) c.seek_word.ensures.recorded.2, last);
+          subst (Reaches from m) (sym c.seek_word.ensures.recorded.records)
+          (reaches_whole from n m c.seek_word.ensures.recorded.undo (records_of c.loop-stop.journal) c.seek_word.ensures.recorded.saves.values.taken (c.seek_word.ensures.whole_record c.if-seek_word.false l) (c.loop-stop.invariant.reaches some));
+      oldest = λ l. omega (arith, ap (oldest_by m) c.seek_word.ensures.recorded.records, last);
     }
 
 pub returns-clause-at_position : goal.returns-clause-at_position

@@ -48,8 +48,8 @@ loop-stop-preserved c =
     record {
       comes = record {
         there = record {
-          on = on_further c.loop-stop.device.part stream c.loop-stop.device c.feed_to.new.device c.args.journal.now (c.taken-at.result + 1) c.requires.newest_record.0 c.requires.newest_record.1 c.loop-stop.invariant.comes.there.on c.requires.newest_record.2 c.feed_to.ensures.at_position
-              (omega (arith, at)) (omega (arith, at, less, c.requires.newest_record.3));
+          on = on_further c.loop-stop.device.part stream c.loop-stop.device c.feed_to.new.device c.args.journal.now (c.taken-at.result + 1) c.requires.near_newest.undo c.requires.near_newest.older c.loop-stop.invariant.comes.there.on c.requires.near_newest.records c.feed_to.ensures.at_position
+              (omega (arith, at)) (omega (arith, at, less, c.requires.near_newest.near));
           part = c.feed_to.ensures.at_position.stands.part_is ∙ c.loop-stop.invariant.comes.there.part;
           taken = refl;
         };

@@ -1,14 +1,14 @@
 use Rattle.std.proofs.Common.{◌≡◌, ◌+◌, ◌-◌, ℕ, true, false, take, subst, sym, arith}
 use Rattle.x7_part.specs.Part.{PartData}
-use Rattle.x7_debug.specs.Journal.{HasRecorded, record_room, records_of}
+use Rattle.x7_debug.specs.Journal.{record_room, records_of}
 use Rattle.x7_debug.specs.Position.{holds_at}
 use Rattle.x7_debug.proofs.JournalLemmas.{comes_on, within_still}
 use Rattle.x7_debug.proofs.until.seek_word.Goals as goal
 
-pub seek-requires-clause-newest_record : goal.seek-requires-clause-newest_record
-seek-requires-clause-newest_record c =
-    let more : HasRecorded c.args.device.now.taken c.args.journal.now c.feed_recorded.new.journal = c.feed_recorded.ensures.recorded in
-    (more.0, take (record_room - 1) (records_of c.args.journal.now), more.2, omega (arith, more.1))
+pub seek-requires-clause-near_newest : goal.seek-requires-clause-near_newest
+seek-requires-clause-near_newest c =
+    let more = c.feed_recorded.ensures.recorded in
+    record { undo = more.undo; older = take (record_room - 1) (records_of c.args.journal.now); records = more.records; near = omega (arith, more.saves.values.taken, c.min.ensures, c.taken-from.ensures.stored) }
 
 pub feed_recorded-requires-clause-may_move : goal.feed_recorded-requires-clause-may_move
 feed_recorded-requires-clause-may_move c =

@@ -1,12 +1,12 @@
 use Rattle.std.proofs.Common.{refl, ◌∷◌, []}
 use Rattle.x7_forms.specs.Form.{Debugging}
-use Rattle.x7_forms.specs.Known.{Answer, part_limit, stream_limit}
+use Rattle.x7_forms.specs.Known.{Answer, part_limit, stream_limit, script_limit}
 use Rattle.x7_forms.specs.Event.{event_of}
 use Rattle.x7_forms.specs.ReadingStops.{limited}
 use Rattle.x7_forms.proofs.ReadLemmas.{answers_by, answers_kept}
 use Rattle.x7_forms.proofs.ResultLemmas.{handed_on, err_weaker}
 use Rattle.x7_device_forms.specs.Debug.{debug_given}
-use Rattle.x7_outcome.specs.Outcome.{DebugInputs, DebuggedAs, debug_inputs, script_limit}
+use Rattle.x7_outcome.specs.Outcome.{DebugInputs, DebuggedAs, debug_inputs}
 use Rattle.x7_outcome.specs.Ready.{text_answer}
 use Rattle.x7_forms.specs.Step.{result_by}
 use Rattle.x7_device_forms.proofs.ReadyLemmas.{debug_due}

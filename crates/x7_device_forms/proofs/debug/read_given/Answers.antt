@@ -1,9 +1,9 @@
 use Rattle.std.proofs.Common.{ℕ, List, [], ◌∷◌, Result, Ok, Err, arith, inr, refl}
 use Rattle.x7_forms.specs.Event.{Event, event_of}
 use Rattle.x7_part.specs.Part.{PartData}
-use Rattle.x7_forms.specs.Known.{and_so, part_known, whole_known, part_limit, stream_limit}
+use Rattle.x7_forms.specs.Known.{and_so, part_known, whole_known, part_limit, stream_limit, script_limit}
 use Rattle.x7_forms.proofs.ReadLemmas.{answers_end, answers_go, answers_stop, first_of, part_steady, whole_steady}
-use Rattle.x7_outcome.specs.Outcome.{DebugInputs, script_limit, stream_data}
+use Rattle.x7_outcome.specs.Outcome.{DebugInputs, stream_data}
 use Rattle.x7_outcome.proofs.StreamLemmas.{stream_steady}
 use Rattle.x7_forms.proofs.AskedLemmas.{about_among, no_part_about, unplayed_about, unread_about}
 use Rattle.x7_forms.specs.ReadingStops.{limited}

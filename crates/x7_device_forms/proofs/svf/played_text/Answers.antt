@@ -20,7 +20,7 @@ returns c =
     let stands : TapStandsFor part c.play_svf-differ.new.tap c.play_svf-differ.new.device (clocks_played statements differ) = c.play_svf-differ.ensures.clocks part new in
     let taken : List ℕ = bytes_taken part (played_to part statements differ) in
     let device : DeviceStandsFor part on_the_bench false c.play_svf-differ.new.device taken = device_is part c.play_svf-differ.new.tap c.play_svf-differ.new.device (clocks_played statements differ) stands in
-    ok_weaker c.after.result (λ text whole. svf_is part statements c.play_svf-differ.new.tap c.play_svf-differ.new.device differ c.fault.result c.has_stopped-stopped.result c.play_line.new.out.items c.in_ok-report.report text
+    ok_weaker c.new-2.result (λ text whole. svf_is part statements c.play_svf-differ.new.tap c.play_svf-differ.new.device differ c.fault.result c.has_stopped-stopped.result c.play_line.new.out.items text
     stands (c.play_svf-differ.ensures.differs part new) (c.fault.ensures part on_the_bench false taken device)
     c.has_stopped-stopped.ensures
-    (c.in_ok-play_line.ensures.appends ∙ ap (λ (l : List ℕ). l ++ play_text differ) c.new-line.ensures.items) (c.in_ok-report.ensures.owing part on_the_bench false taken device) whole) c.after.ensures
+    (c.in_ok-play_line.ensures.appends ∙ ap (λ (l : List ℕ). l ++ play_text differ) c.new-line.ensures.items) (whole part on_the_bench false taken device)) c.new-2.ensures.owing

@@ -1,10 +1,10 @@
 use Rattle.std.proofs.Common.{[], ◌∷◌, Ok, arith, refl}
 use Rattle.x7_part.specs.Part.{PartData}
 use Rattle.x7_forms.specs.Event.{event_of}
-use Rattle.x7_forms.specs.Known.{and_so, part_known, whole_known, part_limit}
+use Rattle.x7_forms.specs.Known.{and_so, part_known, whole_known, part_limit, text_limit}
 use Rattle.x7_forms.proofs.ReadLemmas.{answers_stop, first_of}
 use Rattle.x7_outcome.proofs.TextLemmas.{texts_read, texts_unread}
-use Rattle.x7_outcome.specs.Outcome.{PartAndText, text_limit}
+use Rattle.x7_outcome.specs.Outcome.{PartAndText}
 use Rattle.x7_forms.proofs.AskedLemmas.{about_among, no_part_about, unread_about}
 use Rattle.x7_outcome.proofs.StopLemmas.{both_asked}
 use Rattle.x7_forms.specs.ReadingStops.{limited}

@@ -1,12 +1,12 @@
 use Rattle.std.proofs.Common.{refl, ◌∷◌, []}
 use Rattle.x7_forms.specs.Form.{PlayingSvf}
-use Rattle.x7_forms.specs.Known.{Answer, part_limit}
+use Rattle.x7_forms.specs.Known.{Answer, part_limit, text_limit}
 use Rattle.x7_forms.specs.Event.{event_of}
 use Rattle.x7_forms.specs.ReadingStops.{limited}
 use Rattle.x7_forms.specs.Step.{result_by}
 use Rattle.x7_forms.proofs.ReadLemmas.{answers_by, answers_kept}
 use Rattle.x7_forms.proofs.ResultLemmas.{handed_on, err_weaker}
-use Rattle.x7_outcome.specs.Outcome.{PartAndText, PlayedSvf, part_and_text, text_limit}
+use Rattle.x7_outcome.specs.Outcome.{PartAndText, PlayedSvf, part_and_text}
 use Rattle.x7_outcome.specs.Play.{play_answer}
 use Rattle.x7_device_forms.specs.Svf.{svf_given}
 use Rattle.x7_device_forms.proofs.ReadyLemmas.{svf_due}

@@ -22,10 +22,9 @@ use Rattle.x7_text.specs.Digits.{hex_byte, hex_word}
 use Rattle.x7_text.specs.Row.{bytes_text, close, in_line_after, open_text}
 use Rattle.x7_text.proofs.LineLemmas.{bytes_closed}
 use Rattle.x7_regs.specs.Register.{reg_name, reg_number_count}
-use Rattle.x7_listing.specs.declared.line.head_line.HeadLine.TheVariants.{Write}
 use Rattle.x7_listing.specs.Fast.AtOnce.{command_lines_text, write_line_text, write_name_text, write_start_text}
-use Rattle.x7_listing.specs.HeadLine.{best_line, line_as, text_of_head}
-use Rattle.x7_listing.specs.Line.{cmd_line, ended_text}
+use Rattle.x7_listing.specs.HeadLine.{best_line, text_of_head}
+use Rattle.x7_listing.specs.Line.{Write, cmd_line, ended_text}
 use Rattle.x7_listing.specs.Lister.{GapListed, HasListedJust, in_line_after_words, open_words, WritesRun, lister_of, written_of}
 use Rattle.x7_listing.proofs.GapLemmas.{listed_more}
 use Rattle.x7_listing.proofs.RunLemmas.{by_body, by_head, by_skip, by_sync, by_word}
@@ -55,16 +54,22 @@ equal_prefix step w size (suc n) (suc k) e h =
     ap (λ (m : ℕ). take m (text_of_head step w ++ equal_lines step w n)) more ∙ take-append-add (text_of_head step w) (equal_lines step w n) (size * k)
     ∙ ap (λ t. text_of_head step w ++ t) (equal_prefix step w size n k e (omega (arith, h)))
 
--- the header's line
+-- the header's line of a short write
+pub short_line_is : (register count : ℕ) → register < reg_number_count → count < 20 → text_of_head (Open register count) (type1_write_header register count) ≡ write_name_text register ++ (decimal count ++ 10 ∷ [])
+short_line_is register count h k =
+    let nop : (type1_write_header register count == no_op) ≡ false = grind (arith, nat_tests) in
+    let sync : (type1_write_header register count == sync_word) ≡ false = grind (arith, nat_tests) in
+    let named : register_of (type1_write_header register count) ≡ register = omega arith in
+    let number : type1_count_of (type1_write_header register count) ≡ count = omega arith in
+    let same : (type1_write_header register count == type1_write_header register count) ≡ true = grind (arith, nat_tests) in
+    let line : best_line (type1_write_header register count) ≡ Write register count = rw (nop, sync, named, number, same) refl in
+    ap ended_text line ∙ append_assoc (codes "write " ++ reg_name register) (32 ∷ decimal count) (10 ∷ []) ∙ sym (append_assoc (codes "write " ++ reg_name register) (32 ∷ []) (decimal count ++ 10 ∷ []))
+
+-- the header's line of a write of one word
 pub write_line_is : (register : ℕ) → register < reg_number_count → text_of_head (Open register 1) (type1_write_header register 1) ≡ write_line_text register
 write_line_is register h =
-    let nop : (type1_write_header register 1 == no_op) ≡ false = grind (arith, nat_tests) in
-    let sync : (type1_write_header register 1 == sync_word) ≡ false = grind (arith, nat_tests) in
-    let named : register_of (type1_write_header register 1) ≡ register = omega arith in
-    let count : type1_count_of (type1_write_header register 1) ≡ 1 = omega arith in
-    let same : (type1_write_header register 1 == type1_write_header register 1) ≡ true = grind (arith, nat_tests) in
-    let line : best_line (type1_write_header register 1) ≡ Write register 1 = rw (nop, sync, named, count, same) refl in
-    ap (λ h. ended_text (line_as h)) line ∙ ap (λ t. codes "write " ++ reg_name register ++ 32 ∷ t ++ 10 ∷ []) (decimal_digit 1 (omega arith)) ∙ append_assoc (codes "write " ++ reg_name register) (32 ∷ 49 ∷ []) (10 ∷ [])
+    short_line_is register 1 h (omega arith) ∙ ap (λ t. write_name_text register ++ (t ++ 10 ∷ [])) (decimal_digit 1 (omega arith))
+    ∙ append_assoc (codes "write " ++ reg_name register) (32 ∷ []) (49 ∷ 10 ∷ [])
 
 -- the lines of a write of one word: a row to CMD, and a row and the digits of a word to another register
 pub command_row_is : (line register w : ℕ) → register ≡ 4 → close line ++ command_lines_text w ≡ close line ++ text_of_head (Open register 1) (type1_write_header register 1) ++ open_words 0 (payload_steps register (w ∷ []))
@@ -79,17 +84,6 @@ data_row_is line register w h n =
     data_listed register 0 (w ∷ []) (is_data register n) ∙ append-nil _ ∙ ap (λ t. codes "data" ++ t) (append-nil (32 ∷ hex_word w)) in
     append_assoc (close line) (write_start_text register) (hex_word w) ∙ ap (λ t. close line ++ t) (append_assoc H (codes "data ") (hex_word w)) ∙ sym (append_assoc (close line) H (codes "data " ++ hex_word w))
     ∙ ap (λ t. close line ++ t ++ (codes "data " ++ hex_word w)) (sym (write_line_is register h)) ∙ ap (λ t. close line ++ text_of_head (Open register 1) (type1_write_header register 1) ++ t) (sym listed)
-
--- the header's line of a short write
-pub short_line_is : (register count : ℕ) → register < reg_number_count → count < 20 → text_of_head (Open register count) (type1_write_header register count) ≡ write_name_text register ++ (decimal count ++ 10 ∷ [])
-short_line_is register count h k =
-    let nop : (type1_write_header register count == no_op) ≡ false = grind (arith, nat_tests) in
-    let sync : (type1_write_header register count == sync_word) ≡ false = grind (arith, nat_tests) in
-    let named : register_of (type1_write_header register count) ≡ register = omega arith in
-    let number : type1_count_of (type1_write_header register count) ≡ count = omega arith in
-    let same : (type1_write_header register count == type1_write_header register count) ≡ true = grind (arith, nat_tests) in
-    let line : best_line (type1_write_header register count) ≡ Write register count = rw (nop, sync, named, number, same) refl in
-    ap (λ h. ended_text (line_as h)) line ∙ append_assoc (codes "write " ++ reg_name register) (32 ∷ decimal count) (10 ∷ []) ∙ sym (append_assoc (codes "write " ++ reg_name register) (32 ∷ []) (decimal count ++ 10 ∷ []))
 
 -- a count of two digits
 pub two_digits : (n : ℕ) → 10 ≤ n → n < 20 → decimal n ≡ 49 ∷ (48 + (n - 10)) ∷ []

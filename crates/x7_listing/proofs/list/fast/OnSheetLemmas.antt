@@ -1,6 +1,7 @@
 -- What short runs add to the text of a sheet.
-use Rattle.std.proofs.Common.{◌≡◌, ℕ, ◌*◌, ◌<◌, ◌≤◌, List, [], ◌∷◌, ◌++◌, codes, decimal, replicate, take, refl, ap, sym, ◌∙◌, append_assoc, arith}
+use Rattle.std.proofs.Common.{◌≡◌, ℕ, ◌+◌, ◌*◌, ◌<◌, ◌≤◌, List, [], ◌∷◌, ◌++◌, codes, decimal, length, replicate, take, refl, ap, sym, ◌∙◌, append_assoc, arith}
 use Rattle.std.specs.List.{flat_map}
+use Rattle.x7_packets.specs.Cutter.{CutterState}
 use Rattle.x7_packets.specs.PacketWords.{no_op, type1_write_header}
 use Rattle.x7_packets.specs.declared.header.Step.TheVariants.{Nop, Open}
 use Rattle.x7_regs.specs.Command.{code_of, command_by, command_code_count}
@@ -9,6 +10,7 @@ use Rattle.x7_regs.specs.declared.command.Command.TheVariants.{Null, Wcfg, Mfw, 
 use Rattle.x7_text.specs.Digits.{hex_word}
 use Rattle.x7_text.specs.Row.{close}
 use Rattle.x7_listing.specs.Fast.AtOnce.{command_lines_text, write_line_text, write_name_text, write_start_text}
+use Rattle.x7_listing.specs.Fast.TakingAtOnce.{TakesOnSheet}
 use Rattle.x7_listing.specs.HeadLine.{text_of_head}
 use Rattle.x7_listing.specs.Line.{cmd_line, ended_text}
 use Rattle.x7_listing.proofs.list.fast.AtOnceLemmas.{equal_block, equal_prefix, nop_lines, short_line_is}
@@ -67,3 +69,8 @@ nops_shown count block few e = ap (take (4 * count)) (e ∙ equal_block Nop no_o
 pub gap_shown : (shown cut first all listed : List ℕ) → first ≡ shown ++ cut → all ≡ first ++ (10 ∷ codes "sync\n") → listed ≡ cut ++ 10 ∷ [] → all ≡ shown ++ (listed ++ codes "sync\n")
 gap_shown shown cut first all listed a b e =
     b ∙ ap (λ t. t ++ (10 ∷ codes "sync\n")) a ∙ append_assoc shown cut (10 ∷ codes "sync\n") ∙ ap (λ t. shown ++ t) (sym (append_assoc cut (10 ∷ []) (codes "sync\n")) ∙ ap (λ t. t ++ codes "sync\n") (sym e))
+
+-- a short run that was put within `most` bytes of a sheet
+pub put_within : (old new : CutterState) (rest : List ℕ) (size from to most : ℕ) → 4 ≤ size → size ≤ length rest → length new.kept ≤ length old.kept
+    → to ≤ from + most → most ≤ 25 * size → from + most ≤ 2048 → TakesOnSheet old new rest size from to
+put_within old new rest size from to most word whole kept grows few room = record { at_least_a_word = word; within = whole; kept = kept; grown = omega arith; inside = omega arith }

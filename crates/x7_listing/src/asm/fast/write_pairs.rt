@@ -1,9 +1,8 @@
 //! A write of one word read at once: its two lines are compared with a row of the tables that list writes them from.
 //! `None` promises nothing: what is left is read line by line.
-ghost use Rattle.std.specs.Prelude.{◌≡◌, ◌<◌, ◌≤◌, ◌+◌, ◌++◌, take, IfSome};
+ghost use Rattle.std.specs.Prelude.{◌≡◌, ◌<◌, ◌≤◌, ◌+◌, take, IfSome};
 ghost use Rattle.std.specs.Simd.Lanes.{chunk, mask_l, zip2};
-ghost use Rattle.x7_words.specs.Word.{bytes_of_word};
-ghost use Rattle.x7_text.specs.Appends.{Appends, HasSpareRoom};
+ghost use Rattle.x7_text.specs.Appends.{HasSpareRoom};
 ghost use Rattle.x7_text.specs.Row.{bytes_row_size};
 ghost use Rattle.x7_regs.specs.Register.{reg_number_count};
 ghost use Rattle.x7_regs.specs.Command.{command_code_count};
@@ -11,12 +10,12 @@ ghost use Rattle.x7_listing.specs.Fast.AtOnce.{bytes_differ, row_text};
 ghost use Rattle.x7_listing.specs.Fast.Looking.{AppendsFoundLines};
 
 use super::quick::{LOOK_SIZE, WholeLines};
+use crate::asm::reading::put_two_words;
 use crate::line::{TEXT_SIZE_AT, command_row, write_row};
 use std::simd::prelude::*;
 use x7_packets::type1_write_header;
 use x7_regs::Reg;
-use x7_text::{put, word_of_hex};
-use x7_words::bytes_of;
+use x7_text::word_of_hex;
 
 /// The factor by which the first four bytes of a name give its place in a table of 64, the highest six bits of the
 /// product: no two registers have one place, nor two commands. `bench/name_tables.py` makes the tables.
@@ -79,16 +78,6 @@ fn matched_size(text: &[u8; LOOK_SIZE], row: &[u8; 32]) -> Option<usize>
     Some(size)
 }
 
-/// Appends the bytes of two words.
-#[inline(always)]
-fn put_two(out: &mut Vec<u8>, one: u32, other: u32)
-    requires { HasSpareRoom out.old bytes_row_size }
-    ensures appends { Appends out.old out.new (bytes_of_word one ++ bytes_of_word other) bytes_row_size }
-{
-    put(out, &bytes_of(one));
-    put(out, &bytes_of(other));
-}
-
 /// Appends the bytes of a write of one word to this register, if its two lines begin the text.
 #[inline(always)]
 fn read_word_pair(out: &mut Vec<u8>, text: &[u8; LOOK_SIZE], register: u8) -> Option<WholeLines>
@@ -105,7 +94,7 @@ fn read_word_pair(out: &mut Vec<u8>, text: &[u8; LOOK_SIZE], register: u8) -> Op
     let Some(word) = word_of_hex(&text[size..size + 8]) else {
         return None;
     };
-    put_two(out, type1_write_header(register, 1), word);
+    put_two_words(out, type1_write_header(register, 1), word);
     Some(WholeLines {
         size: size + 9,
         count: 2,
@@ -122,7 +111,7 @@ fn read_command_pair(out: &mut Vec<u8>, text: &[u8; LOOK_SIZE], code: u32) -> Op
     let Some(size) = matched_size(text, command_row(code)) else {
         return None;
     };
-    put_two(out, type1_write_header(Reg::Cmd.number(), 1), code);
+    put_two_words(out, type1_write_header(Reg::Cmd.number(), 1), code);
     Some(WholeLines { size, count: 2 })
 }
 

@@ -138,7 +138,7 @@ fn put_head(sheet: &mut [u8; SHEET_SIZE], len: usize, in_line: usize, write: Sho
     put_count(sheet, start, write.count)
 }
 
-/// Puts the first of eight words, one or more, in a new `data` line.
+/// Puts the first `count` of eight words in a new `data` line.
 #[inline(always)]
 fn put_in_row(sheet: &mut [u8; SHEET_SIZE], len: usize, bytes: &[u8; 32], count: usize) -> TextEnd
     requires at_least_one { 0 < count }

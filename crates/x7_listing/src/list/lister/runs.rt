@@ -3,7 +3,7 @@ ghost use Rattle.std.specs.Prelude.{◌≡◌, [], ◌+◌, ◌*◌, ◌<◌, On
 ghost use Rattle.x7_packets.specs.Cutter.{CutterState};
 ghost use Rattle.x7_packets.specs.Run.{cut_of, FitsRun, bytes_of_run};
 ghost use Rattle.x7_text.specs.Appends.{HasSpareRoom};
-ghost use Rattle.x7_listing.specs.Pens.{EndsHeld, held_by, is_in_session, in_line_of, lister_with, written_with};
+ghost use Rattle.x7_listing.specs.Pens.{held_by, is_in_session, in_line_of, lister_with};
 ghost use Rattle.x7_listing.specs.ListerOfRuns.{TakesNext};
 
 use super::Lister;
@@ -66,14 +66,6 @@ fn tail_of(pen: &Pen) -> &[u8]
     }
 }
 
-/// Appends what is left at the end of a stream, whose tail the pen holds.
-fn put_last(text: &mut Vec<u8>, pen: Pen)
-    requires room { HasSpareRoom text.old CALL_ROOM }
-    ensures listed { EndsHeld (written_with pen text.old.items) text.new.items }
-{
-    put_end(text, pen, tail_of(&pen));
-}
-
 /// Appends what the next run of a stream adds to the listing, and gives the pen after it.
 fn put_next(text: &mut Vec<u8>, pen: Pen, run: Run) -> Pen
     requires run { FitsRun run }
@@ -83,7 +75,7 @@ fn put_next(text: &mut Vec<u8>, pen: Pen, run: Run) -> Pen
     match run {
         Run::Tail(tail) => with_tail(pen, tail),
         Run::End => {
-            put_last(text, pen);
+            put_end(text, pen, tail_of(&pen));
             Pen::Gap(new_pen())
         }
         run => put_run(text, pen, cut_of(run)),
@@ -97,13 +89,9 @@ impl Lister {
         ensures takes { OnOk result (TakesNext run.now self.old self.new) }
         ensures unchanged { OnErr result (self.new ≡ self.old) }
     {
-        let Some(room) = byte_count(*run).checked_mul(3) else {
-            return Err(NoMemory);
-        };
-        let Some(room) = room.checked_add(CALL_ROOM) else {
-            return Err(NoMemory);
-        };
-        self.text.reserve(room)?;
+        // A product or a sum that is cut off is more than memory ever has: `reserve` refuses it.
+        let room = byte_count(*run).saturating_mul(3);
+        self.text.reserve(room.saturating_add(CALL_ROOM))?;
         self.pen = put_next(&mut self.text, self.pen, *run);
         Ok(())
     }

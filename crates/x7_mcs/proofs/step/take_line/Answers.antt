@@ -1,6 +1,6 @@
 use Rattle.std.proofs.Common.{ap, arith, inr, subst, sym, ◌∙◌}
 use Rattle.x7_mcs.specs.Flash.{after_bytes}
-use Rattle.x7_mcs.specs.Image.{mcs_reading}
+use Rattle.x7_mcs.specs.Flash.{mcs_reading}
 use Rattle.x7_mcs.specs.Readings.{CallComesTo}
 use Rattle.x7_mcs.proofs.LongLemmas.{by_false, by_true, digits_line, empty_line, long_line, odd_line, other_line}
 use Rattle.x7_mcs.proofs.step.take_line.Goals as goal

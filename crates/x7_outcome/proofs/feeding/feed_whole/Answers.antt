@@ -1,7 +1,7 @@
 use Rattle.std.proofs.Common.{◌≡◌, ◌∷◌, [], ◌+◌, ◌^◌, ◌<◌, ◌≤◌, ◌++◌, length, length-append, length-take-le, take, arith, ap, ◌∙◌}
 use Rattle.x7_words.proofs.InputLemmas.{few_once, once_on, stays_on}
 use Rattle.x7_forms.specs.Event.{event_of}
-use Rattle.x7_outcome.specs.Outcome.{text_limit}
+use Rattle.x7_forms.specs.Known.{text_limit}
 use Rattle.x7_forms.specs.Step.{CameIn, step_over}
 use Rattle.x7_forms.proofs.ReadLemmas.{at_on, open_refused, turn_refused, whole_read, turn_unread, unopened_unread}
 use Rattle.x7_outcome.proofs.FeedLemmas.{taken_more}

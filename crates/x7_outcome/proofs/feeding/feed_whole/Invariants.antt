@@ -1,6 +1,6 @@
 use Rattle.std.proofs.Common.{◌≡◌, ℕ, List, ◌+◌, ◌≤◌, length, true}
 use Rattle.x7_words.specs.Input.{AsksOnce, RestIsWhole, InputsStay, preceded}
-use Rattle.x7_outcome.specs.Outcome.{text_limit}
+use Rattle.x7_forms.specs.Known.{text_limit}
 use Rattle.x7_forms.specs.Turn.{turn_size}
 use Rattle.x7_forms.proofs.ReadLemmas.{IsAt}
 use Rattle.x7_outcome.specs.Feeding.{IsFed}

@@ -1,14 +1,19 @@
-use Rattle.std.proofs.Common.{refl, ◌∙◌}
-use Rattle.x7_report.proofs.LinesLemmas.{joined}
+use Rattle.std.proofs.Common.{◌++◌, ap, List, ℕ, refl, ◌∙◌}
+use Rattle.x7_engine.specs.declared.regs.Regs.{Regs}
+use Rattle.x7_engine.specs.Past.{past_of}
+use Rattle.x7_engine.specs.State.{memory_of_bytes}
+use Rattle.x7_report.specs.Reports.{report_text, state_reported}
+use Rattle.x7_report.proofs.LinesLemmas.{joined, owing_none}
 use Rattle.x7_report.proofs.reports.report.Goals as goal
 
-pub returns : goal.returns
-returns c =
+pub returns-clause-owing : goal.returns-clause-owing
+returns-clause-owing c = λ part kept wrapped bytes s.
     let d = c.args.device.now in
-    let text = c.in_ok-text.text.items in
-    let fars = c.in_ok-text.fars.items in
-    let whole = c.in_ok-put_frame_lines.ensures ∙ joined c.part.result.now d.part c.memory.result.now d.registers.frames.memory text text c.deref.result.now fars c.part.ensures.stored c.memory.ensures.stored refl c.deref.ensures.value in
-    record {
-      value = λ part kept wrapped bytes s none. whole ∙ c.in_ok-text.ensures.value part kept wrapped bytes s none;
-      owing = λ part kept wrapped bytes s. whole ∙ c.in_ok-text.ensures.owing part kept wrapped bytes s;
-    }
+    let text = c.begin_report.new.text.items in
+    let fars = c.in_ok-fars.fars.items in
+    c.in_ok-put_frame_lines.ensures ∙ joined c.part.result.now d.part c.memory.result.now d.registers.frames.memory text text c.deref.result.now fars c.part.ensures.stored c.memory.ensures.stored refl c.deref.ensures.value
+    ∙ c.in_ok-fars.ensures part kept wrapped bytes s ∙ ap (λ (t : List ℕ). t ++ report_text part (state_reported d (past_of part kept wrapped bytes)) c.args.reads.now (memory_of_bytes part kept bytes)) c.new-text.ensures.items
+
+pub returns-clause-value : goal.returns-clause-value
+returns-clause-value c = λ part kept wrapped bytes s none.
+    returns-clause-owing c part kept wrapped bytes s ∙ ap (λ (x : Regs). report_text part x c.args.reads.now (memory_of_bytes part kept bytes)) (owing_none part kept wrapped bytes c.args.device.now none)

@@ -3,11 +3,12 @@ use Rattle.x7_forms.specs.Event.{event_of}
 use Rattle.x7_forms.specs.ReadingStops.{limited}
 use Rattle.x7_forms.specs.Form.{Assembling}
 use Rattle.x7_forms.proofs.AskedLemmas.{about_by, unread_about}
-use Rattle.x7_outcome.specs.Outcome.{asm_event, text_limit}
+use Rattle.x7_outcome.specs.Outcome.{asm_event}
 use Rattle.x7_stream_forms.proofs.AsmLemmas.{asm_faulted, asm_given, asm_unread}
 use Rattle.x7_stream_forms.proofs.StopLemmas.{asm_about}
 use Rattle.x7_outcome.proofs.StopLemmas.{first_stops}
 use Rattle.x7_forms.proofs.ResultLemmas.{handed_on}
+use Rattle.x7_forms.specs.Known.{text_limit}
 use Rattle.x7_stream_forms.proofs.asm.asm.Goals as goal
 
 pub returns-in_err-read : goal.returns-in_err-read

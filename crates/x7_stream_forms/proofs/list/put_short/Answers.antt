@@ -1,7 +1,7 @@
 use Rattle.std.proofs.Common.{List, ℕ, [], ◌++◌, sym, ap, subst, append-nil, ◌∙◌}
 use Rattle.x7_words.specs.Sink.{PutsPrefix, appended}
 use Rattle.x7_forms.proofs.ResultLemmas.{from_ok}
-use Rattle.x7_stream_forms.proofs.TurnLemmas.{puts_a_prefix, whole_text}
+use Rattle.x7_stream_forms.proofs.TurnLemmas.{whole_text}
 use Rattle.x7_stream_forms.proofs.list.put_short.Goals as goal
 
 pub returns-clause-listed : goal.returns-clause-listed
@@ -19,5 +19,5 @@ returns-then-is_err-3-clause-prefix g c =
     let text = whole_text c.args.lister.now c.feed.new.self c.finish.new.self c.args.content.now c.text.result.now c.requires.nothing_listed feeds ends c.text.ensures in
     let old = g.O.Sink.state c.args.out.now in
     let new = g.O.Sink.state c.write_pieces.new.sink in
-    let put : PutsPrefix old.written (c.args.line.now ++ (c.text.result.now ++ [])) new.written = puts_a_prefix old new _ c.write_pieces.ensures.puts in
+    let put : PutsPrefix old.written (c.args.line.now ++ (c.text.result.now ++ [])) new.written = c.write_pieces.ensures.prefix in
     subst (λ (t : List ℕ). PutsPrefix old.written (c.args.line.now ++ t) new.written) (append-nil c.text.result.now ∙ text) put

@@ -3,11 +3,12 @@ use Rattle.x7_forms.specs.Event.{event_of}
 use Rattle.x7_forms.specs.ReadingStops.{limited}
 use Rattle.x7_forms.specs.Form.{FromMcs}
 use Rattle.x7_forms.proofs.AskedLemmas.{about_by, unread_about}
-use Rattle.x7_outcome.specs.Outcome.{mcs_event, text_limit}
+use Rattle.x7_outcome.specs.Outcome.{mcs_event}
 use Rattle.x7_stream_forms.proofs.McsLemmas.{mcs_faulted, mcs_given, mcs_unread}
 use Rattle.x7_stream_forms.proofs.StopLemmas.{mcs_about}
 use Rattle.x7_outcome.proofs.StopLemmas.{first_stops}
 use Rattle.x7_forms.proofs.ResultLemmas.{handed_on}
+use Rattle.x7_forms.specs.Known.{text_limit}
 use Rattle.x7_stream_forms.proofs.mcs.unmcs.Goals as goal
 
 pub returns-in_err-read : goal.returns-in_err-read

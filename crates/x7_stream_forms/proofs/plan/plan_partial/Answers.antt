@@ -1,11 +1,11 @@
 use Rattle.std.proofs.Common.{refl, inl, ◌∷◌, [], arith}
 use Rattle.x7_forms.specs.Event.{event_of}
 use Rattle.x7_forms.specs.Step.{result_by}
-use Rattle.x7_outcome.specs.Outcome.{PlannedPartial, text_limit}
+use Rattle.x7_outcome.specs.Outcome.{PlannedPartial}
 use Rattle.x7_outcome.specs.Ready.{bytes_answer}
 use Rattle.x7_stream_forms.proofs.PlanLemmas.{partial_ended, part_refused, plan_refused, planned_end}
 use Rattle.x7_forms.specs.Form.{PlanningPartial}
-use Rattle.x7_forms.specs.Known.{part_limit}
+use Rattle.x7_forms.specs.Known.{part_limit, text_limit}
 use Rattle.x7_words.proofs.InputLemmas.{stays_on}
 use Rattle.x7_outcome.proofs.StopLemmas.{both_asked, first_asked, result_stops, among_stops, first_stops, second_stops}
 use Rattle.x7_forms.proofs.AskedLemmas.{no_part_about, stops_after}

@@ -3,7 +3,8 @@ use Rattle.x7_forms.specs.Event.{event_of}
 use Rattle.x7_forms.specs.ReadingStops.{limited}
 use Rattle.x7_forms.proofs.AskedLemmas.{about_among, about_by, unread_about}
 use Rattle.x7_forms.proofs.ResultLemmas.{handed_on}
-use Rattle.x7_outcome.specs.Outcome.{frames_event, text_limit}
+use Rattle.x7_forms.specs.Known.{text_limit}
+use Rattle.x7_outcome.specs.Outcome.{frames_event}
 use Rattle.x7_stream_forms.proofs.PlanLemmas.{frames_given, frames_refused}
 use Rattle.x7_stream_forms.proofs.StopLemmas.{frames_about}
 use Rattle.x7_stream_forms.proofs.plan.read_plan.Goals as goal

@@ -67,8 +67,11 @@ went c stream o =
 pub returns-clause-back : goal.returns-clause-back
 returns-clause-back c = λ stream o. (went c stream o).0
 
+pub returns-clause-backward : goal.returns-clause-backward
+returns-clause-backward c = λ stream o. let w = went c stream o in omega (arith, w.1, w.2)
+
 pub returns-clause-one_record : goal.returns-clause-one_record
-returns-clause-one_record c = λ stream o. let w = went c stream o in (omega (arith, w.1, w.2), omega (arith, w.1, w.3))
+returns-clause-one_record c = λ stream o. let w = went c stream o in omega (arith, w.1, w.3)
 
 pub returns-clause-fed : goal.returns-clause-fed
 returns-clause-fed c = c.undo.ensures.fed

@@ -21,17 +21,24 @@ returns-clause-recorded c =
     let popped : c.pop_back.new.self.items ≡ take (length items - 1) items = ap (λ (b : Buffer UndoState). b.items) c.in-Some.ensures.items in
     let room : c.pop_back.new.self.capacity ≡ 64 = ap (λ (b : Buffer UndoState). b.capacity) c.in-Some.ensures.items ∙ c.self.invariant.1 in
     let pushed : c.push_front.new.self.items ≡ take c.pop_back.new.self.capacity (c.feed_word.new.undo ∷ take (length items - 1) items) =
-    ap (λ (b : Buffer UndoState). b.items) c.push_front.ensures.items ∙ ap (λ (t : List UndoState). take c.pop_back.new.self.capacity (c.feed_word.new.undo ∷ t)) popped in (
-      c.feed_word.new.undo,
-      c.feed_word.ensures.saves,
-      records_more items c.push_front.new.self.items c.feed_word.new.undo c.self.inside.count c.min-self-inside.result c.pop_back.new.self.capacity pushed room c.self.invariant.0 c.self.invariant.2 c.min-self-inside.ensures
-          ∙ ap (λ (j : JournalState). c.feed_word.new.undo ∷ take 63 (records_of j)) c.self.view_is,
-    )
+    ap (λ (b : Buffer UndoState). b.items) c.push_front.ensures.items ∙ ap (λ (t : List UndoState). take c.pop_back.new.self.capacity (c.feed_word.new.undo ∷ t)) popped in
+    record {
+      undo = c.feed_word.new.undo;
+      saves = c.feed_word.ensures.saves;
+      records = records_more items c.push_front.new.self.items c.feed_word.new.undo c.self.inside.count c.min-self-inside.result c.pop_back.new.self.capacity pushed room c.self.invariant.0 c.self.invariant.2 c.min-self-inside.ensures
+          ∙ ap (λ (j : JournalState). c.feed_word.new.undo ∷ take 63 (records_of j)) c.self.view_is;
+    }
 
 pub returns-clause-takes : goal.returns-clause-takes
 returns-clause-takes c = λ part kept wrapped bytes s.
     let piece = c.args.piece.now in
     let fits : AreBytes piece = all_from_places (λ b. b < 256) piece (λ k h. omega (arith, c.type_inv.piece k)) in (
-      fed_stands part kept wrapped bytes piece c.feed_word.new.self dropping c.feed_word.result (all_append (λ b. b < 256) bytes piece s.fits fits) refl (c.feed_word.ensures.takes part kept wrapped bytes s) (c.feed_word.ensures.answer part kept wrapped bytes s),
+      fed_stands part kept wrapped bytes piece c.feed_word.new.self dropping c.feed_word.result (all_append (λ b. b < 256) bytes piece s.fits fits) refl (c.feed_word.ensures.takes.stands part kept wrapped bytes s) (c.feed_word.ensures.answer part kept wrapped bytes s),
       fed_none_due part kept wrapped bytes piece c.feed_word.new.self dropping c.feed_word.result refl (c.feed_word.ensures.answer part kept wrapped bytes s),
     )
+
+pub returns-clause-fed : goal.returns-clause-fed
+returns-clause-fed c = record {
+  never_less = omega (arith, c.feed_word.ensures.takes.fed);
+  most = omega (arith, c.feed_word.ensures.takes.fed, c.feed_word.ensures.takes.taken);
+}

@@ -1,27 +1,15 @@
-use Rattle.std.proofs.Common.{◌≡◌, ◌+◌, ◌-◌, ◌≤◌, ◌++◌, ℕ, List, length, take, true, if◌then◌else◌, Bool}
+use Rattle.std.proofs.Common.{◌+◌, ◌-◌, length, if◌then◌else◌, Bool}
 use Rattle.std.specs.Option.{is_some}
 use Rattle.x7_packets.specs.Cutter.{calls_left}
-use Rattle.x7_part.specs.Part.{PartData}
-use Rattle.x7_engine.specs.UntilRead.{RoomBefore}
-use Rattle.x7_engine.specs.declared.kept.Kept.{Kept}
-use Rattle.x7_engine.specs.ReadBuffer.{HoldsWithinMost, with_words}
-use Rattle.x7_engine.specs.Standing.{CanBeGiven, DeviceStandsFor, fed_more, fed_of, reads_given}
+use Rattle.x7_engine.specs.Feeding.{GivesWordsOf, TakesFirst, with_buffer}
+use Rattle.x7_engine.specs.Standing.{CanBeGiven}
 use Rattle.x7_engine.proofs.device.Device.feed.Given as goal
 
 abbrev pub invariant-runs : goal.invariant-runs
 invariant-runs l = record {
-  within : l.at ≤ length l.piece;
-  part : l.self.part ≡ l.initial.self.part;
-  fed : fed_of l.self ≡ fed_more l.initial.self l.at;
-  taken : l.self.taken ≡ l.initial.self.taken + l.at;
+  takes : TakesFirst l.initial.self l.self l.piece l.at;
+  gives : GivesWordsOf (with_buffer l.initial.self l.initial.read) (with_buffer l.self l.read) l.piece l.at;
   fits : CanBeGiven l.self (length l.piece - l.at);
-  stands : (part : PartData) (kept : Kept) (wrapped : Bool) (bytes : List ℕ) → DeviceStandsFor part kept wrapped l.initial.self bytes → DeviceStandsFor part kept wrapped l.self (bytes ++ take l.at l.piece);
-  reads : (part : PartData) (kept : Kept) (wrapped : Bool) (bytes : List ℕ) → DeviceStandsFor part kept wrapped l.initial.self bytes
-      → (more : List ℕ) × (l.read ≡ with_words l.initial.read more) × (reads_given part kept l.self (bytes ++ take l.at l.piece) ≡ reads_given part kept l.initial.self bytes ++ more);
-  room : (part : PartData) (kept : Kept) (wrapped : Bool) (bytes : List ℕ) → DeviceStandsFor part kept wrapped l.initial.self bytes
-      → RoomBefore (record { part = part; kept = kept; wrapped = wrapped; bytes = bytes }) l.piece l.at (reads_given part kept l.initial.self bytes) l.initial.read;
-  few : HoldsWithinMost l.read.most l.read.words;
-  stopped : is_some l.initial.self.registers.stop ≡ true → (l.self ≡ l.initial.self) × (l.read ≡ l.initial.read) × (l.at ≡ 0);
 }
 
 abbrev pub decreases-runs : goal.decreases-runs

@@ -1,21 +1,18 @@
-use Rattle.std.proofs.Common.{◌≡◌, ◌+◌, ◌-◌, ◌≤◌, ◌++◌, ℕ, List, length, take, None, if◌then◌else◌, Bool}
+use Rattle.std.proofs.Common.{◌≡◌, ◌+◌, ◌-◌, ℕ, List, length, None, if◌then◌else◌, Bool}
 use Rattle.std.specs.Option.{is_some}
 use Rattle.x7_packets.specs.Cutter.{calls_left}
 use Rattle.x7_part.specs.Part.{PartData}
 use Rattle.x7_engine.specs.declared.kept.Kept.{Kept}
+use Rattle.x7_engine.specs.Feeding.{TakesFirst}
 use Rattle.x7_engine.specs.UntilStarted.{NoneBegun}
-use Rattle.x7_engine.specs.Standing.{CanBeGiven, DeviceStandsFor, fed_more, fed_of}
+use Rattle.x7_engine.specs.Standing.{CanBeGiven, DeviceStandsFor}
 use Rattle.x7_engine.proofs.device.Device.feed_until_begun.Given as goal
 
 abbrev pub invariant-runs : goal.invariant-runs
 invariant-runs l = record {
-  within : l.at ≤ length l.piece;
-  part : l.self.part ≡ l.initial.self.part;
-  taken : l.self.taken ≡ l.initial.self.taken + l.at;
-  fed : fed_of l.self ≡ fed_more l.initial.self l.at;
+  takes : TakesFirst l.initial.self l.self l.piece l.at;
   fits : CanBeGiven l.self (length l.piece - l.at);
   drops : (part : PartData) (kept : Kept) (wrapped : Bool) (bytes : List ℕ) → DeviceStandsFor part kept wrapped l.initial.self bytes → l.read.most ≡ None;
-  stands : (part : PartData) (kept : Kept) (wrapped : Bool) (bytes : List ℕ) → DeviceStandsFor part kept wrapped l.initial.self bytes → DeviceStandsFor part kept wrapped l.self (bytes ++ take l.at l.piece);
   first : (part : PartData) (kept : Kept) (wrapped : Bool) (bytes : List ℕ) → DeviceStandsFor part kept wrapped l.initial.self bytes → NoneBegun part kept bytes l.piece l.at;
 }
 

@@ -10,18 +10,27 @@ use Rattle.x7_engine.proofs.FeedLemmas.{given}
 use Rattle.x7_engine.proofs.PastLemmas.{own_past}
 use Rattle.x7_engine.proofs.device.Device.give.Goals as goal
 
-pub returns-clause-given : goal.returns-clause-given
-returns-clause-given c = λ wanted kept wrapped bytes s.
-    let part : PartData = c.self.inside.part in
-    let fields : DeviceState = record { part = part; cutter = c.self.inside.cutter; registers = registers_in c.self.inside.registers; wrapped = c.self.inside.wrapped; taken = c.self.inside.taken; fed = c.self.inside.fed } in
-    let here : part ≡ wanted = ap (λ (d : DeviceState). d.part) c.self.view_is ∙ s.part_is in
-    let stands : DeviceStandsFor part kept wrapped fields bytes = subst (λ (d : DeviceState). DeviceStandsFor part kept wrapped d bytes) (sym c.self.view_is) (subst (λ (p : PartData). DeviceStandsFor p kept wrapped c.args.self.now bytes) (sym here) s) in
-    let after : DeviceState = record fields { registers = registers_in c.give.new.self } in
-    let h : History = history_taken part kept bytes in
-    let going : c.self.inside.registers.stop ≡ None = ap (λ (d : DeviceState). d.registers.stop) c.self.view_is ∙ c.requires.going in
-    subst (λ (d : DeviceState). DeviceGaveWords (record { part = wanted; kept = kept; wrapped = wrapped; bytes = bytes }) d after c.args.read.now c.give.new.read) c.self.view_is
-    (subst (λ (p : PartData). DeviceGaveWords (record { part = p; kept = kept; wrapped = wrapped; bytes = bytes }) fields after c.args.read.now c.give.new.read) here
-    (given part kept wrapped fields (registers_in c.give.new.self) bytes c.args.read.now c.give.new.read going c.give.ensures.gave.going stands (c.give.ensures.gave.given kept h (length bytes) stands.registers_are)))
+pub returns-clause-gives : goal.returns-clause-gives
+returns-clause-gives c = record {
+  full = c.give.ensures.gave.full;
+  within_most = c.give.ensures.within_most;
+  going = c.give.ensures.gave.going;
+  part = ap (λ (d : DeviceState). d.part) c.self.view_is;
+  taken = ap (λ (d : DeviceState). d.taken) c.self.view_is;
+  fed = ap (λ (d : DeviceState). d.fed) c.self.view_is;
+  cutter = ap (λ (d : DeviceState). d.cutter) c.self.view_is;
+  given = λ wanted kept wrapped bytes s.
+      let part : PartData = c.self.inside.part in
+      let fields : DeviceState = device_in c.self.inside in
+      let here : part ≡ wanted = ap (λ (d : DeviceState). d.part) c.self.view_is ∙ s.part_is in
+      let stands : DeviceStandsFor part kept wrapped fields bytes = subst (λ (d : DeviceState). DeviceStandsFor part kept wrapped d bytes) (sym c.self.view_is) (subst (λ (p : PartData). DeviceStandsFor p kept wrapped c.args.self.now bytes) (sym here) s) in
+      let after : DeviceState = record fields { registers = registers_in c.give.new.self } in
+      let h : History = history_taken part kept bytes in
+      let going : c.self.inside.registers.stop ≡ None = ap (λ (d : DeviceState). d.registers.stop) c.self.view_is ∙ c.requires.going in
+      subst (λ (d : DeviceState). DeviceGaveWords (record { part = wanted; kept = kept; wrapped = wrapped; bytes = bytes }) d after c.args.read.now c.give.new.read) c.self.view_is
+      (subst (λ (p : PartData). DeviceGaveWords (record { part = p; kept = kept; wrapped = wrapped; bytes = bytes }) fields after c.args.read.now c.give.new.read) here
+      (given part kept wrapped fields (registers_in c.give.new.self) bytes c.args.read.now c.give.new.read going c.give.ensures.gave.going stands (c.give.ensures.gave.given kept h (length bytes) stands.registers_are)));
+}
 
 pub invariant_of-self : goal.invariant_of-self
 invariant_of-self c =

@@ -1,8 +1,7 @@
 use Rattle.std.proofs.Common.{◌≡◌, ◌∷◌, ◌++◌, ◌∙◌, ◌+◌, ◌<◌, [], length, append_assoc, MatchOption, arith, ap, subst, sym}
 use Rattle.x7_text.specs.Lines.{split}
 use Rattle.x7_text.proofs.LineReaderLemmas.{HasTaken, all_taken, few_taken, prefix_on, one_taken, wants_after}
-use Rattle.x7_mcs.specs.McsLines.{AreGoodMcsLines, HasMcsFault, HasReadRecords, TakesFirstLine, mcs_lines_state}
-use Rattle.x7_mcs.specs.declared.mcs_lines.McsLines.{McsLines}
+use Rattle.x7_mcs.specs.McsLines.{AreGoodMcsLines, HasMcsFault, HasReadRecords, TakesFirstLine}
 use Rattle.std.proofs.lemmas.Result.{err_from_is_err_and}
 use Rattle.x7_mcs.proofs.mcs_lines.McsLinesTakesLines.take_lines.Goals as goal
 
@@ -11,26 +10,26 @@ loop-after-preserved c = λ lines same few t.
     let text = c.args.text.now in
     let rest = c.loop-after.rest.now in
     let after = c.in-Some.after.now in
-    let h : HasTaken (λ (b : McsLines). HasReadRecords (mcs_lines_state b)) lines text rest c.loop-after.self c.loop-after.count = c.loop-after.invariant lines same few t in
-    let n : c.saturating_add-next.result ≡ c.loop-after.count + 1 = omega (arith, c.saturating_add-next.ensures, few_taken (λ (b : McsLines). HasReadRecords (mcs_lines_state b)) lines text rest c.loop-after.self c.loop-after.count c.args.line_count same h, few) in
+    let h : HasTaken HasReadRecords lines text rest c.loop-after.self c.loop-after.count = c.loop-after.invariant lines same few t in
+    let n : c.saturating_add-next.result ≡ c.loop-after.count + 1 = omega (arith, c.saturating_add-next.ensures, few_taken HasReadRecords lines text rest c.loop-after.self c.loop-after.count c.args.line_count same h, few) in
     let f : TakesFirstLine (lines ++ h.more) rest after c.take_first_line.new.self =
     subst
-    (λ found. MatchOption found (HasReadRecords (mcs_lines_state c.take_first_line.new.self) (lines ++ h.more)) (λ left. TakesFirstLine (lines ++ h.more) rest left.now c.take_first_line.new.self)) c.in-Some.is
+    (λ found. MatchOption found (HasReadRecords c.take_first_line.new.self (lines ++ h.more)) (λ left. TakesFirstLine (lines ++ h.more) rest left.now c.take_first_line.new.self)) c.in-Some.is
     (c.in_ok-after.ensures.read (lines ++ h.more) (omega (arith, n, h.counts)) h.took) in
-    one_taken (λ (b : McsLines). HasReadRecords (mcs_lines_state b)) lines text rest f.line after c.loop-after.self c.take_first_line.new.self c.loop-after.count c.saturating_add-next.result f.cut h n f.read
+    one_taken HasReadRecords lines text rest f.line after c.loop-after.self c.take_first_line.new.self c.loop-after.count c.saturating_add-next.result f.cut h n f.read
 
 pub returns-in_default-clause-read : goal.returns-in_default-clause-read
 returns-in_default-clause-read c = λ first lines same few t.
     let text = c.args.text.now in
     let rest = c.loop-after.rest.now in
-    let h : HasTaken (λ (b : McsLines). HasReadRecords (mcs_lines_state b)) lines text rest c.loop-after.self c.loop-after.count = c.loop-after.invariant lines same few t in
-    let n : c.saturating_add-next.result ≡ c.loop-after.count + 1 = omega (arith, c.saturating_add-next.ensures, few_taken (λ (b : McsLines). HasReadRecords (mcs_lines_state b)) lines text rest c.loop-after.self c.loop-after.count c.args.line_count same h, few) in
-    let read : HasReadRecords (mcs_lines_state c.take_first_line.new.self) (lines ++ h.more) =
+    let h : HasTaken HasReadRecords lines text rest c.loop-after.self c.loop-after.count = c.loop-after.invariant lines same few t in
+    let n : c.saturating_add-next.result ≡ c.loop-after.count + 1 = omega (arith, c.saturating_add-next.ensures, few_taken HasReadRecords lines text rest c.loop-after.self c.loop-after.count c.args.line_count same h, few) in
+    let read : HasReadRecords c.take_first_line.new.self (lines ++ h.more) =
     subst
-    (λ found. MatchOption found (HasReadRecords (mcs_lines_state c.take_first_line.new.self) (lines ++ h.more)) (λ left. TakesFirstLine (lines ++ h.more) rest left.now c.take_first_line.new.self)) c.in_default.is
+    (λ found. MatchOption found (HasReadRecords c.take_first_line.new.self (lines ++ h.more)) (λ left. TakesFirstLine (lines ++ h.more) rest left.now c.take_first_line.new.self)) c.in_default.is
     (c.in_ok-after.ensures.read (lines ++ h.more) (omega (arith, n, h.counts)) h.took) in
     let alone : split rest ≡ rest ∷ [] = subst (λ found. MatchOption found (split rest ≡ rest ∷ []) (λ left. length left.now < length rest)) c.in_default.is c.in_ok-after.ensures.left in
-    all_taken (λ (b : McsLines). HasReadRecords (mcs_lines_state b)) lines text rest c.take_first_line.new.self rest c.loop-after.count alone (record { more = h.more; texts = h.texts; took = read; counts = h.counts })
+    all_taken HasReadRecords lines text rest c.take_first_line.new.self rest c.loop-after.count alone (record { more = h.more; texts = h.texts; took = read; counts = h.counts })
 
 pub returns-in_err-after-clause-read : goal.returns-in_err-after-clause-read
 returns-in_err-after-clause-read c =
@@ -38,8 +37,8 @@ returns-in_err-after-clause-read c =
     rw (p.1, p.2) (λ first lines same few t more.
     let text = c.args.text.now in
     let rest = c.loop-after.rest.now in
-    let h : HasTaken (λ (b : McsLines). HasReadRecords (mcs_lines_state b)) lines text rest c.loop-after.self c.loop-after.count = c.loop-after.invariant lines same few t in
-    let n : c.saturating_add-next.result ≡ c.loop-after.count + 1 = omega (arith, c.saturating_add-next.ensures, few_taken (λ (b : McsLines). HasReadRecords (mcs_lines_state b)) lines text rest c.loop-after.self c.loop-after.count c.args.line_count same h, few) in
+    let h : HasTaken HasReadRecords lines text rest c.loop-after.self c.loop-after.count = c.loop-after.invariant lines same few t in
+    let n : c.saturating_add-next.result ≡ c.loop-after.count + 1 = omega (arith, c.saturating_add-next.ensures, few_taken HasReadRecords lines text rest c.loop-after.self c.loop-after.count c.args.line_count same h, few) in
     subst (HasMcsFault c.in_err-after.field-0.0) (append_assoc lines h.more (split (rest ++ more)) ∙ ap (λ ls. lines ++ ls) (sym (prefix_on text rest h.more h.texts more)))
     (c.in_err-after.ensures.read (lines ++ h.more) (omega (arith, n, h.counts)) h.took more))
 
@@ -49,6 +48,6 @@ returns-in_err-after-clause-memory c =
     rw (p.1, p.2) (λ first lines same few t want.
     let text = c.args.text.now in
     let rest = c.loop-after.rest.now in
-    let h : HasTaken (λ (b : McsLines). HasReadRecords (mcs_lines_state b)) lines text rest c.loop-after.self c.loop-after.count = c.loop-after.invariant lines same few t in
-    let n : c.saturating_add-next.result ≡ c.loop-after.count + 1 = omega (arith, c.saturating_add-next.ensures, few_taken (λ (b : McsLines). HasReadRecords (mcs_lines_state b)) lines text rest c.loop-after.self c.loop-after.count c.args.line_count same h, few) in
+    let h : HasTaken HasReadRecords lines text rest c.loop-after.self c.loop-after.count = c.loop-after.invariant lines same few t in
+    let n : c.saturating_add-next.result ≡ c.loop-after.count + 1 = omega (arith, c.saturating_add-next.ensures, few_taken HasReadRecords lines text rest c.loop-after.self c.loop-after.count c.args.line_count same h, few) in
     wants_after AreGoodMcsLines lines h.more text rest h.texts (c.in_err-after.ensures.memory (lines ++ h.more) (omega (arith, n, h.counts)) h.took want))

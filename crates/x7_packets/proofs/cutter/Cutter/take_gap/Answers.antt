@@ -13,4 +13,4 @@ returns-clause-ends_gap c =
     let same : mode_of c.self.inside.stage ≡ Mode.Searching = ap (λ (o : CutterState). o.mode) c.self.view_is ∙ searching in
     let none : take c.self.inside.count c.self.inside.kept ≡ [] = none_kept c.self.inside.kept c.self.inside.count (c.self.invariant.1 (keeps_none (mode_of c.self.inside.stage) same)) in
     let fits = all_from_places (λ b. b < 256) c.args.rest.now (λ k h. omega (arith, c.type_inv.rest k)) in
-    ends_gap c.args.self.now _ c.args.rest.now c.in-Some.count searching refl (ap (λ (o : CutterState). o.machine) c.self.view_is) none (here.clear refl) (omega (arith, c.if-rest-lt-SHORT_GAP_ROOM.false)) fits c.in-Some.ensures.most c.in-Some.ensures.first
+    ends_gap c.args.self.now _ c.args.rest.now c.in-Some.count searching refl (ap (λ (o : CutterState). o.machine) c.self.view_is) none (here.clear refl) (omega (arith, c.if-rest-lt-PLACES_REACH.false)) fits c.in-Some.ensures.most c.in-Some.ensures.first

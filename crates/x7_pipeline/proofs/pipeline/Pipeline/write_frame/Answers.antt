@@ -6,12 +6,12 @@ use Rattle.x7_pipeline.proofs.pipeline.Pipeline.write_frame.Goals as goal
 pub invariant_of-self : goal.invariant_of-self
 invariant_of-self c =
     let i = c.self.invariant in
-    let room = c.set_words.ensures.room in
+    let room = c.set_frame.ensures.room in
     let held = i.newest_room in
     let wide = ap (λ (v : PipelineData). v.width) c.self.view_is in
     let size = c.requires.frame in
     let count = words_count c.args.bytes.now in
-    let long = ap length c.set_words.ensures.items in
+    let long = ap length c.set_frame.ensures.words in
     record {
       some = i.some;
       narrow = i.narrow;

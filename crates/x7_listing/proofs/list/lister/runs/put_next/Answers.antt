@@ -1,5 +1,6 @@
-use Rattle.std.proofs.Common.{refl}
-use Rattle.x7_listing.proofs.list.ListerOfRunsLemmas.{takes_cut, takes_end, takes_tail}
+use Rattle.std.proofs.Common.{◌∙◌, refl}
+use Rattle.x7_listing.specs.Pens.{held_by, is_in_session}
+use Rattle.x7_listing.proofs.list.ListerOfRunsLemmas.{last_kept, takes_cut, takes_end, takes_tail}
 use Rattle.x7_listing.proofs.list.lister.runs.put_next.Goals as goal
 
 pub returns-in-Tail : goal.returns-in-Tail
@@ -13,7 +14,8 @@ pub returns-in-End : goal.returns-in-End
 returns-in-End c = record {
   takes = λ cutter given before bytes due next t x.
       let e = c.new_pen.ensures in
-      rw c.in-End.is (takes_end _ _ given before bytes due next refl refl e.in_line e.held (λ given before bytes sessions place m t d r k. c.put_last.ensures.listed given before sessions place (record { bytes = bytes; reading = r; mode = m; listed = t; not_sync_found = d }) k) t (rw c.in-End.is at x));
+      rw c.in-End.is (takes_end _ _ given before bytes due next refl refl e.in_line e.held (λ given before bytes sessions place m t d r k. c.put_end.ensures.listed given before sessions place (record { bytes = bytes; reading = r; mode = m; listed = t; not_sync_found = d })
+      (c.tail_of.ensures ∙ last_kept (is_in_session c.args.pen) _ (held_by c.args.pen) _ before sessions place m t d k)) t (rw c.in-End.is at x));
 }
 
 pub returns-in_default : goal.returns-in_default

@@ -1,0 +1,35 @@
+use Rattle.std.proofs.Common.{ap, arith, length}
+use Rattle.x7_listing.proofs.list.fast.OnSheetLemmas.{put_within}
+use Rattle.x7_listing.proofs.list.fast.short_runs.take_next.Goals as goal
+
+pub returns-in-Some-clause-takes : goal.returns-in-Some-clause-takes
+returns-in-Some-clause-takes c =
+    let w = c.in-Some.ensures.writes in
+    let size = c.put_one_write.ensures.size in
+    put_within _ _ c.args.rest.now _ _ _ 42 (omega (arith, size)) (omega (arith, size, w.whole)) (omega (arith, ap length w.none_kept)) c.put_one_write.ensures.within (omega (arith, size)) (omega arith)
+
+pub returns-in-Some-clause-listed : goal.returns-in-Some-clause-listed
+returns-in-Some-clause-listed c =
+    rw c.put_one_write.ensures.size (c.put_one_write.ensures.listed c.args.cutter.now c.take_write.new.self c.args.rest.now c.in-Some.ensures.writes)
+
+pub returns-in-Some-take_short_write-clause-takes : goal.returns-in-Some-take_short_write-clause-takes
+returns-in-Some-take_short_write-clause-takes c =
+    let w = c.in-Some-take_short_write.ensures.writes in
+    let size = c.put_short_write.ensures.size in
+    put_within _ _ c.args.rest.now _ _ _ 190 (omega (arith, size)) (omega (arith, size, w.few, w.long)) (omega (arith, ap length w.none_kept)) c.put_short_write.ensures.within (omega (arith, size, w.some)) (omega arith)
+
+pub returns-in-Some-take_short_write-clause-listed : goal.returns-in-Some-take_short_write-clause-listed
+returns-in-Some-take_short_write-clause-listed c =
+    rw c.put_short_write.ensures.size
+    (c.put_short_write.ensures.listed c.args.cutter.now c.take_short_write.new.self (rw c.in_default.ensures.unchanged at c.in-Some-take_short_write.ensures.writes))
+
+pub returns-clause-takes : goal.returns-clause-takes
+returns-clause-takes c =
+    let w = c.in-Some-take_gap.ensures.ends_gap in
+    let size = c.put_gap.ensures.size in
+    put_within _ _ c.args.rest.now _ _ _ 74 (omega (arith, size)) (omega (arith, size, w.near, w.long)) (omega (arith, ap length w.none_kept)) c.put_gap.ensures.within (omega (arith, size)) (omega arith)
+
+pub returns-clause-listed : goal.returns-clause-listed
+returns-clause-listed c =
+    rw c.put_gap.ensures.size
+    (c.put_gap.ensures.listed c.args.cutter.now c.take_gap.new.self (rw (c.in_default-take_short_write.ensures.unchanged, c.in_default.ensures.unchanged) at c.in-Some-take_gap.ensures.ends_gap))
