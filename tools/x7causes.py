@@ -671,7 +671,8 @@ def notes_of(subject, found):
     if wraps:
         notes.append(
             f"wrap says that from {wraps[0].address:08X} on no stream came to its end before the flash's: none is there, or it "
-            "has no sync word, or the place is past the flash's end",
+            "has no sync word, or the place is past the flash's end. The guide has this end for BPI alone: with an SPI flash a "
+            "board may hang there",
         )
     if cor0 >> 16 & 1 and not (subject.report and subject.report.attempts):
         notes.append("startup runs on TCK (SSCLKSRC of COR0 is JtagClk): from a flash DONE would stay low")

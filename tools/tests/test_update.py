@@ -161,14 +161,15 @@ NAMES = ["size", "layout", "stream", "idcode", "clock", "fallback", "jump", "add
 
 
 def checked(bench, name, fails, *words):
-    """Runs all checks; those that fail are these."""
+    """Runs all checks; those that fail are these. Answers the lines of the checks and those of the notes."""
     before = {it: bench.get(it) for it in words if it in ("flash", "other", "next")}
     came = bench.tool("check_update", *words)
-    lines = [line for line in came.out.decode().splitlines() if ": " in line]
+    lines = came.out.decode().splitlines()
+    notes, lines = ([line for line in lines if line.startswith(begins)] for begins in ("note: ", ("ok: ", "fails: ")))
     failing = {line.split(": ")[1] for line in lines if line.startswith("fails")}
     bench.tally.same(f"{name}", (came.status, failing), (int(bool(fails)), set(fails)))
     bench.tally.check(f"{name} leaves its inputs", all(bench.get(it) == data for it, data in before.items()))
-    return lines
+    return lines, notes
 
 
 def mended(bench, stream, old, new):
@@ -181,7 +182,7 @@ def mended(bench, stream, old, new):
 def checks(bench):
     """Each check fails of what it is for."""
     bench.put("flash", bench.get("image").ljust(SIZE, b"\xff"))
-    lines = checked(bench, "all is well", [], "--size", str(SIZE), "made.part", "flash", "next")
+    lines, _ = checked(bench, "all is well", [], "--size", str(SIZE), "made.part", "flash", "next")
     bench.tally.same("every check is made", sorted(line.split(": ")[1] for line in lines), sorted(NAMES))
     checked(bench, "the file is too short", ["size"], "--size", str(2 * SIZE), "made.part", "flash", "next")
     checked(bench, "no fallback", ["fallback", "damaged"], "made.part", "flash", "forbids")
@@ -200,6 +201,22 @@ def checks(bench):
     bench.put("other", bench.get("image"))
     checked(bench, "an image in place of a stream", ["stream"], "made.part", "flash", "other")
     goldens(bench)
+    ends_of_the_flash(bench)
+
+
+def ends_of_the_flash(bench):
+    """A note names the damages of which the fallback comes at the flash's end: without a watchdog, and where the update
+    arms one; for a part of master BPI, of which the guide has that fallback, there is none."""
+    bench.put("bpi.part", "mode = 2\n" + DEVICE)
+    mended(bench, "next", "write COR0 1", "write TIMER 1\ndata 40001000\nwrite COR0 1")
+    for name, part, stream, ends in (
+        ("no watchdog", "made.part", "next", "cut in half, not there"),
+        ("a watchdog", "made.part", "other", "not there"),
+        ("BPI", "bpi.part", "next", ""),
+    ):
+        _, notes = checked(bench, f"ends of the flash, {name}", [], part, "flash", stream)
+        bench.tally.same(f"{name}: the note", [it.split(": ")[2] for it in notes if it.startswith("note: damaged: ")], [ends] if ends else [])
+        bench.tally.check(f"{name}: the note says where a board may hang", all("SPI" in it and "BPI" in it for it in notes), notes)
 
 
 def goldens(bench):

@@ -201,6 +201,7 @@ def boots():
         (["1 power 00000000 iprog", "2 iprog 00020000 started"], "started", "^it starts: phase 7", 0),
         (["1 power 00000000 started"], "started", "^it starts: phase 7", 0),
         (["1 power 00000000 iprog", "2 iprog 00020000 crc", "3 fallback 00000000 started"], "started", "it starts, but with the golden image: iprog at 00020000: crc", 1),
+        (["1 power 00000000 iprog", "2 iprog 00020000 wrap", "3 fallback 00000000 started"], "started", "golden image: iprog at 00020000: wrap(.|\n)*note: wrap .* with an SPI flash a board may hang", 1),
         (["1 power 00000000 watchdog", "2 fallback 00000000 started"], "started", "the flash has one image, and a fallback has no watchdog", 1),
         (["1 power 00000000 crc", "2 fallback 00000000 crc"], "stopped", "the flash has one image, and the fallback finds the same one", 1),
         (["1 power 00000000 iprog", "2 iprog 00002300 started"], "started", "which is no sector's beginning", 1),
