@@ -3,6 +3,7 @@ import importlib.machinery
 import importlib.util
 import io
 import os
+import shlex
 import subprocess
 import sys
 
@@ -46,3 +47,7 @@ def ran(name, *words, **how):
     return done.returncode, done.stdout, done.stderr.decode("ascii", "replace")
 
 
+def shell_status(name, words, redirections):
+    """The status of a tool that the shell runs, with these redirections after its words."""
+    command = " ".join(shlex.quote(it) for it in [sys.executable, os.path.join(TOOLS, name), *words])
+    return subprocess.run(["sh", "-c", f"{command} {redirections}"], check=False).returncode

@@ -13,6 +13,11 @@ sys.path.insert(0, TOOLS)
 from x7formats import FIXED  # noqa: E402
 
 
+def tool_names():
+    """The names of all tools: of the files of their folder those without an ending."""
+    return sorted(it for it in os.listdir(TOOLS) if re.fullmatch(r"\w+", it) and os.path.isfile(os.path.join(TOOLS, it)))
+
+
 def hex_bytes(words):
     """The bytes of a HEX list: digits, or digits and how many times."""
     parts = (word.partition("*") for word in words)

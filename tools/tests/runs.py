@@ -13,23 +13,26 @@ from collections import namedtuple
 from casefiles import TOOLS, Tally, made_part_text
 import x7formats as x7
 
-SECONDS = 120
-# the path of x7, empty where it isn't built
+# what hasn't ended by then hangs, however busy the machine is
+SECONDS = 600
+# the path of x7, empty where it isn't built; the tools take it too, in whatever folder they run
 X7 = x7.program() or ""
+if X7:
+    os.environ["X7"] = X7
+# how the shell closes a standard file
+CLOSING = ("<&-", ">&-", "2>&-")
 Came = namedtuple("Came", "status out err")
 
 
 def run(folder, words, given=b"", closed=()):
     """Runs a command in a folder, with some of its standard files closed; status None where it doesn't end in time."""
-
-    def close():
-        """Closes these of the standard files, before a program begins."""
-        for number in closed:
-            os.close(number)
-
-    how = {"cwd": folder, "preexec_fn": close, "stdout": subprocess.PIPE, "stderr": subprocess.PIPE}
+    words = [str(it) for it in words]
+    if closed:
+        # the shell closes them: code of Python between fork and exec may hang where there are threads
+        words = ["sh", "-c", f'exec "$@" {" ".join(CLOSING[number] for number in closed)}', "sh", *words]
+    how = {"cwd": folder, "stdout": subprocess.PIPE, "stderr": subprocess.PIPE}
     try:
-        done = subprocess.run([str(it) for it in words], input=given, timeout=SECONDS, **how)
+        done = subprocess.run(words, input=given, timeout=SECONDS, **how)
     except subprocess.TimeoutExpired:
         return Came(None, b"", b"")
     return Came(done.returncode, done.stdout, done.stderr)
@@ -107,10 +110,6 @@ class Bench:
     def many(self, *words):
         """Runs a tool as one of many."""
         return run_here(self.folder, words)
-
-    def tools(self):
-        """The names of all tools."""
-        return sorted(it for it in os.listdir(TOOLS) if "." not in it and os.path.isfile(os.path.join(TOOLS, it)))
 
     def command(self, words):
         """A tool and its words, for a shell."""

@@ -2,13 +2,14 @@
 """Tests that each script of bench/ says what it does, and says in a line what it can't take: no x7, other words, a file
 for a folder, a reader that left."""
 import os
+import re
 import sys
 import tempfile
 
-from casefiles import TOOLS, Tally
+from casefiles import TOP, Tally
 from runs import run
 
-BENCH = os.path.join(os.path.dirname(TOOLS), "bench")
+BENCH = os.path.join(TOP, "bench")
 
 
 def script(name):
@@ -20,7 +21,7 @@ def script(name):
 tally = Tally()
 with tempfile.TemporaryDirectory() as folder:
     os.environ["X7"] = os.path.join(folder, "nowhere")
-    for name in sorted(it for it in os.listdir(BENCH) if it not in ("README.md", "update_limit.c", "__pycache__")):
+    for name in sorted(it for it in os.listdir(BENCH) if re.fullmatch(r"\w+(\.py)?", it) and it != "__pycache__"):
         came = run(folder, [*script(name), "--help"])
         tally.check(f"{name} --help", came.status == 0 and len(came.out) > 60 and not came.out.startswith(b"#") and not came.err, came)
     for name in ("closed", "no_memory", "update"):
@@ -38,7 +39,7 @@ with tempfile.TemporaryDirectory() as folder:
     for name in ("closed", "no_memory", "update"):
         came = run(folder, [os.path.join(BENCH, name), os.path.realpath(__file__)])
         tally.same(f"{name} with a file for a folder", (came.status, came.out, came.err.count(b"\n")), (2, b"", 1))
-    for script in ("bench/name_tables.py --print", "bench/no_memory --help", "build --help"):
-        came = run(folder, ["sh", "-c", f"{os.path.dirname(BENCH)}/{script} | true"])
-        tally.check(f"{script} whose reader left", b"Traceback" not in came.err and came.err.count(b"\n") <= 1, came)
+    for words in (["bench/name_tables.py", "--print"], ["bench/no_memory", "--help"], ["build", "--help"]):
+        came = run(folder, ["sh", "-c", '"$@" | true', "sh", os.path.join(TOP, words[0]), *words[1:]])
+        tally.check(f"{' '.join(words)} whose reader left", b"Traceback" not in came.err and came.err.count(b"\n") <= 1, came)
 tally.end()

@@ -4,7 +4,7 @@ from casefiles import TOP, Tally, os, put_file
 import tempfile
 import xml.dom.minidom
 
-from calls import called, ran
+from calls import called, ran, shell_status
 import x7formats as x7
 from x7partfile import read_part
 
@@ -67,8 +67,7 @@ with tempfile.TemporaryDirectory() as FOLDER:
     for words in ([], [path], [path, one, two, two]):
         status, out, err = ran("frame_map", *words)
         tally.check(f"words {len(words)}", status == 2 and not out and err.count("\n") == 1, err)
-    script = os.path.join(TOP, "tools", "frame_map")
-    tally.same("standard output is closed", os.system(f"{os.sys.executable} {script} {path} {one} >&- 2>/dev/null") >> 8, 2)
-    tally.same("standard output is full", os.system(f"{os.sys.executable} {script} {path} {one} >/dev/full 2>/dev/null") >> 8, 2)
+    tally.same("standard output is closed", shell_status("frame_map", [path, one], ">&- 2>/dev/null"), 2)
+    tally.same("standard output is full", shell_status("frame_map", [path, one], ">/dev/full 2>/dev/null"), 2)
     tally.check("help", b"tools/frame_map my.part" in ran("frame_map", "--help")[1])
 tally.end()

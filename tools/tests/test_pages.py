@@ -9,7 +9,7 @@ import glob
 import os
 import re
 
-from casefiles import TOOLS, TOP, Tally, text_of
+from casefiles import TOP, Tally, text_of, tool_names
 
 CRATES = os.path.join(TOP, "crates")
 
@@ -101,10 +101,12 @@ def check_seconds(tally):
 
 
 def check_pipes(tally):
-    """No page's command has x7 write to `head`, which may leave before the end: whether that is a write fault is chance."""
+    """No page's command has x7 write to `head`, or another that may leave before the end: whether that is a write fault is
+    chance."""
+    leaves = r"(?:head|true|grep -\w*[qm]|sed (?:-\w+ )*\S*q\b)"
     for page in ("BOARD.md", "FLOWS.md", "FIELD.md"):
-        found = re.findall(r"^ *\$ .*\bx7 [^|\n]*\| *head.*", text_of("crates", "x7_cases", "data", page), re.M)
-        tally.same(f"{page}: commands that write to head", found, [])
+        found = re.findall(rf"^ *\$ .*\bx7 [^|\n]*\| *{leaves}.*", text_of("crates", "x7_cases", "data", page), re.M)
+        tally.same(f"{page}: commands whose reader may leave", found, [])
 
 
 def check_readme(tally):
@@ -138,7 +140,7 @@ def options_of(text):
 def check_tools(tally):
     """Each tool has a row in the README of tools/ whose forms name the options that its help names."""
     forms = re.findall(r"^\| (`.*?`) \| ", text_of("tools", "README.md"), re.M)
-    for name in sorted(it for it in os.listdir(TOOLS) if "." not in it and os.path.isfile(os.path.join(TOOLS, it))):
+    for name in tool_names():
         row = " ".join(it for it in forms if re.match(rf"`{name}\b", it))
         tally.check(f"the README of tools/ has {name}", row, forms)
         tally.same(f"the options of {name}", options_of(row), options_of(ast.get_docstring(ast.parse(text_of("tools", name)))))

@@ -6,7 +6,7 @@ import json
 import re
 import tempfile
 
-from calls import called, ran
+from calls import called, ran, shell_status
 import streams as s
 import x7formats as x7
 from x7partfile import read_part
@@ -150,8 +150,7 @@ def calls():
         status, out, err = ran("part", *words, cwd=FOLDER)
         tally.check(f"words {words}", status == 2 and not out and err.count("\n") == 1 and err.startswith("part: "), f"{status} {err!r}")
     out = os.path.join(FOLDER, "quiet.part")
-    script = os.path.join(os.path.dirname(os.path.realpath(__file__)), "..", "part")
-    tally.same("standard files closed", os.system(f"{os.sys.executable} {script} {path} {out} >&- 2>&- <&-") >> 8, 0)
+    tally.same("standard files closed", shell_status("part", [path, out], ">&- 2>&- <&-"), 0)
     tally.check("and the part is there", os.path.exists(out) and read_part(out).rows == WANTED.rows)
 
 

@@ -10,7 +10,7 @@ import subprocess
 import sys
 import tempfile
 
-from casefiles import DATA, TOOLS
+from casefiles import DATA, TOOLS, tool_names
 from runs import SECONDS, Bench, frame_of
 import x7formats as x7
 
@@ -160,7 +160,7 @@ def main(folder):
     bench, take = Bench(folder), random.Random(2)
     good = good_files(bench)
     files = hostile_files(bench, good)
-    helps(bench, bench.tools())
+    helps(bench, tool_names())
     standard_files(bench)
     on_terminal(bench)
     usages(bench)

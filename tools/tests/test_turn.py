@@ -3,9 +3,10 @@
 of all lengths; text and packed files; and what isn't taken leaves no output."""
 from casefiles import Tally, os, put_file
 import gzip
+import shlex
 import tempfile
 
-from calls import called, ran
+from calls import called, ran, shell_status
 import streams
 import x7kinds
 
@@ -76,10 +77,8 @@ def calls():
     for words in ([], [path, path], ["/nowhere/at/all"], [FOLDER]):
         status, out, err = ran("turn", *words)
         tally.check(f"words {len(words)}", status == 2 and not out and err.count("\n") == 1, err)
-    status = os.system(f"{os.sys.executable} {os.path.join(os.path.dirname(__file__), '..', 'turn')} {path} >&- 2>/dev/null") >> 8
-    tally.same("standard output is closed", status, 2)
-    status = os.system(f"{os.sys.executable} {os.path.join(os.path.dirname(__file__), '..', 'turn')} {path} 2>&- <&- | cmp -s - {path}") >> 8
-    tally.same("the others are closed", status, 0)
+    tally.same("standard output is closed", shell_status("turn", [path], ">&- 2>/dev/null"), 2)
+    tally.same("the others are closed", shell_status("turn", [path], f"2>&- <&- | cmp -s - {shlex.quote(path)}"), 0)
 
 
 with tempfile.TemporaryDirectory() as FOLDER:
