@@ -53,7 +53,7 @@ def regions():
 
 
 def yaml_regions():
-    """The same part as YAML, with the tags of the database."""
+    """The part that is wanted as YAML, with the tags of the database."""
     lines = ["!<xilinx/xc7series/part>", f"idcode: 0x{WANTED.idcode:x}", "global_clock_regions:"]
     for half in ("top", "bottom"):
         lines += [f"  {half}: !<xilinx/xc7series/global_clock_region>", "    rows:"]
@@ -68,7 +68,7 @@ def yaml_regions():
 
 
 def yaml_ranges():
-    """The same part in the older form: ranges of addresses."""
+    """The part that is wanted in the older form: ranges of addresses."""
     lines = ["!<xilinx/xc7series/part>", f"idcode: 0x{WANTED.idcode:x}", "configuration_ranges:"]
     for block, half, row, minors in WANTED.rows:
         for at, count in enumerate(minors):

@@ -223,6 +223,7 @@ def words():
     for option, word, pattern in (
         ("--stat", "0000990C", "BOARD, A stream for another device(.|\n)*ID_ERROR +1.*wrong IDCODE"),
         ("--stat", "0x401079FC", "it says: the device runs"),
+        ("--stat", f"{0x401079FC:032b}", "^STAT 401079FC\nit says: the device runs"),
         ("--stat", "FFFFFFFF", "no device answers"),
         ("--stat", "0000090D", "a check failed"),
         ("--stat", "401039FC", "the pin is low: something on the board holds it"),
@@ -236,7 +237,7 @@ def words():
     ):
         asked(f"{option} {word}", [option, word], pattern, 0)
     asked("two words", ["--stat", "0000990C", "--ctl0", "501"], "STAT 0000990C(.|\n)*CTL0 00000501", 0)
-    for wrong in (["--stat"], ["--stat", "12G"], ["--stat", "123456789"], ["--far", "1"], ["--stat", "1", "x"]):
+    for wrong in (["--stat"], ["--stat", "12G"], ["--stat", "123456789"], ["--stat", "01" * 15], ["--far", "1"], ["--stat", "1", "x"]):
         asked(f"words {wrong}", wrong, "^why: ", 2)
 
 
