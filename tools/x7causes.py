@@ -492,7 +492,7 @@ def of_iprog(subject):
     if begins_with_slots(subject.data):
         return Cause(
             f"this is a flash image: its first sector leads on to flash address {fate.end[1]} (IPROG)",
-            "x7 boot PART FLASH > REPORT, and then why STREAM REPORT", "It falls back",
+            f"x7 boot PART FLASH > REPORT, and then {x7.CALLED}why STREAM REPORT", "It falls back",
         )
     running = "it starts (phase 7), and then " if fate.phase == 7 else ""
     more = ""
@@ -520,7 +520,7 @@ def of_boot(subject):
         )
     if report.boot_end == "stopped" and report.end[0] == "searching" and not registers.get("CMD") and not leads:
         return Cause(
-            f"{path}: nowhere in the flash is a sync word", "list the flash itself: why FLASH names what it is", "No sync word",
+            f"{path}: nowhere in the flash is a sync word", f"{x7.CALLED}why FLASH names what it is", "No sync word",
         )
     if report.boot_end == "stopped" and last.kind != "fallback":
         return Cause(

@@ -30,7 +30,7 @@ echo "what is said of $crate"
 [ -e refuses ] && exit 1
 [ -e stops ] && exit 3
 [ -e killed ] && kill -KILL $$
-[ -e waits ] && { echo half > "$last"; sleep 3600; }
+[ -e waits ] && { echo half > "$last"; sleep 1000; }
 cat src/*.rt > "$last"
 """
 LINKER = """#!/bin/sh
