@@ -5,7 +5,8 @@ from collections import namedtuple
 Field = namedtuple("Field", "name low width meaning")
 MODES = ["000 master serial", "001 master SPI", "010 master BPI", "011", "100 master SelectMAP", "101 JTAG only", "110 slave SelectMAP", "111 slave serial"]
 BUS_WIDTHS = ["x1", "x8", "x16", "x32"]
-STARTUP_STATES = [0, 1, 3, 2, 6, 7, 5, 4]
+# the codes of STARTUP_STATE in the phases 0 to 7
+STARTUP_STATES = [0b000, 0b001, 0b011, 0b010, 0b110, 0b111, 0b101, 0b100]
 PHASE_OF_STATE = {state: phase for phase, state in enumerate(STARTUP_STATES)}
 
 

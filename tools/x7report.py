@@ -5,11 +5,11 @@ from collections import namedtuple
 
 import x7formats as x7
 from x7device import Device, ticks_to_the_end
+from x7fields import STARTUP_STATES
 from x7frames import WCFG, PartFrames
 
 RCFG = x7.CODES["RCFG"]
 SHOWN = ["CRC", "FAR", "CMD", "CTL0", "MASK", "STAT", "COR0", "IDCODE", "AXSS", "COR1", "WBSTAR", "TIMER", "BOOTSTS", "CTL1", "BSPI"]
-STARTUP_STATES = [0b000, 0b001, 0b011, 0b010, 0b110, 0b111, 0b101, 0b100]
 FALLBACKS = ("Id", "Crc", "Watchdog")
 
 # How a device begins: the kind of the attempt, the registers that it keeps, and the low byte of BOOTSTS of the attempt

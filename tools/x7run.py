@@ -41,13 +41,14 @@ def say(line):
 
 
 def write_out(data):
-    """Writes a text or bytes to standard output, whole, or refuses."""
+    """Writes a text or bytes to standard output, whole, or refuses. Of a file's name what isn't UTF-8 is shown as an
+    escape."""
     if sys.stdout is None:
         raise Refused("standard output is closed: nothing was written")
     if isinstance(data, bytes) and sys.stdout.isatty():
         raise Refused("standard output is a terminal, and this is no text: send it to a file, > FILE")
     try:
-        sys.stdout.buffer.write(data.encode() if isinstance(data, str) else data)
+        sys.stdout.buffer.write(data.encode("utf-8", "backslashreplace") if isinstance(data, str) else data)
         sys.stdout.buffer.flush()
     except (OSError, ValueError) as error:
         # what is left in the buffer must not fail once more at the end

@@ -1,6 +1,8 @@
 #!/usr/bin/env python3
 """Tests the shared module against every listing, check, part file and report of the repository's worked cases."""
 from casefiles import Tally, all_cases, put_file
+import io
+import sys
 import tempfile
 import x7formats as x7
 from x7partfile import read_part
@@ -92,6 +94,17 @@ def checks():
     tally.same("check of a long run", x7.fold(0, 2, words), halves)
 
 
+def names():
+    """A file's name that isn't UTF-8 is written with an escape."""
+    kept, sys.stdout = sys.stdout, io.TextIOWrapper(io.BytesIO())
+    try:
+        x7.write_out("\udcff.bit\n")
+        came = sys.stdout.buffer.getvalue()
+    finally:
+        sys.stdout = kept
+    tally.same("a name that isn't UTF-8", came, b"\\udcff.bit\n")
+
+
 def lines():
     """The line of each place of a stream is the one that holds the byte."""
     raw = bytes.fromhex("FF AA995566 20000000 20000000 30004009" + "00000001" * 9 + "30008001 0000000D 00 00")
@@ -115,5 +128,6 @@ with tempfile.TemporaryDirectory() as FOLDER:
         except x7.Refused as error:
             tally.check(name, False, f"refused: {error}")
     checks()
+    names()
     lines()
 tally.end()
