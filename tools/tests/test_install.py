@@ -17,6 +17,9 @@ with tempfile.TemporaryDirectory() as folder:
     tally.same("install of no folder, status", run(folder, [install]).status, 2)
     tally.same("install -h, status", run(folder, [install, "-h"]).status, 0)
     tally.same("install of another option, status", run(folder, [install, "--other"]).status, 2)
+    os.environ["X7"] = os.path.join(folder, "nowhere")
+    came = run(folder, [install, "none"])
+    tally.same("install of a program that isn't there", (came.status, came.err.count(b"\n"), os.path.exists(os.path.join(folder, "none"))), (2, 1, False))
     if X7:
         os.environ["X7"] = X7
         came = run(folder, [install, "there"])
