@@ -11,7 +11,7 @@ import re
 import struct
 from collections import namedtuple
 
-from x7run import CALLED, Refused, program, read_file, run, say, write_file, write_out  # noqa: F401  (for the tools)
+from x7run import CALLED, NO_PROGRAM, Refused, program, read_file, run, say, write_file, write_out  # noqa: F401  (for the tools)
 
 # ---- words, registers and commands (UG470, configuration registers; command register codes)
 

@@ -6,9 +6,15 @@ import sys
 
 HERE = os.path.dirname(os.path.realpath(__file__))
 TOP = os.path.dirname(HERE)
+IS_INSTALLED = os.path.basename(HERE) != "tools"
 # What stands before the name of a tool where a user calls it: in the repository its folder, and where the tools were
 # installed what `./install` puts before the name.
-CALLED = "tools/" if os.path.basename(HERE) == "tools" else "x7-"
+CALLED = "x7-" if IS_INSTALLED else "tools/"
+# What is said where x7 isn't found.
+NO_PROGRAM = (
+    "there is no x7 on the path, and X7 in the environment names none" if IS_INSTALLED else
+    "there is no x7: ./build proves and builds it, or X7 in the environment names one"
+)
 
 
 class Refused(Exception):
@@ -18,8 +24,7 @@ class Refused(Exception):
 def program(given=None):
     """The path of x7, or none: the one given, or the one that X7 in the environment names; else the built one of this
     repository, or, where the tools were installed, the one on the path."""
-    built = os.path.join(TOP, "crates", "x7", "out", "x7")
-    path = given or os.environ.get("X7") or (built if os.path.exists(built) else shutil.which("x7"))
+    path = given or os.environ.get("X7") or (shutil.which("x7") if IS_INSTALLED else os.path.join(TOP, "crates", "x7", "out", "x7"))
     return os.path.realpath(path) if path and os.path.isfile(path) and os.access(path, os.X_OK) else None
 
 
@@ -27,7 +32,7 @@ def wanted_program(given=None):
     """The path of x7, of a tool that can do nothing without it: where there is none, a refusal that says what to do."""
     named, path = given or os.environ.get("X7"), program(given)
     if not path:
-        raise Refused(f"x7 isn't at {named}" if named else "there is no x7: ./build proves and builds it, or X7 in the environment names one")
+        raise Refused(f"x7 isn't at {named}" if named else NO_PROGRAM)
     return path
 
 

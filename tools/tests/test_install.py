@@ -3,6 +3,7 @@
 program."""
 import os
 import re
+import sys
 import tempfile
 
 from casefiles import TOP, Tally
@@ -48,6 +49,11 @@ with tempfile.TemporaryDirectory() as folder:
         tally.check("an installed tool names another by its name", b"\nremedy: x7-turn FILE > NEW\n" in came.out, came)
         came = run(folder, ["x7-why", "--part", *files])
         tally.check("an installed tool plays by the installed program", b"cause: the stream is for a device with IDCODE" in came.out, came)
+        os.remove(os.path.join(folder, "there", "bin", "x7"))
+        os.symlink(sys.executable, os.path.join(folder, "there", "bin", "python3"))
+        os.environ["PATH"] = os.path.join(folder, "there", "bin")
+        came = run(folder, ["x7-why", "--part", *files])
+        tally.check("an installed tool finds no program", b"\nnote: there is no x7 on the path, " in came.out, came)
     else:
         tally.skip("install of a program")
 tally.end()
