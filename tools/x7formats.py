@@ -540,8 +540,10 @@ def read_frames(path, part=None):
         if not line or line.startswith(b"#"):
             continue
         found = re.fullmatch(rb"frame ([0-9A-F]{8}) ((?:[0-9A-Fa-f]{8})+)", line)
-        if not found or part and len(found[2]) != 8 * part.frame_words:
+        if not found:
             raise Refused(f"{path} is no frames text: line {number}")
+        if part and len(found[2]) != 8 * part.frame_words:
+            raise Refused(f"{path}: a frame of the part {part.name} has {part.frame_words} words, and one here {len(found[2]) // 8}: line {number}")
         far = int(found[1], 16)
         if known is not None and far not in known:
             raise Refused(f"{path}: the part {part.name} has no address {far:08X}: line {number}")

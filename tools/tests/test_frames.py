@@ -90,6 +90,7 @@ def ecc(bench):
     bench.put("short", "frame 00000000 0000000100000002\n")
     bench.refuses("frames", "ecc", "short", what="has 2 words")
     bench.refuses("frames", "mend", "short", what="has 2 words")
+    bench.refuses("frames", "mend", "short", "--part", "made.part", what="a frame of the part made has 101 words, and one here 2: line 1")
 
 
 def plans(bench):

@@ -93,6 +93,8 @@ def refused(bench):
     bench.put("letter", with_header(data).replace(b"\0b\0\5", b"\0q\0\5"))
     bench.put("family", data.replace(bytes.fromhex("0362D093"), bytes.fromhex("04B31093")))
     bench.put("nothing", b"")
+    two = data.replace(x7.write_packet(x7.IDCODE, [0x0362D093]), x7.write_packet(x7.IDCODE, [0x0362D093, 0x0362C093]))
+    bench.put("two", x7.with_checks(two, [it.place for it in x7.checks_of(two)]))
     bench.put("jump", data.replace(bytes.fromhex("3000800100000005"), bytes.fromhex("300080010000000F")))
     bench.put("text", b"these are no streams, these are words\n" * 40)
     for name, what in (
@@ -105,6 +107,7 @@ def refused(bench):
         ("header", "header"),
         ("letter", "letter"),
         ("family", "no 7-series"),
+        ("two", "two: it writes different IDCODEs"),
         ("nothing", "no sync word"),
         ("text", "no sync word"),
         ("nowhere", "nowhere"),
