@@ -365,3 +365,14 @@ none_further part p n ss i l = ap (first_from part p n) (none ss i l)
     none [] (suc k) m = refl
     none (x ∷ xs) zero m = absurd (omega (arith, m))
     none (x ∷ xs) (suc k) m = none xs k (omega (arith, m))
+
+-- ---- the statement found at a place
+
+pub of_found : (P : Statement → Type 0) (found : Option Statement) (list : List Statement) (i : ℕ) (s x : Statement) → found ≡ slice_get list i → found ≡ Some s → slice_get list i ≡ Some x → P s → P x
+of_found P found list i s x at is there h =
+    let both : Some s ≡ Some x = sym is ∙ at ∙ there in
+    let same : s ≡ x = cc in
+    subst P same h
+
+pub none_found : {P : Type 0} (found : Option Statement) (list : List Statement) (i : ℕ) (x : Statement) → found ≡ slice_get list i → found ≡ None → slice_get list i ≡ Some x → P
+none_found found list i x at is there = let e : None ≡ Some x = sym is ∙ at ∙ there in absurd cc
