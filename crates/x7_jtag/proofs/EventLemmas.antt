@@ -17,70 +17,70 @@ eighth : (reads : List ℕ → List ℕ) (q : Queue) (x : ℕ) (b : Bool) → (i
 eighth reads q x true = refl
 eighth reads q x false = refl
 
-idled_events : (part : PartData) (i : Instruction) (p : Port) → (after_idle part i p).queue ≡ fold (by_event (words_read_out part)) p.queue (idle_events i p)
-idled_events part instruction.Jstart p = eighth (words_read_out part) p.queue 255 (p.count == 7)
-idled_events part instruction.CfgOut p = refl
-idled_events part instruction.CfgIn p = refl
-idled_events part instruction.Usercode p = refl
-idled_events part instruction.Idcode p = refl
-idled_events part instruction.Jprogram p = refl
-idled_events part instruction.Jshutdown p = refl
-idled_events part instruction.Bypass p = refl
+queue_over_idle : (part : PartData) (i : Instruction) (p : Port) → (after_idle part i p).queue ≡ fold (by_event (words_read_out part)) p.queue (idle_events i p)
+queue_over_idle part instruction.Jstart p = eighth (words_read_out part) p.queue 255 (p.count == 7)
+queue_over_idle part instruction.CfgOut p = refl
+queue_over_idle part instruction.CfgIn p = refl
+queue_over_idle part instruction.Usercode p = refl
+queue_over_idle part instruction.Idcode p = refl
+queue_over_idle part instruction.Jprogram p = refl
+queue_over_idle part instruction.Jshutdown p = refl
+queue_over_idle part instruction.Bypass p = refl
 
-captured_events : (part : PartData) (i : Instruction) (p : Port) → (after_capture part i p).queue ≡ p.queue
-captured_events part instruction.Jstart p = refl
-captured_events part instruction.CfgOut p = refl
-captured_events part instruction.CfgIn p = refl
-captured_events part instruction.Usercode p = refl
-captured_events part instruction.Idcode p = refl
-captured_events part instruction.Jprogram p = refl
-captured_events part instruction.Jshutdown p = refl
-captured_events part instruction.Bypass p = refl
+queue_over_capture : (part : PartData) (i : Instruction) (p : Port) → (after_capture part i p).queue ≡ p.queue
+queue_over_capture part instruction.Jstart p = refl
+queue_over_capture part instruction.CfgOut p = refl
+queue_over_capture part instruction.CfgIn p = refl
+queue_over_capture part instruction.Usercode p = refl
+queue_over_capture part instruction.Idcode p = refl
+queue_over_capture part instruction.Jprogram p = refl
+queue_over_capture part instruction.Jshutdown p = refl
+queue_over_capture part instruction.Bypass p = refl
 
-shifted_events : (part : PartData) (i : Instruction) (p : Port) (tdi : Bool) → (after_shift part i p tdi).queue ≡ fold (by_event (words_read_out part)) p.queue (data_events i p tdi)
-shifted_events part instruction.CfgIn p tdi = eighth (words_read_out part) p.queue (with_bit p.register tdi) (p.count == 7)
-shifted_events part instruction.CfgOut p tdi = refl
-shifted_events part instruction.Jstart p tdi = refl
-shifted_events part instruction.Usercode p tdi = refl
-shifted_events part instruction.Idcode p tdi = refl
-shifted_events part instruction.Jprogram p tdi = refl
-shifted_events part instruction.Jshutdown p tdi = refl
-shifted_events part instruction.Bypass p tdi = refl
+queue_over_shift : (part : PartData) (i : Instruction) (p : Port) (tdi : Bool) → (after_shift part i p tdi).queue ≡ fold (by_event (words_read_out part)) p.queue (data_events i p tdi)
+queue_over_shift part instruction.CfgIn p tdi = eighth (words_read_out part) p.queue (with_bit p.register tdi) (p.count == 7)
+queue_over_shift part instruction.CfgOut p tdi = refl
+queue_over_shift part instruction.Jstart p tdi = refl
+queue_over_shift part instruction.Usercode p tdi = refl
+queue_over_shift part instruction.Idcode p tdi = refl
+queue_over_shift part instruction.Jprogram p tdi = refl
+queue_over_shift part instruction.Jshutdown p tdi = refl
+queue_over_shift part instruction.Bypass p tdi = refl
 
-programmed_events : (reads : List ℕ → List ℕ) (i : Instruction) (q : Queue) → queue_at_update i q ≡ fold (by_event reads) q (update_events i)
-programmed_events reads instruction.Jprogram q = refl
-programmed_events reads instruction.CfgIn q = refl
-programmed_events reads instruction.CfgOut q = refl
-programmed_events reads instruction.Jstart q = refl
-programmed_events reads instruction.Usercode q = refl
-programmed_events reads instruction.Idcode q = refl
-programmed_events reads instruction.Jshutdown q = refl
-programmed_events reads instruction.Bypass q = refl
+queue_over_update : (reads : List ℕ → List ℕ) (i : Instruction) (q : Queue) → queue_at_update i q ≡ fold (by_event reads) q (update_events i)
+queue_over_update reads instruction.Jprogram q = refl
+queue_over_update reads instruction.CfgIn q = refl
+queue_over_update reads instruction.CfgOut q = refl
+queue_over_update reads instruction.Jstart q = refl
+queue_over_update reads instruction.Usercode q = refl
+queue_over_update reads instruction.Idcode q = refl
+queue_over_update reads instruction.Jshutdown q = refl
+queue_over_update reads instruction.Bypass q = refl
 
-acted_events : (part : PartData) (s : State) (p : Port) (tdi : Bool) → (after_action part s p tdi).queue ≡ fold (by_event (words_read_out part)) p.queue (events_in s p tdi)
-acted_events part state.TestLogicReset p tdi = refl
-acted_events part state.RunTestIdle p tdi = idled_events part p.instruction p
-acted_events part state.SelectDr p tdi = refl
-acted_events part state.CaptureDr p tdi = captured_events part p.instruction p
-acted_events part state.ShiftDr p tdi = shifted_events part p.instruction p tdi
-acted_events part state.Exit1Dr p tdi = refl
-acted_events part state.PauseDr p tdi = refl
-acted_events part state.Exit2Dr p tdi = refl
-acted_events part state.UpdateDr p tdi = refl
-acted_events part state.SelectIr p tdi = refl
-acted_events part state.CaptureIr p tdi = refl
-acted_events part state.ShiftIr p tdi = refl
-acted_events part state.Exit1Ir p tdi = refl
-acted_events part state.PauseIr p tdi = refl
-acted_events part state.Exit2Ir p tdi = refl
-acted_events part state.UpdateIr p tdi = programmed_events (words_read_out part) (instruction_of p.register) p.queue
+queue_over_action : (part : PartData) (s : State) (p : Port) (tdi : Bool) → (after_action part s p tdi).queue ≡ fold (by_event (words_read_out part)) p.queue (events_in s p tdi)
+queue_over_action part state.TestLogicReset p tdi = refl
+queue_over_action part state.RunTestIdle p tdi = queue_over_idle part p.instruction p
+queue_over_action part state.SelectDr p tdi = refl
+queue_over_action part state.CaptureDr p tdi = queue_over_capture part p.instruction p
+queue_over_action part state.ShiftDr p tdi = queue_over_shift part p.instruction p tdi
+queue_over_action part state.Exit1Dr p tdi = refl
+queue_over_action part state.PauseDr p tdi = refl
+queue_over_action part state.Exit2Dr p tdi = refl
+queue_over_action part state.UpdateDr p tdi = refl
+queue_over_action part state.SelectIr p tdi = refl
+queue_over_action part state.CaptureIr p tdi = refl
+queue_over_action part state.ShiftIr p tdi = refl
+queue_over_action part state.Exit1Ir p tdi = refl
+queue_over_action part state.PauseIr p tdi = refl
+queue_over_action part state.Exit2Ir p tdi = refl
+queue_over_action part state.UpdateIr p tdi = queue_over_update (words_read_out part) (instruction_of p.register) p.queue
 
 events_from : (part : PartData) (p : Port) (cs : List PortClock) → (fold (after_clock part) p cs).queue ≡ fold (by_event (words_read_out part)) p.queue (events_of part p cs)
 events_from part p [] = refl
 events_from part p (c ∷ cs) =
     let rest : List QueueEvent = events_of part (after_clock part p c) cs in
     events_from part (after_clock part p c) cs
-    ∙ ap (λ (q : Queue). fold (by_event (words_read_out part)) q rest) (acted_events part p.state p c.tdi)
+    ∙ ap (λ (q : Queue). fold (by_event (words_read_out part)) q rest) (queue_over_action part p.state p c.tdi)
     ∙ sym (fold-append (by_event (words_read_out part)) p.queue (events_in p.state p c.tdi) rest)
 
 pub queue_events : (part : PartData) (cs : List PortClock) → (port_after part cs).queue ≡ queue_after (words_read_out part) (events_of part new_port cs)

@@ -1,7 +1,7 @@
 -- Lemmas on bytes that are offered while no word waits: the device takes them at once, up
 -- to the one with which a word is read out.
 use Rattle.std.proofs.Common.{◌≡◌, ◌⊎◌, inl, inr, ℕ, zero, suc, ◌+◌, ◌-◌, ◌*◌, ◌<◌, ◌≤◌, ◌==◌, ◌&&◌, Bool, false, if◌then◌else◌, List, [], ◌∷◌, ◌++◌, length, take, drop, slice_index, refl, ap, sym, subst, ◌∙◌, append_assoc, append-nil, length-append, length-drop, arith}
-use Rattle.std.proofs.lemmas.List.{length-take-le, take_all, take-append-drop, take-take}
+use Rattle.std.proofs.lemmas.List.{length-take-le, nil_from_length, take_all, take-append-drop, take-take}
 use Rattle.std.specs.Option.{IsSome, is_some}
 use Rattle.std.specs.List.{fold}
 use Rattle.x7_words.specs.Word.{AreBytes}
@@ -208,13 +208,9 @@ offers_more part k l n c d e all rest count few before step m s =
       b.2 ∙ first_part count rest (words_read_out part) b.0 ∙ ap (fold (offered (words_read_out part)) (fold (offered (words_read_out part)) b.0 (take count rest))) (sym (rest_after count rest)),
     )
 
-none_of : (xs : List ℕ) → length xs ≡ 0 → xs ≡ []
-none_of [] l = refl
-none_of (x ∷ xs) l = absurd (omega (arith, l))
-
 pub offers_end : (part : PartData) (k n : QueueState) (c e : DeviceState) (all rest : List ℕ) → length rest ≡ 0
     → ((m : Queue) → QueueStandsFor part k c m → (p : Queue) × QueueStandsFor part n e p × (fold (offered (words_read_out part)) m all ≡ fold (offered (words_read_out part)) p rest))
     → (m : Queue) → QueueStandsFor part k c m → QueueStandsFor part n e (fold (offered (words_read_out part)) m all)
 offers_end part k n c e all rest none turns m s =
     let b = turns m s in
-    subst (QueueStandsFor part n e) (sym (b.2 ∙ ap (fold (offered (words_read_out part)) b.0) (none_of rest none))) b.1
+    subst (QueueStandsFor part n e) (sym (b.2 ∙ ap (fold (offered (words_read_out part)) b.0) (nil_from_length rest none))) b.1

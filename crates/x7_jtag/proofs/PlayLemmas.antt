@@ -2,7 +2,7 @@
 use Rattle.std.proofs.Common.{◌≡◌, ℕ, zero, suc, ◌+◌, ◌*◌, ◌-◌, ◌^◌, ◌<◌, ◌≤◌, ◌==◌, Bool, true, false, if◌then◌else◌, List, [], ◌∷◌, ◌++◌, length, take, drop, replicate, slice_index_or, Option, Some, None, refl, ap, ap₂, sym, subst, ◌∙◌, append_assoc, append-nil, length-append, length-drop, arith}
 use Rattle.std.specs.List.{fold, slice_get}
 use Rattle.std.proofs.Math.Seq.{take-add}
-use Rattle.std.proofs.lemmas.List.{take_all}
+use Rattle.std.proofs.lemmas.List.{nil_from_length, take_all}
 use Rattle.std.proofs.lemmas.List.Sums.{fold-append}
 use Rattle.x7_part.specs.Part.{PartData}
 use Rattle.x7_engine.specs.Standing.{DeviceState}
@@ -73,14 +73,10 @@ walk_on t d u v e f path rest some w step =
           (step part (cs ++ walk_clocks w.0) (w.2 part cs s)),
     )
 
-none_left : (xs : List Bool) → length xs ≡ 0 → xs ≡ []
-none_left [] l = refl
-none_left (x ∷ xs) l = absurd (omega (arith, l))
-
 pub walk_ends : (t : TapState) (d : DeviceState) (u : TapState) (e : DeviceState) (path rest : List Bool) → length rest ≡ 0 → Walked t d u e path rest
     → (part : PartData) (cs : List PortClock) → TapStandsFor part t d cs → TapStandsFor part u e (cs ++ walk_clocks path)
 walk_ends t d u e path rest none w part cs s =
-    let all : w.0 ≡ path = sym (append-nil w.0) ∙ ap (λ r. w.0 ++ r) (sym (none_left rest none)) ∙ w.1 in
+    let all : w.0 ≡ path = sym (append-nil w.0) ∙ ap (λ r. w.0 ++ r) (sym (nil_from_length rest none)) ∙ w.1 in
     stands_at part u e (cs ++ walk_clocks w.0) (cs ++ walk_clocks path) (ap (λ r. cs ++ walk_clocks r) all) (w.2 part cs s)
 
 -- ---- a run
@@ -365,3 +361,14 @@ none_further part p n ss i l = ap (first_from part p n) (none ss i l)
     none [] (suc k) m = refl
     none (x ∷ xs) zero m = absurd (omega (arith, m))
     none (x ∷ xs) (suc k) m = none xs k (omega (arith, m))
+
+-- ---- the statement found at a place
+
+pub of_found : (P : Statement → Type 0) (found : Option Statement) (list : List Statement) (i : ℕ) (s x : Statement) → found ≡ slice_get list i → found ≡ Some s → slice_get list i ≡ Some x → P s → P x
+of_found P found list i s x at is there h =
+    let both : Some s ≡ Some x = sym is ∙ at ∙ there in
+    let same : s ≡ x = cc in
+    subst P same h
+
+pub none_found : {P : Type 0} (found : Option Statement) (list : List Statement) (i : ℕ) (x : Statement) → found ≡ slice_get list i → found ≡ None → slice_get list i ≡ Some x → P
+none_found found list i x at is there = let e : None ≡ Some x = sym is ∙ at ∙ there in absurd cc

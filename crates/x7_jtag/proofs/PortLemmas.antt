@@ -119,58 +119,58 @@ captures part k n d p r s is with = record {
 }
 
 -- no action changes the state: that is the clock's
-idled_state : (part : PartData) (i : Instruction) (p : Port) → (after_idle part i p).state ≡ p.state
-idled_state part instruction.Jstart p = refl
-idled_state part instruction.CfgOut p = refl
-idled_state part instruction.CfgIn p = refl
-idled_state part instruction.Usercode p = refl
-idled_state part instruction.Idcode p = refl
-idled_state part instruction.Jprogram p = refl
-idled_state part instruction.Jshutdown p = refl
-idled_state part instruction.Bypass p = refl
+state_over_idle : (part : PartData) (i : Instruction) (p : Port) → (after_idle part i p).state ≡ p.state
+state_over_idle part instruction.Jstart p = refl
+state_over_idle part instruction.CfgOut p = refl
+state_over_idle part instruction.CfgIn p = refl
+state_over_idle part instruction.Usercode p = refl
+state_over_idle part instruction.Idcode p = refl
+state_over_idle part instruction.Jprogram p = refl
+state_over_idle part instruction.Jshutdown p = refl
+state_over_idle part instruction.Bypass p = refl
 
-captured_state : (part : PartData) (i : Instruction) (p : Port) → (after_capture part i p).state ≡ p.state
-captured_state part instruction.Jstart p = refl
-captured_state part instruction.CfgOut p = refl
-captured_state part instruction.CfgIn p = refl
-captured_state part instruction.Usercode p = refl
-captured_state part instruction.Idcode p = refl
-captured_state part instruction.Jprogram p = refl
-captured_state part instruction.Jshutdown p = refl
-captured_state part instruction.Bypass p = refl
+state_over_capture : (part : PartData) (i : Instruction) (p : Port) → (after_capture part i p).state ≡ p.state
+state_over_capture part instruction.Jstart p = refl
+state_over_capture part instruction.CfgOut p = refl
+state_over_capture part instruction.CfgIn p = refl
+state_over_capture part instruction.Usercode p = refl
+state_over_capture part instruction.Idcode p = refl
+state_over_capture part instruction.Jprogram p = refl
+state_over_capture part instruction.Jshutdown p = refl
+state_over_capture part instruction.Bypass p = refl
 
-shifted_state : (part : PartData) (i : Instruction) (p : Port) (tdi : Bool) → (after_shift part i p tdi).state ≡ p.state
-shifted_state part instruction.Jstart p tdi = refl
-shifted_state part instruction.CfgOut p tdi = refl
-shifted_state part instruction.CfgIn p tdi = refl
-shifted_state part instruction.Usercode p tdi = refl
-shifted_state part instruction.Idcode p tdi = refl
-shifted_state part instruction.Jprogram p tdi = refl
-shifted_state part instruction.Jshutdown p tdi = refl
-shifted_state part instruction.Bypass p tdi = refl
+state_over_shift : (part : PartData) (i : Instruction) (p : Port) (tdi : Bool) → (after_shift part i p tdi).state ≡ p.state
+state_over_shift part instruction.Jstart p tdi = refl
+state_over_shift part instruction.CfgOut p tdi = refl
+state_over_shift part instruction.CfgIn p tdi = refl
+state_over_shift part instruction.Usercode p tdi = refl
+state_over_shift part instruction.Idcode p tdi = refl
+state_over_shift part instruction.Jprogram p tdi = refl
+state_over_shift part instruction.Jshutdown p tdi = refl
+state_over_shift part instruction.Bypass p tdi = refl
 
-acted_state : (part : PartData) (s : State) (p : Port) (tdi : Bool) → (after_action part s p tdi).state ≡ p.state
-acted_state part state.TestLogicReset p tdi = refl
-acted_state part state.RunTestIdle p tdi = idled_state part p.instruction p
-acted_state part state.SelectDr p tdi = refl
-acted_state part state.CaptureDr p tdi = captured_state part p.instruction p
-acted_state part state.ShiftDr p tdi = shifted_state part p.instruction p tdi
-acted_state part state.Exit1Dr p tdi = refl
-acted_state part state.PauseDr p tdi = refl
-acted_state part state.Exit2Dr p tdi = refl
-acted_state part state.UpdateDr p tdi = refl
-acted_state part state.SelectIr p tdi = refl
-acted_state part state.CaptureIr p tdi = refl
-acted_state part state.ShiftIr p tdi = refl
-acted_state part state.Exit1Ir p tdi = refl
-acted_state part state.PauseIr p tdi = refl
-acted_state part state.Exit2Ir p tdi = refl
-acted_state part state.UpdateIr p tdi = refl
+state_over_action : (part : PartData) (s : State) (p : Port) (tdi : Bool) → (after_action part s p tdi).state ≡ p.state
+state_over_action part state.TestLogicReset p tdi = refl
+state_over_action part state.RunTestIdle p tdi = state_over_idle part p.instruction p
+state_over_action part state.SelectDr p tdi = refl
+state_over_action part state.CaptureDr p tdi = state_over_capture part p.instruction p
+state_over_action part state.ShiftDr p tdi = state_over_shift part p.instruction p tdi
+state_over_action part state.Exit1Dr p tdi = refl
+state_over_action part state.PauseDr p tdi = refl
+state_over_action part state.Exit2Dr p tdi = refl
+state_over_action part state.UpdateDr p tdi = refl
+state_over_action part state.SelectIr p tdi = refl
+state_over_action part state.CaptureIr p tdi = refl
+state_over_action part state.ShiftIr p tdi = refl
+state_over_action part state.Exit1Ir p tdi = refl
+state_over_action part state.PauseIr p tdi = refl
+state_over_action part state.Exit2Ir p tdi = refl
+state_over_action part state.UpdateIr p tdi = refl
 
 -- a clock
 moves : (part : PartData) (m n : TapState) (e : DeviceState) (p : Port) (tms tdi : Bool) → StandsForPort part m e (after_action part p.state p tdi) → n ≡ record m { state = next_of m.state tms } → StandsForPort part n e (after_clock part p (record { tms = tms; tdi = tdi }))
 moves part m n e p tms tdi s with = record {
-  state_is = ap (λ (x : TapState). x.state) with ∙ ap (λ (x : State). next_of x tms) (s.state_is ∙ acted_state part p.state p tdi);
+  state_is = ap (λ (x : TapState). x.state) with ∙ ap (λ (x : State). next_of x tms) (s.state_is ∙ state_over_action part p.state p tdi);
   instruction_is = ap (λ (x : TapState). x.instruction) with ∙ s.instruction_is;
   register_is = ap (λ (x : TapState). x.register) with ∙ s.register_is;
   count_is = ap (λ (x : TapState). x.count) with ∙ s.count_is;

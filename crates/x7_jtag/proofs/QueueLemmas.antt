@@ -1,5 +1,6 @@
 -- What holds of the queue of a port after any clocks.
-use Rattle.std.proofs.Common.{◌≡◌, ℕ, ◌+◌, ◌<◌, ◌≤◌, ◌≢◌, ◌==◌, ◌&&◌, nat_lt, Bool, true, false, if◌then◌else◌, List, [], ◌∷◌, ◌++◌, length, refl, sym, subst, ap, ◌∙◌, append_assoc, append-nil, arith, length-append}
+use Rattle.std.proofs.Common.{◌≡◌, ℕ, ◌+◌, ◌<◌, ◌≤◌, ◌≢◌, ◌==◌, ◌&&◌, Bool, true, false, if◌then◌else◌, List, [], ◌∷◌, ◌++◌, length, refl, sym, subst, ap, ◌∙◌, append_assoc, append-nil, arith, length-append}
+use Rattle.std.proofs.lemmas.Bool.{ltb-true}
 use Rattle.std.specs.List.{fold}
 use Rattle.x7_words.specs.Word.{AreBytes, number_of_bit}
 use Rattle.x7_words.proofs.ListLemmas.{all_append, all_prefix}
@@ -29,9 +30,6 @@ more_read reads g given more f =
 
 one_byte : (x : ℕ) → x < 256 → AreBytes (x ∷ [])
 one_byte x l = (l, tt)
-
-is_below : (m n : ℕ) → nat_lt m n ≡ true → m < n
-is_below m n h = grind (arith, h)
 
 -- ---- held bytes in their turn
 
@@ -122,7 +120,7 @@ turn_by reads g q x false l e s =
 
 shifted_by : (reads : List ℕ → List ℕ) → Grows reads → (q : Queue) (b : Bool) → waits reads q.given q.out ≡ b → QueueIsSound reads q
     → QueueIsSound reads (if b then give_held reads (record q { out = q.out + 1 }) else q)
-shifted_by reads g q true e s = subst (QueueIsSound reads) (in_turns reads q.given q.held (q.out + 1)) (given_on_sound reads g q.given q.held (q.out + 1) s.room (omega (arith, is_below q.out (bits_read reads q.given) e)) s.fits)
+shifted_by reads g q true e s = subst (QueueIsSound reads) (in_turns reads q.given q.held (q.out + 1)) (given_on_sound reads g q.given q.held (q.out + 1) s.room (omega (arith, ltb-true q.out (bits_read reads q.given) e)) s.fits)
 shifted_by reads g q false e s = s
 
 empty_sound : (reads : List ℕ → List ℕ) → QueueIsSound reads empty_queue

@@ -53,68 +53,68 @@ if_size a q false l = omega arith
 same_size : (q : Queue) → size q ≤ size q + 1
 same_size q = omega arith
 
-idled_size : (part : PartData) (i : Instruction) (p : Port) → size (after_idle part i p).queue ≤ size p.queue + 1
-idled_size part instruction.Jstart p = if_size (offered (words_read_out part) p.queue 255) p.queue (p.count == 7) (offered_size (words_read_out part) p.queue 255)
-idled_size part instruction.CfgOut p = same_size p.queue
-idled_size part instruction.CfgIn p = same_size p.queue
-idled_size part instruction.Usercode p = same_size p.queue
-idled_size part instruction.Idcode p = same_size p.queue
-idled_size part instruction.Jprogram p = same_size p.queue
-idled_size part instruction.Jshutdown p = same_size p.queue
-idled_size part instruction.Bypass p = same_size p.queue
+size_over_idle : (part : PartData) (i : Instruction) (p : Port) → size (after_idle part i p).queue ≤ size p.queue + 1
+size_over_idle part instruction.Jstart p = if_size (offered (words_read_out part) p.queue 255) p.queue (p.count == 7) (offered_size (words_read_out part) p.queue 255)
+size_over_idle part instruction.CfgOut p = same_size p.queue
+size_over_idle part instruction.CfgIn p = same_size p.queue
+size_over_idle part instruction.Usercode p = same_size p.queue
+size_over_idle part instruction.Idcode p = same_size p.queue
+size_over_idle part instruction.Jprogram p = same_size p.queue
+size_over_idle part instruction.Jshutdown p = same_size p.queue
+size_over_idle part instruction.Bypass p = same_size p.queue
 
-captured_size : (part : PartData) (i : Instruction) (p : Port) → size (after_capture part i p).queue ≤ size p.queue + 1
-captured_size part instruction.Jstart p = same_size p.queue
-captured_size part instruction.CfgOut p = same_size p.queue
-captured_size part instruction.CfgIn p = same_size p.queue
-captured_size part instruction.Usercode p = same_size p.queue
-captured_size part instruction.Idcode p = same_size p.queue
-captured_size part instruction.Jprogram p = same_size p.queue
-captured_size part instruction.Jshutdown p = same_size p.queue
-captured_size part instruction.Bypass p = same_size p.queue
+size_over_capture : (part : PartData) (i : Instruction) (p : Port) → size (after_capture part i p).queue ≤ size p.queue + 1
+size_over_capture part instruction.Jstart p = same_size p.queue
+size_over_capture part instruction.CfgOut p = same_size p.queue
+size_over_capture part instruction.CfgIn p = same_size p.queue
+size_over_capture part instruction.Usercode p = same_size p.queue
+size_over_capture part instruction.Idcode p = same_size p.queue
+size_over_capture part instruction.Jprogram p = same_size p.queue
+size_over_capture part instruction.Jshutdown p = same_size p.queue
+size_over_capture part instruction.Bypass p = same_size p.queue
 
-data_size : (part : PartData) (i : Instruction) (p : Port) (tdi : Bool) → size (after_shift part i p tdi).queue ≤ size p.queue + 1
-data_size part instruction.CfgIn p tdi = if_size (offered (words_read_out part) p.queue (with_bit p.register tdi)) p.queue (p.count == 7) (offered_size (words_read_out part) p.queue (with_bit p.register tdi))
-data_size part instruction.CfgOut p tdi = shifted_size (words_read_out part) p.queue
-data_size part instruction.Jstart p tdi = same_size p.queue
-data_size part instruction.Usercode p tdi = same_size p.queue
-data_size part instruction.Idcode p tdi = same_size p.queue
-data_size part instruction.Jprogram p tdi = same_size p.queue
-data_size part instruction.Jshutdown p tdi = same_size p.queue
-data_size part instruction.Bypass p tdi = same_size p.queue
+size_over_shift : (part : PartData) (i : Instruction) (p : Port) (tdi : Bool) → size (after_shift part i p tdi).queue ≤ size p.queue + 1
+size_over_shift part instruction.CfgIn p tdi = if_size (offered (words_read_out part) p.queue (with_bit p.register tdi)) p.queue (p.count == 7) (offered_size (words_read_out part) p.queue (with_bit p.register tdi))
+size_over_shift part instruction.CfgOut p tdi = shifted_size (words_read_out part) p.queue
+size_over_shift part instruction.Jstart p tdi = same_size p.queue
+size_over_shift part instruction.Usercode p tdi = same_size p.queue
+size_over_shift part instruction.Idcode p tdi = same_size p.queue
+size_over_shift part instruction.Jprogram p tdi = same_size p.queue
+size_over_shift part instruction.Jshutdown p tdi = same_size p.queue
+size_over_shift part instruction.Bypass p tdi = same_size p.queue
 
-programmed_size : (i : Instruction) (q : Queue) → size (queue_at_update i q) ≤ size q + 1
-programmed_size instruction.Jprogram q = omega arith
-programmed_size instruction.CfgIn q = same_size q
-programmed_size instruction.CfgOut q = same_size q
-programmed_size instruction.Jstart q = same_size q
-programmed_size instruction.Usercode q = same_size q
-programmed_size instruction.Idcode q = same_size q
-programmed_size instruction.Jshutdown q = same_size q
-programmed_size instruction.Bypass q = same_size q
+size_over_update : (i : Instruction) (q : Queue) → size (queue_at_update i q) ≤ size q + 1
+size_over_update instruction.Jprogram q = omega arith
+size_over_update instruction.CfgIn q = same_size q
+size_over_update instruction.CfgOut q = same_size q
+size_over_update instruction.Jstart q = same_size q
+size_over_update instruction.Usercode q = same_size q
+size_over_update instruction.Idcode q = same_size q
+size_over_update instruction.Jshutdown q = same_size q
+size_over_update instruction.Bypass q = same_size q
 
-acted_size : (part : PartData) (s : State) (p : Port) (tdi : Bool) → size (after_action part s p tdi).queue ≤ size p.queue + 1
-acted_size part state.TestLogicReset p tdi = same_size p.queue
-acted_size part state.RunTestIdle p tdi = idled_size part p.instruction p
-acted_size part state.SelectDr p tdi = same_size p.queue
-acted_size part state.CaptureDr p tdi = captured_size part p.instruction p
-acted_size part state.ShiftDr p tdi = data_size part p.instruction p tdi
-acted_size part state.Exit1Dr p tdi = same_size p.queue
-acted_size part state.PauseDr p tdi = same_size p.queue
-acted_size part state.Exit2Dr p tdi = same_size p.queue
-acted_size part state.UpdateDr p tdi = same_size p.queue
-acted_size part state.SelectIr p tdi = same_size p.queue
-acted_size part state.CaptureIr p tdi = same_size p.queue
-acted_size part state.ShiftIr p tdi = same_size p.queue
-acted_size part state.Exit1Ir p tdi = same_size p.queue
-acted_size part state.PauseIr p tdi = same_size p.queue
-acted_size part state.Exit2Ir p tdi = same_size p.queue
-acted_size part state.UpdateIr p tdi = programmed_size (instruction_of p.register) p.queue
+size_over_action : (part : PartData) (s : State) (p : Port) (tdi : Bool) → size (after_action part s p tdi).queue ≤ size p.queue + 1
+size_over_action part state.TestLogicReset p tdi = same_size p.queue
+size_over_action part state.RunTestIdle p tdi = size_over_idle part p.instruction p
+size_over_action part state.SelectDr p tdi = same_size p.queue
+size_over_action part state.CaptureDr p tdi = size_over_capture part p.instruction p
+size_over_action part state.ShiftDr p tdi = size_over_shift part p.instruction p tdi
+size_over_action part state.Exit1Dr p tdi = same_size p.queue
+size_over_action part state.PauseDr p tdi = same_size p.queue
+size_over_action part state.Exit2Dr p tdi = same_size p.queue
+size_over_action part state.UpdateDr p tdi = same_size p.queue
+size_over_action part state.SelectIr p tdi = same_size p.queue
+size_over_action part state.CaptureIr p tdi = same_size p.queue
+size_over_action part state.ShiftIr p tdi = same_size p.queue
+size_over_action part state.Exit1Ir p tdi = same_size p.queue
+size_over_action part state.PauseIr p tdi = same_size p.queue
+size_over_action part state.Exit2Ir p tdi = same_size p.queue
+size_over_action part state.UpdateIr p tdi = size_over_update (instruction_of p.register) p.queue
 
 clocks_size : (part : PartData) (p : Port) (cs : List PortClock) → size (fold (after_clock part) p cs).queue ≤ size p.queue + length cs
 clocks_size part p [] = omega arith
 clocks_size part p (c ∷ cs) =
-    let step : size (after_clock part p c).queue ≤ size p.queue + 1 = acted_size part p.state p c.tdi in
+    let step : size (after_clock part p c).queue ≤ size p.queue + 1 = size_over_action part p.state p c.tdi in
     omega (arith, step, clocks_size part (after_clock part p c) cs)
 
 -- a device took no more bytes than there were clocks, with the bytes held

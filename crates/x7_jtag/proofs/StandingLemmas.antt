@@ -1,7 +1,7 @@
 -- Lemmas on specs/Tap: what a queue and its device stand for after each of their steps.
 use Rattle.std.proofs.Common.{◌≡◌, inl, ℕ, zero, suc, ◌+◌, ◌-◌, ◌*◌, ◌/◌, ◌%◌, ◌^◌, ◌<◌, ◌≤◌, ◌==◌, ◌&&◌, nat_lt, Bool, true, false, if◌then◌else◌, List, [], ◌∷◌, ◌++◌, length, take, drop, slice_index, Option, Some, None, refl, ap, ap₂, sym, subst, ◌∙◌, append_assoc, length-append, length-drop, arith}
 use Rattle.std.proofs.Math.Seq.{get_or-append_seam}
-use Rattle.std.proofs.lemmas.List.{take_all}
+use Rattle.std.proofs.lemmas.List.{nil_from_length, take_all}
 use Rattle.std.specs.Option.{IsSome}
 use Rattle.std.specs.List.{fold}
 use Rattle.x7_words.specs.Word.{AreBytes}
@@ -319,10 +319,6 @@ turn_more part k l n c d e all rest some before step m s =
     let b = before m s in
     (in_turn (words_read_out part) b.0 (slice_index rest 0), step b.0 b.1, b.2 ∙ ap (fold (in_turn (words_read_out part)) b.0) (first_of rest some) ∙ ap (fold (in_turn (words_read_out part)) (in_turn (words_read_out part) b.0 (slice_index rest 0))) (sym (rest_of rest)))
 
-none_of : (xs : List ℕ) → length xs ≡ 0 → xs ≡ []
-none_of [] l = refl
-none_of (x ∷ xs) l = absurd (omega (arith, l))
-
 pub turns_end : (part : PartData) (k l n : QueueState) (d e : DeviceState) (given held all rest : List ℕ) (out : ℕ) → QueueStandsFor part k d (queue_of given held out) → l ≡ record k { held = [] } → all ≡ k.held → length rest ≡ 0
     → ((m : Queue) → QueueStandsFor part l d m → (p : Queue) × QueueStandsFor part n e p × (fold (in_turn (words_read_out part)) m all ≡ fold (in_turn (words_read_out part)) p rest))
     → QueueStandsFor part n e (give_held (words_read_out part) (queue_of given held out))
@@ -330,5 +326,5 @@ turns_end part k l n d e given held all rest out s apart whole none turns =
     let first : Queue = record { given = given; held = []; out = out } in
     let b = turns first (held_apart part k l d given held out apart s) in
     let end : b.0 ≡ give_held (words_read_out part) (queue_of given held out) =
-    sym (ap (fold (in_turn (words_read_out part)) b.0) (none_of rest none)) ∙ sym b.2 ∙ ap (fold (in_turn (words_read_out part)) first) (whole ∙ s.holds.held_is) in
+    sym (ap (fold (in_turn (words_read_out part)) b.0) (nil_from_length rest none)) ∙ sym b.2 ∙ ap (fold (in_turn (words_read_out part)) first) (whole ∙ s.holds.held_is) in
     subst (QueueStandsFor part n e) end b.1

@@ -21,7 +21,7 @@ queue_of given held out = record { given = given; held = held; out = out }
 
 -- a queue of which the device was given these bytes more
 abbrev pub with_given : Queue → List ℕ → Queue
-with_given q more = record { given = q.given ++ more; held = q.held; out = q.out }
+with_given q more = record q { given = q.given ++ more }
 
 -- the number of all bits of the words read out; here and below `reads` gives the words that a device reads out of the
 -- bytes given to it
@@ -38,10 +38,7 @@ most_bytes_held = 64
 
 -- a queue after a byte in its turn: given where no word waits, else held
 abbrev pub in_turn : (List ℕ → List ℕ) → Queue → ℕ → Queue
-in_turn reads q x =
-    if waits reads q.given q.out
-    then record { given = q.given; held = q.held ++ x ∷ []; out = q.out }
-    else record { given = q.given ++ x ∷ []; held = q.held; out = q.out }
+in_turn reads q x = if waits reads q.given q.out then record q { held = q.held ++ x ∷ [] } else with_given q (x ∷ [])
 
 -- held bytes come in their turn again: they go to the device in order until a word waits
 abbrev pub give_held : (List ℕ → List ℕ) → Queue → Queue
@@ -49,7 +46,7 @@ give_held reads q = fold (in_turn reads) (record q { held = [] }) q.held
 
 -- what waits is dropped, the held bytes are given, and what they read out is dropped
 abbrev pub dropped : (List ℕ → List ℕ) → Queue → Queue
-dropped reads q = record { given = q.given ++ q.held; held = []; out = bits_read reads (q.given ++ q.held) }
+dropped reads q = queue_of (q.given ++ q.held) [] (bits_read reads (q.given ++ q.held))
 
 -- a queue with room for a byte that should be held, where the most bytes were
 abbrev pub queue_with_room : (List ℕ → List ℕ) → Queue → Queue
@@ -73,7 +70,7 @@ bit_shown reads q = if waits reads q.given q.out then word_bit (reads q.given) q
 
 -- the queue of a new port
 abbrev pub empty_queue : Queue
-empty_queue = record { given = []; held = []; out = 0 }
+empty_queue = queue_of [] [] 0
 
 -- a queue after an event
 abbrev pub by_event : (List ℕ → List ℕ) → Queue → QueueEvent → Queue

@@ -23,7 +23,7 @@ pub record QueueState : Type 0 where
   pub word : ℕ
   pub bits_left : ℕ
 
--- the next word taken, where the device gave one
+-- a queue with the next word taken, where the device gave one
 abbrev pub with_word_taken : QueueState → List ℕ → QueueState
 with_word_taken queue [] = queue
 with_word_taken queue (word ∷ words) = record { held = queue.held; word = word; bits_left = 32 }

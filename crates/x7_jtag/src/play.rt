@@ -68,7 +68,7 @@ fn to_shift(tap: &mut Tap, device: &mut Device, register: ScannedRegister)
     }
 }
 
-/// Bit `index`, from 0, and 0 past the last.
+/// Bit `index` of a scan, counted from 0; past the last it is 0.
 fn scan_bit(bits: &Bits<'_>, index: u32) -> bool
     ensures { result ≡ scan_bit bits.now index }
 {

@@ -4,7 +4,7 @@ use Rattle.std.proofs.lemmas.List.{drop-append-le, length-take-le, take-append-d
 use Rattle.std.proofs.lemmas.List.Sums.{fold-append}
 use Rattle.x7_words.proofs.ListLemmas.{all_append, map_append}
 use Rattle.x7_listing.specs.Assembly.{AreHeadedAsm, AssembleTo, assembled, BeginsWithLines, IsFirstBadText, PassesLimitAt, with_line}
-use Rattle.x7_listing.specs.Assembling.{asm_state, TextsAreRead, OpensText, LinesAreRead}
+use Rattle.x7_listing.specs.Assembling.{Output, TextsAreRead, OpensText, LinesAreRead, output_of}
 use Rattle.x7_listing.specs.declared.assembler.AsmFault.TheVariants as fault
 use Rattle.x7_crc.specs.Checker.{check_of_bytes}
 use Rattle.x7_crc.specs.Checker.{CheckerState, KeepsCheckOf}
@@ -119,13 +119,20 @@ close_long all others prefix start first m n s (inr p) b e =
     inr (p.no_head, subst (λ (t : List (List ℕ)). PassesLimitAt 67108864 t n) (sym p.texts) (subst (PassesLimitAt 67108864 others) same c))
 
 -- the outcome of a text all of whose lines are read
-pub goes_whole : (all : List (List ℕ)) (out : List ℕ) (start : ℕ) (checker : CheckerState) (n : ℕ) → TextsAreRead all [] (asm_state out start checker n) → AreHeadedAsm all (Ok out)
-goes_whole all out start checker n g = close_ok all g.others (take start out) out start g.first (sym (length-take-le start out g.long)) g.opens (went_all (67108864 - start) g.others (drop start out) g.read g.went) refl
+pub goes_whole : (all : List (List ℕ)) (b : Output) (n : ℕ) → TextsAreRead all [] b n → AreHeadedAsm all (Ok b.out)
+goes_whole all b n g =
+    close_ok all g.others (take b.start b.out) b.out b.start g.first (sym (length-take-le b.start b.out g.long)) g.opens (went_all (67108864 - b.start) g.others (drop b.start b.out) g.read g.went) refl
 
 -- one line more is read: it is bad, passes the limit, or is taken
-module _ (line out mid new : List ℕ) (start n c : ℕ) (old-checker new-checker : CheckerState) (r : Bool) (same : mid ≡ out) (n-is : c ≡ n + 1)
-    (reads : AppendsIfRead FitsLine text_of (line_bytes (check_of_bytes (drop start mid))) r line mid new) (keeps : KeepsCheckOf new-checker (drop start new)) where
-  module _ (all left : List (List ℕ)) (g : TextsAreRead all (line ∷ left) (asm_state out start old-checker n)) where
+module _ (line mid new : List ℕ) (old : Output) (n c : ℕ) (checker : CheckerState) (r : Bool) (same : mid ≡ old.out) (n-is : c ≡ n + 1)
+    (reads : AppendsIfRead FitsLine text_of (line_bytes (check_of_bytes (drop old.start mid))) r line mid new) (keeps : KeepsCheckOf checker (drop old.start new)) where
+  abbrev out : List ℕ
+  out = old.out
+
+  abbrev start : ℕ
+  start = old.start
+
+  module _ (all left : List (List ℕ)) (g : TextsAreRead all (line ∷ left) old n) where
     got : AppendsIfRead FitsLine text_of (line_bytes (check_of_bytes (drop start out))) r line out new
     got = subst (λ (m : List ℕ). AppendsIfRead FitsLine text_of (line_bytes (check_of_bytes (drop start m))) r line m new) same reads
 
@@ -145,8 +152,8 @@ module _ (line out mid new : List ℕ) (start n c : ℕ) (old-checker new-checke
         (too_long (67108864 - start) g.others line (drop start out) (drop start new) left g.read g.went (yes e) (omega (arith, h, g.short, length-drop start new)))
         (omega (arith, n-is, g.count_is))
 
-    pub read_on : r ≡ true → length new ≤ 67108864 → TextsAreRead all left (asm_state new start new-checker c)
-    read_on e h =
+    pub read_on : (room : ℕ) → r ≡ true → length new ≤ 67108864 → TextsAreRead all left (output_of new start checker room) c
+    read_on room e h =
         let f = prefix_stays start (check_of_bytes (drop start out)) r line out new g.long got in
         record {
           others = g.others;

@@ -71,7 +71,7 @@ one_header x y h k e =
     let b = same_field x.b y.b (field_text x.c ++ 32 ∷ with_count x.d x.data_length) (field_text y.c ++ 32 ∷ with_count y.d y.data_length) h.b k.b a.1 in
     let c = same_field x.c y.c (with_count x.d x.data_length) (with_count y.d y.data_length) h.c k.c b.1 in
     let d = same_field x.d y.d (decimal x.data_length) (decimal y.data_length) h.d k.d c.1 in
-    let n : x.data_length ≡ y.data_length = sym (decimal_back x.data_length (omega (arith, h.have.data_length))) ∙ ap (decimal_after 0) d.1 ∙ decimal_back y.data_length (omega (arith, k.have.data_length)) in
+    let n : x.data_length ≡ y.data_length = sym (decimal_back x.data_length (omega (arith, h.fields_fit.data_length))) ∙ ap (decimal_after 0) d.1 ∙ decimal_back y.data_length (omega (arith, k.fields_fit.data_length)) in
     same_contents x y a.0 b.0 c.0 d.0 n
 
 pub no_line : (x : HeaderContents) (l : Line) → IsLine (bit_text x) l → ⊥
@@ -97,7 +97,7 @@ header_back x h =
     let n = ap after_space d ∙ rest_after_field x.d (decimal x.data_length) in
     let field : List ℕ → List ℕ = λ t. field_guess (before_space t) in
     same_contents (header_by (field_text x.a ++ 32 ∷ second)) x (first_field x.a second h.a) (ap field b ∙ first_field x.b third h.b) (ap field c ∙ first_field x.c count h.c)
-    (ap field d ∙ first_field x.d (decimal x.data_length) h.d) (ap (decimal_after 0) n ∙ decimal_back x.data_length (omega (arith, h.have.data_length)))
+    (ap field d ∙ first_field x.d (decimal x.data_length) h.d) (ap (decimal_after 0) n ∙ decimal_back x.data_length (omega (arith, h.fields_fit.data_length)))
 
 -- the one header whose line a text may be
 pub header_is : (t : List ℕ) (x : HeaderContents) → FitsHeader x → t ≡ bit_text x → x ≡ header_by (drop 4 t)
@@ -221,7 +221,7 @@ pub header_made : (line a b c d : List ℕ) (x : HeaderContents) (bytes : List �
     → bytes ≡ header_bytes x → IsHeaderOf line bytes
 header_made line a b c d x bytes is ta tb tc td are = record {
   header = x;
-  fits = record { have = record { a = ta.0.short; b = tb.0.short; c = tc.0.short; d = td.0.short; data_length = is.is_word }; a = ta.0.bytes; b = tb.0.bytes; c = tc.0.bytes; d = td.0.bytes };
+  fits = record { fields_fit = record { a = ta.0.short; b = tb.0.short; c = tc.0.short; d = td.0.short; data_length = is.is_word }; a = ta.0.bytes; b = tb.0.bytes; c = tc.0.bytes; d = td.0.bytes };
   text = is.line_is ∙ ap₂ (λ s t. bit_line s t c d x.data_length) ta.1 tb.1 ∙ ap₂ (λ s t. bit_line (field_text x.a) (field_text x.b) s t x.data_length) tc.1 td.1;
   bytes_are = are;
 }
@@ -240,7 +240,7 @@ header_limit x k =
     omega (arith, counted 0x61 x.a after_a k.a, counted 0x62 x.b after_b k.b, counted 0x63 x.c after_c k.c, counted 0x64 x.d after_d k.d)
 
 pub header_short : (line bytes : List ℕ) → IsHeaderOf line bytes → length bytes ≤ longest_header
-header_short line bytes h = subst (λ b. length b ≤ longest_header) (sym h.bytes_are) (header_limit h.header h.fits.have)
+header_short line bytes h = subst (λ b. length b ≤ longest_header) (sym h.bytes_are) (header_limit h.header h.fits.fields_fit)
 
 pub is_field : (bs : List ℕ) → AreBytes bs → length bs < 2 ^ 16 → IsField bs
 is_field bs a h = record { bytes = a; short = h }

@@ -2,7 +2,7 @@
 use Rattle.std.proofs.Common.{◌≡◌, ◌==◌, ℕ, ◌+◌, ◌*◌, ◌-◌, ◌≤◌, Bool, true, false, if◌then◌else◌, List, [], ◌∷◌, ◌++◌, None, drop, length, length-drop, refl, sym, ap, ap₂, ◌∙◌, take, take-append-drop, append-nil, arith, length-append, codes, flat_map, decimal}
 use Rattle.std.specs.List.{AllByRecursion}
 use Rattle.std.proofs.lemmas.List.{length-map, length-take-le}
-use Rattle.x7_words.specs.Word.{bytes_of_word}
+use Rattle.x7_words.proofs.WordLemmas.{length_bytes}
 use Rattle.x7_packets.specs.SyncWord.{sync_bytes}
 use Rattle.x7_packets.specs.ByHand.{before_last_four, Reading, reading_of}
 use Rattle.x7_packets.specs.Packet.{Packet, register_named_by, stepped, words}
@@ -82,10 +82,6 @@ words_long : (i : ℕ) (ss : List (ℕ × Step)) → 4 * length ss ≤ length (o
 words_long i [] = omega arith
 words_long i (s ∷ ss) = omega (arith, words_long (in_line_after_word i s.1) ss, word_long i s.0 s.1, length-append (open_session_word i s.0 s.1) (open_words (in_line_after_word i s.1) ss))
 
-four_each : (ws : List ℕ) → length (flat_map bytes_of_word ws) ≡ 4 * length ws
-four_each [] = refl
-four_each (w ∷ ws) = omega (arith, four_each ws)
-
 as_many : (ps : List Packet) → length (flat_map words ps) ≡ length (flat_map stepped ps)
 as_many [] = refl
 as_many (p ∷ ps) =
@@ -95,7 +91,7 @@ as_many (p ∷ ps) =
 session_long : (gap : List ℕ) (packets : List Packet) → length gap + 4 + length (packet_bytes packets) ≤ length (ended_texts (gap_and_sync_lines gap) ++ open_words 0 (flat_map stepped packets))
 session_long gap packets =
     let ws : List ℕ = open_words 0 (flat_map stepped packets) in
-    let bytes : length (packet_bytes packets) ≡ 4 * length (flat_map words packets) = four_each (flat_map words packets) in
+    let bytes : length (packet_bytes packets) ≡ 4 * length (flat_map words packets) = length_bytes (flat_map words packets) in
     omega (arith, gap_long gap, ap length (gap_and_sync_text gap), bytes, as_many packets, words_long 0 (flat_map stepped packets), length-append (ended_texts (gap_and_sync_lines gap)) ws, length-append (bytes_text gap) (codes "sync\n"))
   where
     gap_long : (gap : List ℕ) → length gap ≤ length (bytes_text gap)

@@ -90,12 +90,12 @@ held_or : (x : HeaderContents) → Decided (FitsHeader x)
 held_or x = by (field_or x.a) (field_or x.b) (field_or x.c) (field_or x.d) (below_or x.data_length (2 ^ 32))
   where
     by : FieldOr x.a → FieldOr x.b → FieldOr x.c → FieldOr x.d → Decided (x.data_length < 2 ^ 32) → Decided (FitsHeader x)
-    by (inl a) (inl b) (inl c) (inl d) (inl n) = inl (record { have = record { a = a.0; b = b.0; c = c.0; d = d.0; data_length = n }; a = a.1; b = b.1; c = c.1; d = d.1 })
-    by (inr a) b c d n = inr (λ h. a (h.have.a, h.a))
-    by a (inr b) c d n = inr (λ h. b (h.have.b, h.b))
-    by a b (inr c) d n = inr (λ h. c (h.have.c, h.c))
-    by a b c (inr d) n = inr (λ h. d (h.have.d, h.d))
-    by a b c d (inr n) = inr (λ h. n h.have.data_length)
+    by (inl a) (inl b) (inl c) (inl d) (inl n) = inl (record { fields_fit = record { a = a.0; b = b.0; c = c.0; d = d.0; data_length = n }; a = a.1; b = b.1; c = c.1; d = d.1 })
+    by (inr a) b c d n = inr (λ h. a (h.fields_fit.a, h.a))
+    by a (inr b) c d n = inr (λ h. b (h.fields_fit.b, h.b))
+    by a b (inr c) d n = inr (λ h. c (h.fields_fit.c, h.c))
+    by a b c (inr d) n = inr (λ h. d (h.fields_fit.d, h.d))
+    by a b c d (inr n) = inr (λ h. n h.fields_fit.data_length)
 
 -- ---- the line of a text, and the header of one, or none
 

@@ -1,8 +1,7 @@
 -- What line a text is of, if it is of one: by the word that it begins with, and what its digits stand for.
 use Rattle.std.proofs.Common.{◌≡◌, ℕ, zero, suc, ◌+◌, ◌*◌, ◌-◌, ◌^◌, ◌<◌, ◌==◌, ◌&&◌, if◌then◌else◌, Bool, true, false, List, [], ◌∷◌, ◌++◌, Option, None, Some, refl, ap, ap₂, sym, ◌∙◌, arith, inl, inr, subst, codes, rules}
-use Rattle.std.proofs.lemmas.Bool.{cases_lt}
+use Rattle.std.proofs.lemmas.Bool.{cases_lt, eqb-true}
 use Rattle.std.proofs.lemmas.Fmt.{digits_value-decimal}
-use Rattle.std.proofs.lemmas.Grind.{common_steps}
 use Rattle.std.proofs.lemmas.Str.Parse.{IsNumeralModel, numerals_by_fold}
 use Rattle.std.specs.Fmt.{decimal}
 use Rattle.std.specs.List.{flat_map}
@@ -128,9 +127,6 @@ each_holds test (suc k) n h e =
       | inr above ↦ let same : k ≡ n = omega arith in let P : ℕ → Type 0 = λ j. test (reg_name j) j ≡ true in subst P same parts.0
     ]
 
-equal_numbers : (a b : ℕ) → (a == b) ≡ true → a ≡ b
-equal_numbers a b e = grind (arith, common_steps)
-
 in_place : List ℕ → ℕ → Bool
 in_place name n = place_in reg_names name == n
 
@@ -147,7 +143,7 @@ all_free = refl
 
 pub name_place : (n : ℕ) → n < reg_number_count → place_in reg_names (reg_name n) ≡ n
 unfolding in_place
-name_place n h = equal_numbers _ _ (each_holds in_place 32 n h all_in_place)
+name_place n h = eqb-true _ _ (each_holds in_place 32 n h all_in_place)
 
 pub name_free : (n : ℕ) → n < reg_number_count → has_no_space (reg_name n) ≡ true
 unfolding free

@@ -3,11 +3,12 @@ use Rattle.std.proofs.Common.{◌≡◌, ◌==◌, ℕ, ◌+◌, ◌*◌, ◌<�
 use Rattle.std.specs.Prelude.{nat_lt}
 use Rattle.std.specs.List.{AllByRecursion, flat_map}
 use Rattle.std.specs.Fmt.{decimal}
-use Rattle.std.proofs.lemmas.Bool.Decides.{nat_tests}
+use Rattle.std.proofs.lemmas.Bool.{ltb-true}
 use Rattle.std.proofs.lemmas.Fmt.{length-decimal-le}
 use Rattle.std.proofs.lemmas.Grind.{flat_map-append}
 use Rattle.x7_words.specs.Word.{AreBytes, bytes_of_word}
 use Rattle.x7_words.proofs.ListLemmas.{all_append, all_back, all_prefix}
+use Rattle.x7_words.proofs.WordLemmas.{length_bytes}
 use Rattle.x7_header.specs.Header.{HeaderContents, field_bytes, fixed_bytes, FitHeaderFields, header_bytes, FieldKind}
 use Rattle.x7_header.specs.Reading.{header_at}
 use Rattle.x7_header.specs.declared.fault.HeaderFault.{HeaderFault}
@@ -43,12 +44,9 @@ all_few : each_name few 32 ≡ true
 unfolding each_name few
 all_few = refl
 
-below_by : (a b : ℕ) → nat_lt a b ≡ true → a < b
-below_by a b e = grind (arith, nat_tests)
-
 name_few : (n : ℕ) → n < reg_number_count → length (reg_name n) < 8
 unfolding few
-name_few n h = below_by (length (reg_name n)) 8 (each_holds few 32 n h all_few)
+name_few n h = ltb-true (length (reg_name n)) 8 (each_holds few 32 n h all_few)
 
 command_few : (c : Command) → length (command_name_of c) < 10
 command_few command.Null = omega arith
@@ -70,10 +68,6 @@ command_few command.Crcc = omega arith
 command_few command.Ltimer = omega arith
 command_few command.BspiRead = omega arith
 command_few command.FallEdge = omega arith
-
-four_each : (ws : List ℕ) → length (flat_map bytes_of_word ws) ≡ 4 * length ws
-four_each [] = refl
-four_each (w ∷ ws) = omega (arith, four_each ws)
 
 -- a line of a listing that is no `bytes` line
 abbrev pub IsWhole : Line → Type 0
@@ -100,7 +94,7 @@ line_short (Read n c) f o = access_few (codes "read ") n c (omega arith) f.0 f.1
 line_short (Write2 c) f o = count_few (codes "write2 ") c (omega arith) f
 line_short (Read2 c) f o = count_few (codes "read2 ") c (omega arith) f
 line_short (Word w) f o = omega arith
-line_short (Data ws) f o = omega (arith, f.1, four_each ws, length_spaced ws, length-append (codes "data" ++ flat_map spaced ws) (10 ∷ []), length-append (codes "data") (flat_map spaced ws))
+line_short (Data ws) f o = omega (arith, f.1, length_bytes ws, length_spaced ws, length-append (codes "data" ++ flat_map spaced ws) (10 ∷ []), length-append (codes "data") (flat_map spaced ws))
 line_short (Cmd c) f o = omega (arith, command_few c, length-append (codes "cmd " ++ command_name_of c) (10 ∷ []), length-append (codes "cmd ") (command_name_of c))
 line_short Check f o = absurd o
 

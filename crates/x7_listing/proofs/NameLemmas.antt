@@ -1,7 +1,7 @@
 -- The name before the first space of a text.
 use Rattle.std.proofs.Common.{◌≡◌, ◌==◌, ℕ, zero, suc, ◌+◌, ◌-◌, ◌<◌, ◌≤◌, Bool, true, false, if◌then◌else◌, List, [], ◌∷◌, ◌++◌, Option, None, Some, MatchOption, length, take, drop, get_or, refl, ap, sym, ◌∙◌, arith, length-append, length-drop, take_all}
 use Rattle.x7_listing.specs.BitLine.{has_no_space, IsCutAtSpace}
-use Rattle.std.proofs.lemmas.Grind.{common_steps}
+use Rattle.std.proofs.lemmas.Bool.{eqb-true}
 use Rattle.x7_regs.specs.Register.{reg_name, reg_number_count}
 use Rattle.x7_regs.proofs.NamedLemmas.{register_place}
 use Rattle.x7_listing.proofs.GuessLemmas.{before_space, name_before_space, name_free}
@@ -16,9 +16,6 @@ no_space t h n rest k e =
     let at : get_or t (length (reg_name n)) 0 ≡ 32 = ap (λ (s : List ℕ). get_or s (length (reg_name n)) 0) e ∙ space_at (reg_name n) rest in
     h (length (reg_name n)) (register_place n k).2 (omega (arith, ap length e, length-append (reg_name n) (32 ∷ rest))) at
 
-equal_numbers : (a b : ℕ) → (a == b) ≡ true → a ≡ b
-equal_numbers a b e = grind (arith, common_steps)
-
 at_space : (b : Bool) (c : ℕ) (cs : List ℕ) → b ≡ true → (if b then [] else c ∷ before_space cs) ≡ []
 at_space true c cs e = refl
 at_space false c cs e = absurd cc
@@ -31,7 +28,7 @@ before_it false c cs t h e = ap (λ s. c ∷ s) e
 pub first_space : (t : List ℕ) (k : ℕ) → ((j : ℕ) → j < k → get_or t j 0 ≡ 32 → ⊥) → k < length t → get_or t k 0 ≡ 32 → before_space t ≡ take k t
 first_space [] k h l e = absurd (omega arith)
 first_space (c ∷ cs) zero h l e = at_space (c == 32) c cs (ap (λ d. d == 32) e)
-first_space (c ∷ cs) (suc k) h l e = before_it (c == 32) c cs (take k cs) (λ f. h 0 (omega arith) (equal_numbers c 32 f)) (first_space cs k (λ j i. h (suc j) (omega arith)) (omega arith) e)
+first_space (c ∷ cs) (suc k) h l e = before_it (c == 32) c cs (take k cs) (λ f. h 0 (omega arith) (eqb-true c 32 f)) (first_space cs k (λ j i. h (suc j) (omega arith)) (omega arith) e)
 
 -- a text whose first word is no register's name
 pub no_register : (t : List ℕ) (k : ℕ) → before_space t ≡ take k t → ((n : ℕ) → n < reg_number_count → take k t ≡ reg_name n → ⊥) → (n : ℕ) (rest : List ℕ) → n < reg_number_count → t ≡ reg_name n ++ 32 ∷ rest → ⊥
@@ -54,7 +51,7 @@ free_before (c ∷ cs) (suc k) h l = free_not (c == 32) cs k (h 0 (omega arith) 
 
 split_at : (t : List ℕ) (k : ℕ) → k < length t → (get_or t k 0 == 32) ≡ true → t ≡ take k t ++ 32 ∷ drop (suc k) t
 split_at [] k l e = absurd (omega arith)
-split_at (c ∷ cs) zero l e = ap (λ (d : ℕ). d ∷ cs) (equal_numbers c 32 e)
+split_at (c ∷ cs) zero l e = ap (λ (d : ℕ). d ∷ cs) (eqb-true c 32 e)
 split_at (c ∷ cs) (suc k) l e = ap (λ s. c ∷ s) (split_at cs k (omega arith) e)
 
 -- a text at a space

@@ -52,7 +52,7 @@ fitting_header x h all =
     let in_b = first_bytes 0x62 x.b c in_a.1 in
     let in_c = first_bytes 0x63 x.c d in_b.1 in
     let in_d = first_bytes 0x64 x.d e in_c.1 in
-    record { have = h; a = in_a.0; b = in_b.0; c = in_c.0; d = in_d.0 }
+    record { fields_fit = h; a = in_a.0; b = in_b.0; c = in_c.0; d = in_d.0 }
 
 -- no listing begins with a header's line
 none_first : (lines : List Line) (texts : List (List ℕ)) → AllByRecursion FitsLine lines → texts ≡ map text_of lines ++ [] → HasNoHeaderLine texts

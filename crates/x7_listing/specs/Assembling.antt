@@ -36,18 +36,6 @@ pub record OpensPlain (all others : List (List ℕ)) (prefix : List ℕ) (n : �
 abbrev pub OpensText : List (List ℕ) → List (List ℕ) → List ℕ → ℕ → Type 0
 OpensText all others prefix n = OpensHeaded all others prefix n ⊎ OpensPlain all others prefix n
 
--- what is read so far: the bytes, the place where those of lines begin (after a header's), their checker, and how many
--- texts were read, a header's line included
-pub record AsmState : Type 0 where
-  pub out : List ℕ
-  pub start : ℕ
-  pub checker : CheckerState
-  pub count : ℕ
-
--- an `AsmState` with these fields
-abbrev pub asm_state : List ℕ → ℕ → CheckerState → ℕ → AsmState
-asm_state out start checker count = record { out = out; start = start; checker = checker; count = count }
-
 -- what lines gave: the bytes so far, the place where those of lines begin (after a header's), their checker, and for
 -- how many bytes there is room in all
 pub record Output : Type 0 where
@@ -55,6 +43,10 @@ pub record Output : Type 0 where
   pub start : ℕ
   pub checker : CheckerState
   pub room : ℕ
+
+-- an `Output` with these fields
+abbrev pub output_of : List ℕ → ℕ → CheckerState → ℕ → Output
+output_of out start checker room = record { out = out; start = start; checker = checker; room = room }
 
 -- there is room in an output for the bytes of one line more: 32 at most, a row
 abbrev pub HasLineRoom : Output → Type 0
@@ -65,13 +57,9 @@ pub record IsSoundOutput (out : List ℕ) (start : ℕ) (checker : CheckerState)
   pub begun : start ≤ length out
   pub keeps : KeepsCheckOf checker (drop start out)
 
--- this output as what is read so far, after `n` texts
-abbrev pub state_of_output : Output → ℕ → AsmState
-state_of_output b n = asm_state b.out b.start b.checker n
-
--- The texts are read but for those that are left: their bytes are these, those of
--- lines from `start` on, whose check is kept.
-pub record TextsAreRead (all left : List (List ℕ)) (b : AsmState) : Type 0 where
+-- `n` of the texts are read, a header's line included, and the others are left: the output has their bytes, those of
+-- lines from `start` on, whose check is kept
+pub record TextsAreRead (all left : List (List ℕ)) (b : Output) (n : ℕ) : Type 0 where
   pub others : List (List ℕ)
   pub first : ℕ
   pub read : ℕ
@@ -80,20 +68,19 @@ pub record TextsAreRead (all left : List (List ℕ)) (b : AsmState) : Type 0 whe
   pub keeps : KeepsCheckOf b.checker (drop b.start b.out)
   pub opens : OpensText all others (take b.start b.out) first
   pub went : LinesAreRead (asm_limit - b.start) others left (drop b.start b.out) read
-  pub count_is : b.count ≡ first + read
+  pub count_is : n ≡ first + read
 
--- none of the texts is read yet
-pub record Unbegun (all left : List (List ℕ)) (b : AsmState) : Type 0 where
+-- none of the texts is read yet, and the output has no byte
+pub record Unbegun (all left : List (List ℕ)) (b : Output) : Type 0 where
   pub texts : all ≡ left
   pub out_is : b.out ≡ []
   pub start_is : b.start ≡ 0
   pub keeps : KeepsCheckOf b.checker []
-  pub count_is : b.count ≡ 0
 
--- the texts are read but for those that are left; or, where the first one is still to be read, none is read yet
-abbrev pub AreReadOrUnbegun : Bool → List (List ℕ) → List (List ℕ) → AsmState → Type 0
-AreReadOrUnbegun true = TextsAreRead
-AreReadOrUnbegun false = Unbegun
+-- `n` of the texts are read, and the others are left; or, where the first one is still to be read, none is read yet
+abbrev pub AreReadOrUnbegun : Bool → List (List ℕ) → List (List ℕ) → Output → ℕ → Type 0
+AreReadOrUnbegun true all left b n = TextsAreRead all left b n
+AreReadOrUnbegun false all left b n = Unbegun all left b
 
 -- the text begins with `count` whole lines, none of which is a comment or the check; their bytes were appended, and the
 -- rest is left
@@ -120,7 +107,7 @@ has_any (t ∷ ts) = true
 
 -- these first lines of a text gave this output, whatever lines follow
 abbrev pub IsOutputOf : Output → List (List ℕ) → Type 0
-IsOutputOf b lines = (left : List (List ℕ)) → AreReadOrUnbegun (has_any lines) (lines ++ left) left (state_of_output b (length lines))
+IsOutputOf b lines = (left : List (List ℕ)) → AreReadOrUnbegun (has_any lines) (lines ++ left) left b (length lines)
 
 -- these first lines of a text gave this output, and once one was read there is room for the next
 pub record HasReadWithRoom (b : Output) (lines : List (List ℕ)) : Type 0 where
@@ -137,19 +124,19 @@ HasAsmFault f lines = (f ≡ fault.NoMemory) ⊎ AreHeadedAsm lines (Err f)
 
 -- a text's first line is read: from no output to that of one line, whatever lines follow
 abbrev pub ReadsFirst : Output → Output → List ℕ → Type 0
-ReadsFirst old new line = (all left : List (List ℕ)) → Unbegun all (line ∷ left) (state_of_output old 0) → TextsAreRead all left (state_of_output new 1)
+ReadsFirst old new line = (all left : List (List ℕ)) → Unbegun all (line ∷ left) old → TextsAreRead all left new 1
 
 -- a text's first line is refused: each text that begins with it has this fault; want of memory says nothing
 abbrev pub FailsFirst : Output → List ℕ → AsmFault → Type 0
-FailsFirst old line f = (f ≡ fault.NoMemory) ⊎ ((all left : List (List ℕ)) → Unbegun all (line ∷ left) (state_of_output old 0) → AreHeadedAsm all (Err f))
+FailsFirst old line f = (f ≡ fault.NoMemory) ⊎ ((all left : List (List ℕ)) → Unbegun all (line ∷ left) old → AreHeadedAsm all (Err f))
 
 -- line n, counted from 1, is read after others, whatever lines follow
 abbrev pub ReadsNext : Output → Output → ℕ → List ℕ → Type 0
-ReadsNext old new n line = (all left : List (List ℕ)) (k : ℕ) → n ≡ k + 1 → TextsAreRead all (line ∷ left) (state_of_output old k)
-    → TextsAreRead all left (state_of_output new n)
+ReadsNext old new n line =
+    (all left : List (List ℕ)) (k : ℕ) → n ≡ k + 1 → TextsAreRead all (line ∷ left) old k → TextsAreRead all left new n
 
 -- line n, counted from 1, is refused after others: each text that they begin has this fault; want of memory says
 -- nothing
 abbrev pub FailsNext : Output → ℕ → List ℕ → AsmFault → Type 0
 FailsNext old n line f = (f ≡ fault.NoMemory) ⊎ ((all left : List (List ℕ)) (k : ℕ) → n ≡ k + 1
-    → TextsAreRead all (line ∷ left) (state_of_output old k) → AreHeadedAsm all (Err f))
+    → TextsAreRead all (line ∷ left) old k → AreHeadedAsm all (Err f))

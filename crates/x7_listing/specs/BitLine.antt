@@ -20,9 +20,10 @@ bit_line a b c d data_length =
 abbrev pub bit_text : HeaderContents → List ℕ
 bit_text x = bit_line (field_text x.a) (field_text x.b) (field_text x.c) (field_text x.d) x.data_length
 
--- a header can hold these contents: each field fits its length, and is of bytes
+-- a header can hold these contents: each field is of bytes, as many as its length can say, and the length of the data
+-- is a number of 32 bits
 pub record FitsHeader (x : HeaderContents) : Type 0 where
-  pub have : FitHeaderFields x
+  pub fields_fit : FitHeaderFields x
   pub a : AreBytes x.a
   pub b : AreBytes x.b
   pub c : AreBytes x.c
@@ -58,7 +59,7 @@ pub record IsCutAtSpace (all text rest : List ℕ) : Type 0 where
   pub parts : all ≡ text ++ space_byte ∷ rest
   pub free : has_no_space text ≡ true
 
--- `line` is a header's line with these texts, none of which has a space, and this length, a word
+-- `line` is a header's line with these texts, none of which has a space, and this length, a number of 32 bits
 pub record IsBitLine (line a b c d : List ℕ) (data_length : ℕ) : Type 0 where
   pub line_is : line ≡ bit_line a b c d data_length
   pub free_a : has_no_space a ≡ true

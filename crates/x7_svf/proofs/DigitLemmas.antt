@@ -9,9 +9,6 @@ use Rattle.x7_svf.specs.Bits.{bit_of}
 use Rattle.x7_svf.specs.Fields.{are_hex, hex_value}
 use Rattle.x7_svf.proofs.ValueLemmas.{both, value_below}
 
-is_one : (a b : ℕ) → a ≡ b → (a == 1) ≡ (b == 1)
-is_one a b e = ap (λ (v : ℕ). v == 1) e
-
 turned : (d p q : ℕ) → d * (2 * p * q) ≡ d * p * 2 * q
 turned d p q = grind arith
 
@@ -67,7 +64,7 @@ value_bit (c ∷ cs) i h =
     elim (cases_lt (i / 4) (length cs)) [
       | inl l ↦
           later_digit c cs i l ∙ value_bit cs i parts.1
-          ∙ sym (is_one ((digit_number c * 2 ^ n + hex_value cs) / 2 ^ i % 2) (hex_value cs / 2 ^ i % 2) (low_bit (digit_number c) (hex_value cs) n i (omega (arith, l))))
+          ∙ sym (ap (λ (v : ℕ). v == 1) (low_bit (digit_number c) (hex_value cs) n i (omega (arith, l))))
       | inr m ↦ elim (cases_lt (length cs) (i / 4)) [
         | inl past ↦
             let more : 4 * length (c ∷ cs) ≤ i = omega (arith, past) in

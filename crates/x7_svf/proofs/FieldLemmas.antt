@@ -3,7 +3,7 @@ use Rattle.std.specs.Prelude.{IfSome}
 use Rattle.std.proofs.Common.{◌≡◌, ℕ, ◌≤◌, Bool, true, if◌then◌else◌, List, ◌∷◌, ◌++◌, length, drop, Option, Some, None, refl, ap, sym, subst, ◌∙◌, arith}
 use Rattle.std.proofs.lemmas.List.{drop-append-le}
 use Rattle.x7_svf.specs.Fields.{ScanFields, are_hex}
-use Rattle.x7_svf.specs.Scanner.{Between, Inside, Named, Scanning, fields_after_step, scan_from, scan_step}
+use Rattle.x7_svf.specs.Scanner.{Between, Inside, Named, Scanning, scan_step}
 use Rattle.x7_svf.specs.Token.{Token, token_of}
 use Rattle.x7_svf.specs.Span.{AreWithin, StaysKept, scan_place_of, fields_of, scanning_of}
 use Rattle.x7_svf.specs.declared.fields.ScanField.{ScanField}
@@ -12,6 +12,7 @@ use Rattle.x7_svf.specs.declared.fields.ScannerPlace.{ScannerPlace}
 use Rattle.x7_svf.specs.declared.fields.Scanner.{Scanner}
 use Rattle.x7_svf.specs.declared.token.NextToken.{NextToken}
 use Rattle.x7_svf.specs.declared.token.NextToken.TheVariants as next_token
+use Rattle.x7_svf.proofs.ScannerLemmas.{fields_after_step, scan_from}
 use Rattle.x7_svf.proofs.SpanLemmas.{more_stays, option_stays}
 
 -- a step as that at this place and of this token

@@ -1,5 +1,6 @@
 -- A number of decimal digits that are read one by one.
 use Rattle.std.proofs.Common.{◌≡◌, ℕ, ◌+◌, ◌-◌, ◌*◌, ◌<◌, ◌≤◌, ◌&&◌, nat_le, nat_lt, Bool, true, false, if◌then◌else◌, List, [], ◌∷◌, length, Option, Some, None, refl, ap, ◌∙◌, arith}
+use Rattle.std.proofs.lemmas.Bool.{le-leb}
 use Rattle.std.specs.Char.{digit_value}
 use Rattle.std.specs.List.{list_all}
 use Rattle.std.specs.Str.Parse.{digits_value, digits_value_after}
@@ -24,9 +25,6 @@ within_limit n limit h = grind (arith, h)
 past_limit : (n limit : ℕ) → nat_le n limit ≡ false → limit < n
 past_limit n limit h = grind (arith, h)
 
-is_within : (n limit : ℕ) → n ≤ limit → nat_le n limit ≡ true
-is_within n limit h = grind (arith, h)
-
 is_past : (n limit : ℕ) → limit < n → nat_le n limit ≡ false
 is_past n limit h = grind (arith, h)
 
@@ -39,7 +37,7 @@ abbrev pub number_by : ℕ → ℕ → List ℕ → Option ℕ
 number_by limit n cs = if list_all is_decimal_digit cs && nat_le (digits_value_after 10 n cs) limit then Some (digits_value_after 10 n cs) else None
 
 number_read : (limit n : ℕ) (cs : List ℕ) → n ≤ limit → number_by limit n cs ≡ number_from limit n cs
-number_read limit n [] h = ap (λ (b : Bool). if b then Some n else None) (is_within n limit h)
+number_read limit n [] h = ap (λ (b : Bool). if b then Some n else None) (le-leb n limit h)
 number_read limit n (c ∷ cs) h = by (λ l. number_read limit (n * 10 + (c - 48)) cs l) (is_decimal_digit c) refl (nat_le (n * 10 + (c - 48)) limit) refl
   where
     by : (n * 10 + (c - 48) ≤ limit → number_by limit (n * 10 + (c - 48)) cs ≡ number_from limit (n * 10 + (c - 48)) cs) → (d : Bool) → is_decimal_digit c ≡ d → (b : Bool) → nat_le (n * 10 + (c - 48)) limit ≡ b

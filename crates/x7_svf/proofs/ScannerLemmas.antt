@@ -7,10 +7,28 @@ use Rattle.std.proofs.lemmas.List.Folds.{list_all-append}
 use Rattle.x7_words.specs.Characters.{is_hex_digit}
 use Rattle.x7_svf.specs.Token.{Token, Word, Open, Close, End}
 use Rattle.x7_svf.specs.Fields.{ScanFields, are_hex, digits_before, field_by_name, joined_digits, no_fields, scan_fields, with_field, with_fields, with_named_field}
-use Rattle.x7_svf.specs.Scanner.{ScanPlace, Between, Named, Inside, after_field, after_name, closed_field, fields_after_step, scan_from}
+use Rattle.x7_svf.specs.Scanner.{ScanPlace, Between, Named, Inside, Scanning, after_field, after_name, closed_field, scan_step}
 use Rattle.x7_svf.specs.declared.fields.ScanField.{ScanField}
 use Rattle.x7_svf.specs.declared.fields.ScanField.TheVariants as field
 use Rattle.x7_svf.proofs.ValueLemmas.{both}
+
+-- ---- token by token
+
+-- the fields where a scan's tokens end: between two fields, and not inside one
+abbrev fields_at_end : ScanPlace → ScanFields → Option ScanFields
+fields_at_end Between f = Some f
+fields_at_end (Named k) f = None
+fields_at_end (Inside k ds) f = None
+
+-- the fields that a reader of a scan comes to from where it stands after a step; none where no scan goes on so
+abbrev pub fields_after_step : Option Scanning → (ScanPlace → ScanFields → Option ScanFields) → Option ScanFields
+fields_after_step None next = None
+fields_after_step (Some s) next = next s.at s.fields
+
+-- the fields of tokens, by where they begin and the fields before them
+abbrev pub scan_from : ScanPlace → ScanFields → List Token → Option ScanFields
+scan_from at f [] = fields_at_end at f
+scan_from at f (t ∷ ts) = fields_after_step (scan_step at f t) (λ a g. scan_from a g ts)
 
 -- ---- the fields by where a reader stands
 

@@ -36,7 +36,7 @@ pub record ScanFields : Type 0 where
 abbrev pub no_fields : ScanFields
 no_fields = record { tdi = None; tdo = None; mask = None; smask = None }
 
--- there are no digits
+-- a field has no digits: it is left out
 abbrev pub is_none : Option (List ℕ) → Bool
 is_none None = true
 is_none (Some ds) = false
@@ -119,7 +119,7 @@ abbrev pub positive_count : Option ℕ → Option ℕ
 positive_count None = None
 positive_count (Some n) = if n == 0 then None else Some n
 
--- the scan of this many bits, where that is a number of bits, by the tokens after it
+-- the scan of this many bits, where a count of bits was read, by the tokens after it
 abbrev pub scan_if : ScannedRegister → Option ℕ → List Token → Option Statement
 scan_if register None ts = None
 scan_if register (Some n) ts = scan_by register n (scan_fields ts)

@@ -1,5 +1,5 @@
 -- How a scan's fields are read token by token, and what is known of their digits (this project's choice).
-use Rattle.std.specs.Prelude.{◌≡◌, ◌<◌, ◌≤◌, ℕ, ◌^◌, nat_lt, true, ⊤, if◌then◌else◌, List, [], ◌∷◌, ◌++◌, Option, Some, None, length}
+use Rattle.std.specs.Prelude.{◌≡◌, ◌<◌, ◌≤◌, ℕ, ◌^◌, nat_lt, true, ⊤, if◌then◌else◌, List, [], ◌++◌, Option, Some, None, length}
 use Rattle.x7_svf.specs.Token.{Token, Word, Open, Close}
 use Rattle.x7_svf.specs.Fields.{ScanFields, are_hex, field_by_name, with_field}
 use Rattle.x7_svf.specs.declared.fields.ScanField.{ScanField}
@@ -36,22 +36,6 @@ scan_step (Named k) f Open = Some (record { at = Inside k []; fields = f })
 scan_step (Inside k ds) f (Word w) = if are_hex w then Some (record { at = Inside k (ds ++ w); fields = f }) else None
 scan_step (Inside k ds) f Close = after_field (closed_field f k ds)
 scan_step _ f _ = None
-
--- the fields where a scan's tokens end: between two fields, and not inside one
-abbrev pub fields_at_end : ScanPlace → ScanFields → Option ScanFields
-fields_at_end Between f = Some f
-fields_at_end (Named k) f = None
-fields_at_end (Inside k ds) f = None
-
--- the fields that a reader of a scan comes to from where it stands after a step; none where no scan goes on so
-abbrev pub fields_after_step : Option Scanning → (ScanPlace → ScanFields → Option ScanFields) → Option ScanFields
-fields_after_step None next = None
-fields_after_step (Some s) next = next s.at s.fields
-
--- the fields of tokens, by where they begin and the fields before them
-abbrev pub scan_from : ScanPlace → ScanFields → List Token → Option ScanFields
-scan_from at f [] = fields_at_end at f
-scan_from at f (t ∷ ts) = fields_after_step (scan_step at f t) (λ a g. scan_from a g ts)
 
 -- ---- digits
 

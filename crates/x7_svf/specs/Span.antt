@@ -23,7 +23,7 @@ digits_if kept (Some s) = Some (bytes_in kept s)
 abbrev pub fields_of : List ℕ → FieldSpans → ScanFields
 fields_of kept g = record { tdi = digits_if kept g.tdi; tdo = digits_if kept g.tdo; mask = digits_if kept g.mask; smask = digits_if kept g.smask }
 
--- the fields of a scan, if they are any
+-- the fields of a scan whose digits are kept; none where no scan goes on so
 abbrev pub fields_if : List ℕ → Option FieldSpans → Option ScanFields
 fields_if kept None = None
 fields_if kept (Some g) = Some (fields_of kept g)

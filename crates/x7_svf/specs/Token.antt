@@ -16,11 +16,11 @@ pub record TokenOnLine : Type 0 where
   pub line : ℕ
   pub token : Token
 
--- blanks, tabs and line ends separate words, and so do brackets and `;`
+-- a byte may stand in a word: it is no blank, tab or line end, no bracket and no `;`
 abbrev pub is_word_byte : ℕ → Bool
 is_word_byte c = not (c == space_byte || c == tab_byte || c == line_end_byte || c == open_bracket_byte || c == close_bracket_byte || c == semicolon_byte)
 
--- blanks, tabs and line ends
+-- a byte is a blank, a tab or a line end
 abbrev pub is_blank_byte : ℕ → Bool
 is_blank_byte c = c == space_byte || c == tab_byte || c == line_end_byte
 

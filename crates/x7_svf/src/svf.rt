@@ -68,7 +68,8 @@ impl Svf {
     }
 }
 
-/// The statements of a text without comments. The digits of their scans are kept.
+/// The statements of a text without comments, or the line on which the first bad one begins. The digits of their scans
+/// are kept.
 fn statements(alloc: Global, source: &mut Source) -> Result<Vec<StoredStatement>, SvfFault>
     requires none_kept { source.old.kept ≡ [] }
     requires within_limit { length source.old.rest ≤ svf_text_limit }

@@ -131,24 +131,12 @@ module _ (wants : List (List ℕ) → List ℕ → Type 0) (lines : List (List �
   wants_last (Ok _) is_want more text rest e w = tt
   wants_last (Err f) is_want more text rest e w = λ want. record { before = more; line = rest; after = []; texts = e; wanting = w want }
 
-  -- at any line, where nothing is said of it
-  pub wants_any : ((before : List (List ℕ)) (line : List ℕ) → wants before line) → (text : List ℕ) → WantsAt wants lines text
-  wants_any all text = by (split text) refl
-    where
-      by : (ts : List (List ℕ)) → split text ≡ ts → WantsAt wants lines text
-      by [] e = absurd (split_some text e)
-      by (t ∷ ts) e = record { before = []; line = t; after = ts; texts = e; wanting = all (lines ++ []) t }
-
 -- what holds of each fault holds of that of a result
 pub each_fault : {A F : Type 0} (r : Result A F) (P : F → Type 0) → ((f : F) → P f) → IfErr r P
 each_fault (Ok _) P f = tt
 each_fault (Err e) P f = f e
 
 -- ---- readers
-
-pub none_left : (xs : List ℕ) → length xs ≡ 0 → xs ≡ []
-none_left [] e = refl
-none_left (x ∷ xs) e = absurd (omega (arith, e))
 
 module _ {B : Type 0} (taken : B → List (List ℕ) → Type 0) where
   -- what a reader took, and how many lines, is that of its view

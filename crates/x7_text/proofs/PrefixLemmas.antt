@@ -78,7 +78,7 @@ same_most m n k a b p q e f h s =
 -- ---- digits that a block begins with
 
 -- the bytes of digits, with others after them
-value_on : (bs rest : List ℕ) → AreBytes bs → bytes_value (flat_map hex_byte bs ++ rest) ≡ bs ++ bytes_value rest
+pub value_on : (bs rest : List ℕ) → AreBytes bs → bytes_value (flat_map hex_byte bs ++ rest) ≡ bs ++ bytes_value rest
 value_on [] rest h = refl
 value_on (b ∷ bs) rest h = ap₂ (λ (x : ℕ) (t : List ℕ). x ∷ t) (byte_back b h.0) (value_on bs rest h.1)
 

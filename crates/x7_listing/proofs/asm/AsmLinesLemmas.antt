@@ -12,7 +12,7 @@ use Rattle.x7_header.specs.Header.{HeaderContents, longest_header}
 use Rattle.x7_text.specs.Lines.{split}
 use Rattle.x7_text.proofs.LineReaderLemmas.{HasTaken, each_fault}
 use Rattle.x7_listing.specs.Assembly.{AreHeadedAsm}
-use Rattle.x7_listing.specs.Assembling.{HasReadWithRoom, AsmState, FailsFirst, FailsNext, TextsAreRead, HasAsmFault, HasLineRoom, IsOutputOf, IsFirstOrGood, IsSoundOutput, Output, ReadsFirst, ReadsNext, AppendsLines, Unbegun, AreReadOrUnbegun, LinesAreRead, state_of_output, asm_state, has_any}
+use Rattle.x7_listing.specs.Assembling.{HasReadWithRoom, FailsFirst, FailsNext, TextsAreRead, HasAsmFault, HasLineRoom, IsOutputOf, IsFirstOrGood, IsSoundOutput, Output, ReadsFirst, ReadsNext, AppendsLines, Unbegun, AreReadOrUnbegun, LinesAreRead, output_of, has_any}
 use Rattle.x7_listing.specs.BitLine.{bit_text, IsHeaderOf, FitsHeader}
 use Rattle.x7_text.specs.Reads.{AppendsIfRead}
 use Rattle.x7_listing.specs.Line.{Line, line_bytes, FitsLine, text_of}
@@ -22,9 +22,9 @@ use Rattle.x7_listing.proofs.AssemblingLemmas.{goes_whole, went_nothing}
 use Rattle.x7_listing.proofs.asm.fast.QuickLemmas.{goes_quick, quick_texts}
 
 -- before any line is read: a header's line, and a line that is no header's
-pub goes_header : (all left : List (List ℕ)) (held out header : List ℕ) (start len c n : ℕ) (checker fresh : CheckerState) → IsHeaderOf held header → length header ≤ longest_header → len ≡ length header → c ≡ n + 1 → KeepsCheckOf fresh []
-    → Unbegun all (held ∷ left) (asm_state out start checker n) → TextsAreRead all left (asm_state header len fresh c)
-goes_header all left held out header start len c n checker fresh h short size up new u =
+pub goes_header : (all left : List (List ℕ)) (held header : List ℕ) (old : Output) (len room : ℕ) (fresh : CheckerState) → IsHeaderOf held header → length header ≤ longest_header → len ≡ length header → KeepsCheckOf fresh []
+    → Unbegun all (held ∷ left) old → TextsAreRead all left (output_of header len fresh room) 1
+goes_header all left held header old len room fresh h short size new u =
     let none : drop len header ≡ [] = drop_of_length-le header (omega (arith, size)) in
     record {
       others = left;
@@ -35,30 +35,30 @@ goes_header all left held out header start len c n checker fresh h short size up
       keeps = subst (λ (b : List ℕ). KeepsCheckOf fresh b) (sym none) new;
       opens = inl (record { header = h.header; fits = h.fits; texts = u.texts ∙ ap (λ t. t ∷ left) h.text; prefix_is = take_all len header (omega (arith, size)) ∙ h.bytes_are; count = refl });
       went = subst (λ (b : List ℕ). LinesAreRead (67108864 - len) left left b 0) (sym none) (went_nothing (67108864 - len) left);
-      count_is = omega (arith, up, u.count_is);
+      count_is = refl;
     }
 
 first_is : (s t : List ℕ) (ss ts : List (List ℕ)) → s ∷ ss ≡ t ∷ ts → s ≡ t
 first_is s t ss ts e = cc
 
-pub goes_plain : (all left : List (List ℕ)) (held out : List ℕ) (start n : ℕ) (checker : CheckerState) → ((x : HeaderContents) → FitsHeader x → held ≡ bit_text x → ⊥) → Unbegun all (held ∷ left) (asm_state out start checker n) → TextsAreRead all (held ∷ left) (asm_state out start checker n)
-goes_plain all left held out start n checker none u =
-    let empty : drop start out ≡ [] = ap (drop start) u.out_is ∙ drop-nil start in
+pub goes_plain : (all left : List (List ℕ)) (held : List ℕ) (b : Output) → ((x : HeaderContents) → FitsHeader x → held ≡ bit_text x → ⊥) → Unbegun all (held ∷ left) b → TextsAreRead all (held ∷ left) b 0
+goes_plain all left held b none u =
+    let empty : drop b.start b.out ≡ [] = ap (drop b.start) u.out_is ∙ drop-nil b.start in
     record {
       others = held ∷ left;
       first = 0;
       read = 0;
       long = omega (arith, u.start_is);
       short = omega (arith, u.start_is);
-      keeps = subst (λ (b : List ℕ). KeepsCheckOf checker b) (sym empty) u.keeps;
+      keeps = subst (KeepsCheckOf b.checker) (sym empty) u.keeps;
       opens = inr (record {
         no_head = λ x others hx e. none x hx (first_is held (bit_text x) left others (sym u.texts ∙ e));
         texts = u.texts;
-        prefix_is = ap (λ (k : ℕ). take k out) u.start_is;
+        prefix_is = ap (λ (k : ℕ). take k b.out) u.start_is;
         count = refl;
       });
-      went = subst (λ (b : List ℕ). LinesAreRead (67108864 - start) (held ∷ left) (held ∷ left) b 0) (sym empty) (went_nothing (67108864 - start) (held ∷ left));
-      count_is = u.count_is;
+      went = subst (λ (t : List ℕ). LinesAreRead (67108864 - b.start) (held ∷ left) (held ∷ left) t 0) (sym empty) (went_nothing (67108864 - b.start) (held ∷ left));
+      count_is = refl;
     }
 
 pub err_weaker : {A E : Type 0} → {P Q : E → Type 0} → (r : Result A E) → ((e : E) → P e → Q e) → IfErr r P → IfErr r Q
@@ -107,8 +107,8 @@ next_read r old new n line [] m more reads room fails h = absurd (more m)
 next_read (Ok _) old new n line (t ∷ ts) m more reads room fails h =
     let read : IsOutputOf new ((t ∷ ts) ++ line ∷ []) = λ left.
     let k : n ≡ length ((t ∷ ts) ++ line ∷ []) = m ∙ sym (length-append (t ∷ ts) (line ∷ [])) in
-    subst (λ all. TextsAreRead all left (state_of_output new (length ((t ∷ ts) ++ line ∷ [])))) (sym (append_assoc (t ∷ ts) (line ∷ []) left))
-    (subst (λ (j : ℕ). TextsAreRead ((t ∷ ts) ++ line ∷ left) left (state_of_output new j)) k (reads ((t ∷ ts) ++ line ∷ left) left (length (t ∷ ts)) m (h.read (line ∷ left)))) in
+    subst (λ all. TextsAreRead all left new (length ((t ∷ ts) ++ line ∷ []))) (sym (append_assoc (t ∷ ts) (line ∷ []) left))
+    (subst (λ (j : ℕ). TextsAreRead ((t ∷ ts) ++ line ∷ left) left new j) k (reads ((t ∷ ts) ++ line ∷ left) left (length (t ∷ ts)) m (h.read (line ∷ left)))) in
     record { read = read; room = λ _. room }
 next_read (Err f) old new n line (t ∷ ts) m more reads room (inl want) h = λ left. inl want
 next_read (Err f) old new n line (t ∷ ts) m more reads room (inr bad) h = λ left. inr (bad ((t ∷ ts) ++ line ∷ left) left (length (t ∷ ts)) m (h.read (line ∷ left)))
@@ -143,13 +143,10 @@ next_wants (Ok _) old new n line lines m more reads h = tt
 next_wants (Err f) old new n line [] m more reads h = absurd (more m)
 next_wants (Err f) old new n line (t ∷ ts) m more reads h = λ want.
     let all : List (List ℕ) = (t ∷ ts) ++ line ∷ [] in
-    let g : TextsAreRead all [] (state_of_output new n) = reads want (h.room refl) all [] (length (t ∷ ts)) m (h.read (line ∷ [])) in
-    inr (new.out, goes_whole all new.out new.start new.checker n g)
+    let g : TextsAreRead all [] new n = reads want (h.room refl) all [] (length (t ∷ ts)) m (h.read (line ∷ [])) in
+    inr (new.out, goes_whole all new n g)
 
 -- ---- lines that are read at once
-
-abbrev pub output_by : List ℕ → ℕ → CheckerState → Output
-output_by out start checker = record { out = out; start = start; checker = checker; room = 0 }
 
 -- what was appended leaves lines' bytes and their check
 pub still_sound : (out new : List ℕ) (start : ℕ) (checker : CheckerState) (more : List ℕ) → new ≡ out ++ more → IsSoundOutput out start checker → IsSoundOutput new start checker
@@ -169,17 +166,17 @@ no_lines : (ls : List Line) → length ls ≡ 0 → ls ≡ []
 no_lines [] e = refl
 no_lines (l ∷ ls) e = absurd (omega (arith, e))
 
-pub quick_read : (out new text rest : List ℕ) (start k : ℕ) (checker : CheckerState) (lines : List (List ℕ)) (t : AppendsLines text rest out new k) → (length lines ≡ 0 → k ≡ 0) → (length out ≤ 67108864 → length new ≤ 67108864)
-    → IsOutputOf (output_by out start checker) lines → IsOutputOf (output_by new start checker) (lines ++ map text_of t.lines)
-quick_read out new text rest start k checker [] t none limit h =
+pub quick_read : (old : Output) (new text rest : List ℕ) (k room : ℕ) (lines : List (List ℕ)) (t : AppendsLines text rest old.out new k) → (length lines ≡ 0 → k ≡ 0) → (length old.out ≤ 67108864 → length new ≤ 67108864)
+    → IsOutputOf old lines → IsOutputOf (output_of new old.start old.checker room) (lines ++ map text_of t.lines)
+quick_read old new text rest k room [] t none limit h =
     let empty : t.lines ≡ [] = no_lines t.lines (sym t.count_is ∙ none refl) in
-    let same : new ≡ out = t.appended ∙ ap (λ ls. out ++ flat_map (line_bytes 0) ls) empty ∙ append-nil out in
-    subst (λ ls. IsOutputOf (output_by new start checker) (map text_of ls)) (sym empty) (subst (λ b. IsOutputOf (output_by b start checker) []) (sym same) h)
-quick_read out new text rest start k checker (u ∷ us) t none limit h = λ left.
-    let texts : List (List ℕ) = map text_of t.lines in
-    goes_quick (((u ∷ us) ++ map text_of t.lines) ++ left) left text rest out new start k (length (u ∷ us)) (length ((u ∷ us) ++ map text_of t.lines)) checker t limit
+    let same : new ≡ old.out = t.appended ∙ ap (λ ls. old.out ++ flat_map (line_bytes 0) ls) empty ∙ append-nil old.out in
+    let still : IsOutputOf (output_of new old.start old.checker room) [] = λ left. record { texts = refl; out_is = same ∙ (h left).out_is; start_is = (h left).start_is; keeps = (h left).keeps } in
+    subst (λ ls. IsOutputOf (output_of new old.start old.checker room) (map text_of ls)) (sym empty) still
+quick_read old new text rest k room (u ∷ us) t none limit h = λ left.
+    goes_quick (((u ∷ us) ++ map text_of t.lines) ++ left) left text rest new old k (length (u ∷ us)) (length ((u ∷ us) ++ map text_of t.lines)) room t limit
     (length-append (u ∷ us) (map text_of t.lines) ∙ ap (λ (j : ℕ). length (u ∷ us) + j) (length-map t.lines text_of ∙ sym t.count_is))
-    (subst (λ all. TextsAreRead all (map text_of t.lines ++ left) (asm_state out start checker (length (u ∷ us)))) (sym (append_assoc (u ∷ us) (map text_of t.lines) left)) (h (map text_of t.lines ++ left)))
+    (subst (λ all. TextsAreRead all (map text_of t.lines ++ left) old (length (u ∷ us))) (sym (append_assoc (u ∷ us) (map text_of t.lines) left)) (h (map text_of t.lines ++ left)))
 
 -- a line was read before, where one is now
 any_before : (lines : List (List ℕ)) (more : List Line) → (length lines ≡ 0 → length more ≡ 0) → has_any (lines ++ map text_of more) ≡ true → has_any lines ≡ true
@@ -190,8 +187,8 @@ any_before (t ∷ ts) more none e = refl
 all_read : (old new : Output) (text rest : List ℕ) (k : ℕ) (lines : List (List ℕ)) (t : AppendsLines text rest old.out new.out k) → new.start ≡ old.start → new.checker ≡ old.checker → (length lines ≡ 0 → k ≡ 0)
     → (length old.out ≤ 67108864 → length new.out ≤ 67108864) → (HasLineRoom old → HasLineRoom new) → HasReadWithRoom old lines → HasReadWithRoom new (lines ++ map text_of t.lines)
 all_read old new text rest k lines t start checker none limit room h = record {
-  read = subst (λ (s : ℕ). IsOutputOf (output_by new.out s new.checker) (lines ++ map text_of t.lines)) (sym start)
-      (subst (λ (x : CheckerState). IsOutputOf (output_by new.out old.start x) (lines ++ map text_of t.lines)) (sym checker) (quick_read old.out new.out text rest old.start k old.checker lines t none limit h.read));
+  read = subst (λ (s : ℕ). IsOutputOf (output_of new.out s new.checker new.room) (lines ++ map text_of t.lines)) (sym start)
+      (subst (λ (x : CheckerState). IsOutputOf (output_of new.out old.start x new.room) (lines ++ map text_of t.lines)) (sym checker) (quick_read old new.out text rest k new.room lines t none limit h.read));
   room = λ e. room (h.room (any_before lines t.lines (λ z. sym t.count_is ∙ none z) e));
 }
 
@@ -208,12 +205,12 @@ at_once_taken old new text rest left k n c size lines is t start checker none li
 
 -- ---- the last line
 
-goes_any : (lines : List (List ℕ)) (line : List ℕ) (all left : List (List ℕ)) (b : AsmState) → AreReadOrUnbegun (has_any (lines ++ line ∷ [])) all left b → TextsAreRead all left b
-goes_any [] line all left b w = w
-goes_any (t ∷ ts) line all left b w = w
+goes_any : (lines : List (List ℕ)) (line : List ℕ) (all left : List (List ℕ)) (b : Output) (n : ℕ) → AreReadOrUnbegun (has_any (lines ++ line ∷ [])) all left b n → TextsAreRead all left b n
+goes_any [] line all left b n w = w
+goes_any (t ∷ ts) line all left b n w = w
 
 pub last_read : (b : Output) (lines : List (List ℕ)) (line : List ℕ) → IsOutputOf b (lines ++ line ∷ []) → AreHeadedAsm (lines ++ line ∷ []) (Ok b.out)
 last_read b lines line h =
     let all : List (List ℕ) = lines ++ line ∷ [] in
     subst (λ ls. AreHeadedAsm ls (Ok b.out)) (append-nil all)
-    (goes_whole (all ++ []) b.out b.start b.checker (length all) (goes_any lines line (all ++ []) [] (state_of_output b (length all)) (h [])))
+    (goes_whole (all ++ []) b (length all) (goes_any lines line (all ++ []) [] b (length all) (h [])))

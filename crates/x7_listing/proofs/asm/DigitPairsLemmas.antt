@@ -1,6 +1,6 @@
 -- Pairs of digits read row by row, as in a field of a header's line.
 use Rattle.std.proofs.Common.{◌≡◌, ℕ, zero, suc, ◌*◌, ◌<◌, Bool, true, false, List, [], ◌∷◌, ◌++◌, length, take, drop, min, inl, inr, refl, ap, sym, ◌∙◌, arith, append-nil, take-append-drop, length-drop}
-use Rattle.std.proofs.lemmas.List.{length-take-le}
+use Rattle.std.proofs.lemmas.List.{length-take-le, nil_from_length}
 use Rattle.std.proofs.lemmas.Bool.{cases_lt}
 use Rattle.std.specs.List.{flat_map}
 use Rattle.x7_words.specs.Word.{AreBytes}
@@ -28,10 +28,6 @@ prefix_of (suc k) (r ∷ s ∷ row) more (b ∷ tail) h a e =
     let first : r ∷ s ∷ row ≡ flat_map hex_byte (b ∷ f.0) = cc in
     (b ∷ f.0, (a.0, f.1), first, ap (λ (n : ℕ). suc n) f.3)
 
-nothing : (xs : List ℕ) → length xs ≡ 0 → xs ≡ []
-nothing [] h = refl
-nothing (x ∷ xs) h = absurd (omega (arith, h))
-
 module _ (digits done rest row more : List ℕ) (n : ℕ) (prefix : row ≡ take n rest) (back : more ≡ drop n rest) (most : n ≡ min (length rest) 64) (read : digits ≡ flat_map hex_byte done ++ rest) where
   whole : rest ≡ row ++ more
   whole = sym (take-append-drop n rest) ∙ ap (λ t. t ++ drop n rest) (sym prefix) ∙ ap (λ t. row ++ t) (sym back)
@@ -44,7 +40,7 @@ module _ (digits done rest row more : List ℕ) (n : ℕ) (prefix : row ≡ take
 
   no_short : ((x : List ℕ) → IsByteRow x → row ≡ flat_map hex_byte x → ⊥) → 0 < length rest → length rest < 64 → (tail : List ℕ) → AreBytes tail → rest ≡ flat_map hex_byte tail → ⊥
   no_short none some short tail a is =
-      let empty : more ≡ [] = nothing more (ap length back ∙ length-drop n rest ∙ omega (arith, most, short)) in
+      let empty : more ≡ [] = nil_from_length more (ap length back ∙ length-drop n rest ∙ omega (arith, most, short)) in
       let all : row ≡ rest = sym (append-nil row) ∙ ap (λ t. row ++ t) (sym empty) ∙ sym whole in
       none tail (a, omega (arith, some, ap length is, length_hex_bytes tail), omega (arith, short, ap length is, length_hex_bytes tail)) (all ∙ is)
 

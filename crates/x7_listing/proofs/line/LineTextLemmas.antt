@@ -1,6 +1,6 @@
 -- The texts of lines hold no line end, and lines of a listing stand for bytes.
 use Rattle.std.proofs.Common.{◌≡◌, ◌==◌, ℕ, ◌<◌, ◌^◌, if◌then◌else◌, Bool, true, false, List, [], ◌∷◌, ◌++◌, refl, ap, sym, arith, codes}
-use Rattle.std.proofs.lemmas.Bool.Decides.{nat_tests}
+use Rattle.std.proofs.lemmas.Bool.{eq-eqb, eqb-true, ne_eqb}
 use Rattle.std.proofs.lemmas.Grind.{common_steps}
 use Rattle.std.proofs.lemmas.Fmt.{digits_decimal}
 use Rattle.std.specs.Fmt.{decimal}
@@ -108,9 +108,6 @@ same_bytes c Check h = absurd h
 abbrev pub Listed : Line → Type 0
 Listed l = FitsLine l × IsNeitherCommentNorCheck l
 
-pub is_eq : (a b : ℕ) → (a == b) ≡ true → a ≡ b
-is_eq a b e = grind (arith, common_steps)
-
 -- the line of a word in a header's place stands for the word
 abbrev pub IsLineOf : ℕ → Line → Type 0
 IsLineOf w l = (line_bytes 0 l ≡ bytes_of_word w) × Listed l
@@ -120,14 +117,15 @@ cmd_stands_by true w h e = (ap bytes_of_word (e refl), (tt, tt))
 cmd_stands_by false w h e = (refl, (((h, tt), omega arith, omega arith), tt))
 
 pub cmd_stands : (w : ℕ) → w < 2 ^ 32 → IsLineOf w (cmd_line w)
-cmd_stands w h = cmd_stands_by (code_of (command_by w) == w) w h (is_eq (code_of (command_by w)) w)
-
-is_apart : (a b : ℕ) → (a ≡ b → ⊥) → (a == b) ≡ false
-is_apart a b c = grind (arith, nat_tests)
+cmd_stands w h = cmd_stands_by (code_of (command_by w) == w) w h (eqb-true (code_of (command_by w)) w)
 
 -- a payload word of CMD that is no command's code
 pub no_command_line : (w : ℕ) → (code_of (command_by w) ≡ w → ⊥) → ended_text (cmd_line w) ≡ codes "data " ++ hex_word w ++ 10 ∷ []
-no_command_line w c = rw (is_apart (code_of (command_by w)) w c) refl
+no_command_line w c = rw (ne_eqb (code_of (command_by w)) w c) refl
+
+-- a payload word of CMD that is a command's code
+pub command_line : (w : ℕ) → code_of (command_by w) ≡ w → ended_text (cmd_line w) ≡ codes "cmd " ++ command_name_of (command_by w) ++ 10 ∷ []
+command_line w c = rw (eq-eqb (code_of (command_by w)) w c) refl
 
 -- the bytes of a line of one word
 pub word_bytes : (check : ℕ) (l : Line) → IsWordLine l → bytes_of_word (word_of_line l) ≡ line_bytes check l
@@ -177,12 +175,12 @@ IsLineOfWord w l = (word_of_line l ≡ w) × Listed l
 best_is_of_word : (w : ℕ) → w < 2 ^ 32 → IsLineOfWord w (best_line w)
 best_is_of_word w h =
     let r : register_of w < reg_number_count = omega arith in
-    pick (IsLineOfWord w) (w == no_op) Nop _ (λ e. (sym (is_eq w no_op e), (tt, tt)))
-    (pick (IsLineOfWord w) (w == sync_word) Sync _ (λ e. (sym (is_eq w sync_word e), (tt, tt)))
-    (pick (IsLineOfWord w) (w == type1_write_header (register_of w) (type1_count_of w)) (Write (register_of w) (type1_count_of w)) _ (λ e. (sym (is_eq w (type1_write_header (register_of w) (type1_count_of w)) e), ((r, omega arith), tt)))
-    (pick (IsLineOfWord w) (w == type1_read_header (register_of w) (type1_count_of w)) (Read (register_of w) (type1_count_of w)) _ (λ e. (sym (is_eq w (type1_read_header (register_of w) (type1_count_of w)) e), ((r, omega arith), tt)))
-    (pick (IsLineOfWord w) (header_kind_of w == type2_write_kind) (Write2 (type2_count_of w)) _ (λ e. let k : header_kind_of w ≡ type2_write_kind = is_eq (header_kind_of w) type2_write_kind e in (omega arith, (omega arith, tt)))
-    (pick (IsLineOfWord w) (header_kind_of w == type2_read_kind) (Read2 (type2_count_of w)) (Word w) (λ e. let k : header_kind_of w ≡ type2_read_kind = is_eq (header_kind_of w) type2_read_kind e in (omega arith, (omega arith, tt))) (refl, (h, tt)))))))
+    pick (IsLineOfWord w) (w == no_op) Nop _ (λ e. (sym (eqb-true w no_op e), (tt, tt)))
+    (pick (IsLineOfWord w) (w == sync_word) Sync _ (λ e. (sym (eqb-true w sync_word e), (tt, tt)))
+    (pick (IsLineOfWord w) (w == type1_write_header (register_of w) (type1_count_of w)) (Write (register_of w) (type1_count_of w)) _ (λ e. (sym (eqb-true w (type1_write_header (register_of w) (type1_count_of w)) e), ((r, omega arith), tt)))
+    (pick (IsLineOfWord w) (w == type1_read_header (register_of w) (type1_count_of w)) (Read (register_of w) (type1_count_of w)) _ (λ e. (sym (eqb-true w (type1_read_header (register_of w) (type1_count_of w)) e), ((r, omega arith), tt)))
+    (pick (IsLineOfWord w) (header_kind_of w == type2_write_kind) (Write2 (type2_count_of w)) _ (λ e. let k : header_kind_of w ≡ type2_write_kind = eqb-true (header_kind_of w) type2_write_kind e in (omega arith, (omega arith, tt)))
+    (pick (IsLineOfWord w) (header_kind_of w == type2_read_kind) (Read2 (type2_count_of w)) (Word w) (λ e. let k : header_kind_of w ≡ type2_read_kind = eqb-true (header_kind_of w) type2_read_kind e in (omega arith, (omega arith, tt))) (refl, (h, tt)))))))
 
 pub head_is_of_word : (s : Step) (w : ℕ) → w < 2 ^ 32 → IsLineOfWord w (line_of_head s w)
 head_is_of_word s w h = by_step (IsLineOfWord w) s w (refl, (h, tt)) (best_is_of_word w h)

@@ -143,9 +143,6 @@ goes_less (Word register w) left before after n g = g
 goes_less (Body register bytes) left before after n g = g
 
 -- a call that needs more bytes has used the piece up
-pub goes_out : (run : Cut) (left before after : ℕ) → run ≡ Need → ComesNearer run left before after → left ≡ 0
-goes_out run left before after e g = rw e at g
-
 pub one_sync_found : (m : Mode) → syncs_to_give m ≤ 1
 one_sync_found Mode.Searching = omega arith
 one_sync_found Mode.SyncFound = omega arith

@@ -50,11 +50,11 @@ pub struct AsmLines {
 
 impl Model for AsmLines {
     ghost use Rattle.std.specs.Prelude.{vec_capacity};
-    ghost use Rattle.x7_listing.specs.Assembling.{IsSoundOutput, Output};
+    ghost use Rattle.x7_listing.specs.Assembling.{IsSoundOutput, Output, output_of};
 
     ghost Value = { Output };
 
-    ghost view = { λ b. record { out = b.out.items; start = b.start; checker = b.checker; room = vec_capacity b.out } };
+    ghost view = { λ b. output_of b.out.items b.start b.checker (vec_capacity b.out) };
 
     ghost invariant = { λ b. IsSoundOutput b.out.items b.start b.checker };
 }

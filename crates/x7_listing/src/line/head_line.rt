@@ -4,7 +4,7 @@ ghost use Rattle.x7_regs.specs.Register.{reg_name, reg_number_count};
 ghost use Rattle.x7_text.specs.Appends.{Appends, HasSpareRoom};
 ghost use Rattle.x7_text.specs.Digits.{hex_word};
 ghost use Rattle.x7_text.specs.Row.{close};
-ghost use Rattle.x7_listing.specs.HeadLine.{text_of_head, head_line_limit, type1_keyword_limit, type2_keyword_limit};
+ghost use Rattle.x7_listing.specs.HeadLine.{best_line, head_line_limit, text_of_head, type1_keyword_limit, type2_keyword_limit};
 ghost use Rattle.x7_listing.specs.Line.{Sync, cmd_line, ended_text};
 ghost use Rattle.x7_words.specs.Characters.{line_end_byte, space_byte};
 
@@ -15,14 +15,11 @@ use x7_packets::{
 use x7_regs::{command_of, command_text, name_of};
 use x7_text::{hex_of_word, put, put_close, put_decimal};
 
-/// Appends the line of a word in a header's place, which stands for just this word.
-fn put_line(text: &mut Vec<u8>, step: Step, word: u32)
+/// Appends the line that stands for just this word: a named one where there is one, else that of the word itself.
+fn put_best_line(text: &mut Vec<u8>, word: u32)
     requires { HasSpareRoom text.old head_line_limit }
-    ensures appends { Appends text.old text.new (text_of_head step word) head_line_limit }
+    ensures appends { Appends text.old text.new (ended_text (best_line word)) head_line_limit }
 {
-    if let Step::Bad(_) = step {
-        return put_whole_word(text, b"word ", word);
-    }
     let register = register_in(word);
     let count = type1_count_in(word);
     if word == NO_OP {
@@ -84,7 +81,10 @@ pub(crate) fn put_head(text: &mut Vec<u8>, in_line: usize, step: Step, word: u32
     ensures appends { Appends text.old text.new (close in_line ++ text_of_head step word) (1 + head_line_limit) }
 {
     put_close(text, in_line);
-    put_line(text, step, word);
+    match step {
+        Step::Bad(_) => put_whole_word(text, b"word ", word),
+        _ => put_best_line(text, word),
+    }
 }
 
 /// Appends the line of a payload word of CMD, after an open line of `in_line` words.

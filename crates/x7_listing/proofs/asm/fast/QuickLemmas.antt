@@ -6,7 +6,7 @@ use Rattle.std.proofs.lemmas.List.{drop-append-le, drop_more, take-append-drop, 
 use Rattle.std.proofs.lemmas.List.Sums.{fold-append}
 use Rattle.std.specs.List.{AllByRecursion, flat_map}
 use Rattle.x7_words.proofs.ListLemmas.{all_append, map_append}
-use Rattle.x7_crc.specs.Checker.{check_of_bytes, CheckerState}
+use Rattle.x7_crc.specs.Checker.{check_of_bytes}
 use Rattle.x7_crc.proofs.CheckerLemmas.{still_keeps}
 use Rattle.std.specs.declared.alloc.Global.{Global}
 use Rattle.x7_text.specs.Appends.{Appends}
@@ -14,7 +14,7 @@ use Rattle.x7_text.specs.Lines.{split}
 use Rattle.x7_text.specs.Reads.{StaysWithin}
 use Rattle.x7_text.proofs.SplitLemmas.{split_line}
 use Rattle.x7_listing.specs.Assembly.{assembled, with_line}
-use Rattle.x7_listing.specs.Assembling.{asm_state, TextsAreRead, OpensText, AppendsFirstLines, AppendsLines}
+use Rattle.x7_listing.specs.Assembling.{Output, output_of, TextsAreRead, OpensText, AppendsFirstLines, AppendsLines}
 use Rattle.x7_listing.specs.Line.{Line, line_bytes, FitsLine, IsNeitherCommentNorCheck, text_of, ended_text, ended_texts}
 use Rattle.x7_listing.proofs.line.LineTextLemmas.{line_free, same_bytes}
 
@@ -74,9 +74,11 @@ pub quick_texts : (text rest old new : List ℕ) (k : ℕ) (t : AppendsLines tex
 quick_texts text rest old new k t = ap split t.text_is ∙ texts_ahead t.lines rest t.fit t.listed
 
 -- a text of which lines are read at once is read so much further
-pub goes_quick : (all left : List (List ℕ)) (text rest out new : List ℕ) (start k n c : ℕ) (checker : CheckerState) (t : AppendsLines text rest out new k) → (length out ≤ 67108864 → length new ≤ 67108864) → c ≡ n + k
-    → TextsAreRead all (map text_of t.lines ++ left) (asm_state out start checker n) → TextsAreRead all left (asm_state new start checker c)
-goes_quick all left text rest out new start k n c checker t limit e g =
+pub goes_quick : (all left : List (List ℕ)) (text rest new : List ℕ) (old : Output) (k n c room : ℕ) (t : AppendsLines text rest old.out new k) → (length old.out ≤ 67108864 → length new ≤ 67108864) → c ≡ n + k
+    → TextsAreRead all (map text_of t.lines ++ left) old n → TextsAreRead all left (output_of new old.start old.checker room) c
+goes_quick all left text rest new old k n c room t limit e g =
+    let out : List ℕ = old.out in
+    let start : ℕ = old.start in
     let added : List ℕ = flat_map (line_bytes 0) t.lines in
     let body : drop start new ≡ drop start out ++ added = ap (drop start) t.appended ∙ drop-append-le start out added g.long in
     let prefix : take start new ≡ take start out = ap (take start) t.appended ∙ take-append-le start out added g.long in
@@ -91,7 +93,7 @@ goes_quick all left text rest out new start k n c checker t limit e g =
       read = g.read + k;
       long = omega (arith, size, g.long);
       short = g.short;
-      keeps = still_keeps checker (drop start out) added (drop start new) body g.keeps;
+      keeps = still_keeps old.checker (drop start out) added (drop start new) body g.keeps;
       opens = subst (λ (b : List ℕ). OpensText all g.others b g.first) (sym prefix) g.opens;
       went = record {
         lines = g.went.lines ++ t.lines;

@@ -1,7 +1,7 @@
 -- The two lines of a write of one word, read at once by a row of a table.
 use Rattle.std.proofs.Common.{◌≡◌, ◌==◌, ℕ, zero, suc, ◌+◌, ◌-◌, ◌%◌, ◌^◌, ◌<◌, ◌≤◌, Bool, true, false, not, cond, w8, List, [], ◌∷◌, ◌++◌, codes, get_or, length, take, drop, map, refl, ap, sym, ◌∙◌, arith, inl, inr, append_assoc, append-nil, length-append, take-add}
 use Rattle.std.specs.List.{prefix_len}
-use Rattle.std.proofs.lemmas.Bool.{cases_eq}
+use Rattle.std.proofs.lemmas.Bool.{cases_eq, eqb-true}
 use Rattle.std.proofs.lemmas.Fmt.{decimal_digit}
 use Rattle.std.proofs.lemmas.List.{drop_more, length-take-le, map-id, take-append-drop, take-take}
 use Rattle.std.proofs.lemmas.Simd.{leading_from_mask_l, length-chunk, length-zip2, mask_l-mod, tops_compared, trailing_mask_l}
@@ -16,7 +16,7 @@ use Rattle.x7_listing.specs.Assembling.{AppendsFirstLines}
 use Rattle.x7_listing.specs.Fast.AtOnce.{command_lines_text, bytes_differ, write_line_text, write_start_text}
 use Rattle.x7_listing.specs.Line.{Line, Data, Write, line_bytes, text_of, cmd_line, ended_text}
 use Rattle.x7_listing.proofs.asm.fast.QuickLemmas.{dropped_twice}
-use Rattle.x7_listing.proofs.line.LineTextLemmas.{Listed, cmd_stands, is_eq, IsLineOf}
+use Rattle.x7_listing.proofs.line.LineTextLemmas.{Listed, cmd_stands, IsLineOf}
 
 -- ---- as many bytes are the same as come before the first that differs
 
@@ -28,7 +28,7 @@ same_prefix : (n : ℕ) (xs ys : List ℕ) → n ≤ prefix_len (λ b. not b) (z
 same_prefix zero xs ys h = refl
 same_prefix (suc n) [] ys h = absurd (omega (arith, h))
 same_prefix (suc n) (x ∷ xs) [] h = absurd (omega (arith, h))
-same_prefix (suc n) (x ∷ xs) (y ∷ ys) h = same_step (x == y) n (prefix_len (λ b. not b) (zip2 bytes_differ xs ys)) x y xs ys (is_eq x y) h (same_prefix n xs ys)
+same_prefix (suc n) (x ∷ xs) (y ∷ ys) h = same_step (x == y) n (prefix_len (λ b. not b) (zip2 bytes_differ xs ys)) x y xs ys (eqb-true x y) h (same_prefix n xs ys)
 
 few_set : (n m : ℕ) (ds : List Bool) → length ds ≡ 32 → n ≤ 32 → m ≡ mask_l ds → n ≤ count_trailing_zeros 64 m → n ≤ prefix_len (λ b. not b) ds
 few_set n m ds long few e h =

@@ -39,7 +39,7 @@ const WRITE_SIZE: usize = 6;
 const BESIDE_NAME_SIZE: usize = WRITE_SIZE + 2;
 
 /// Some whole lines that were read: how many bytes of the text they are, and how many lines.
-#[derive(Clone, Copy, Drop)]
+#[derive(Clone, Copy)]
 pub(crate) struct WholeLines {
     pub(crate) size: usize,
     pub(crate) count: u64,

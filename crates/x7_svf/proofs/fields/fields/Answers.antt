@@ -1,13 +1,12 @@
 use Rattle.std.proofs.Common.{rules, ◌≡◌, ◌∷◌, ℕ, List, Option, ap, sym, ◌∙◌}
 use Rattle.x7_svf.specs.Fields.{ScanFields, scan_fields}
-use Rattle.x7_svf.specs.Scanner.{scan_from}
 use Rattle.x7_svf.specs.Token.{TokenOnLine, token_of}
 use Rattle.x7_svf.specs.Source.{tokens_left}
 use Rattle.x7_svf.specs.Span.{scan_place_of, fields_of}
 use Rattle.x7_svf.specs.Svf.{tokens_before_end}
 use Rattle.x7_svf.proofs.FieldLemmas.{scan_on}
 use Rattle.x7_svf.proofs.ReadingLemmas.{left_stepped, reads_both, reads_none, reads_token}
-use Rattle.x7_svf.proofs.ScannerLemmas.{fields_are_scanned}
+use Rattle.x7_svf.proofs.ScannerLemmas.{fields_are_scanned, scan_from}
 use Rattle.x7_svf.proofs.fields.fields.Goals as goal
 
 pub loop-token-init : goal.loop-token-init

@@ -1,10 +1,10 @@
 use Rattle.std.proofs.Common.{◌≡◌, length}
 use Rattle.x7_svf.specs.Fields.{scan_fields}
-use Rattle.x7_svf.specs.Scanner.{scan_from}
 use Rattle.x7_svf.specs.Reading.{ReadsOn}
 use Rattle.x7_svf.specs.Source.{tokens_left}
 use Rattle.x7_svf.specs.Span.{IsWithin, scan_place_of, fields_of}
 use Rattle.x7_svf.specs.Svf.{tokens_before_end}
+use Rattle.x7_svf.proofs.ScannerLemmas.{scan_from}
 use Rattle.x7_svf.proofs.fields.fields.Given as goal
 
 abbrev pub invariant-loop-token : goal.invariant-loop-token

@@ -17,7 +17,7 @@ returns-in_default-at_space-4 c = λ x held e. c.in_default-at_space-4.ensures (
     c.in-Some-at_space-3.c.now c.in-Some-at_space-3.rest.now c.in-Some-at_space-3.ensures)
 
 pub returns-in_default-number_of_decimal : goal.returns-in_default-number_of_decimal
-returns-in_default-number_of_decimal c = λ x held e. c.in_default-number_of_decimal.ensures x.data_length held.have.data_length (all_cut c.args.line.now c.in-Some.fields.now c.in-Some-at_space.a.now c.in-Some-at_space.rest.now x c.in-Some.ensures e c.in-Some-at_space.ensures c.in-Some-at_space-2.b.now c.in-Some-at_space-2.rest.now c.in-Some-at_space-2.ensures
+returns-in_default-number_of_decimal c = λ x held e. c.in_default-number_of_decimal.ensures x.data_length held.fields_fit.data_length (all_cut c.args.line.now c.in-Some.fields.now c.in-Some-at_space.a.now c.in-Some-at_space.rest.now x c.in-Some.ensures e c.in-Some-at_space.ensures c.in-Some-at_space-2.b.now c.in-Some-at_space-2.rest.now c.in-Some-at_space-2.ensures
     c.in-Some-at_space-3.c.now c.in-Some-at_space-3.rest.now c.in-Some-at_space-3.ensures c.in-Some-at_space-4.d.now c.in-Some-at_space-4.digits.now c.in-Some-at_space-4.ensures).4
 
 pub returns : goal.returns

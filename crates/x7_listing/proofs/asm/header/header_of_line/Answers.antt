@@ -6,7 +6,7 @@ pub returns-in_default-2 : goal.returns-in_default-2
 returns-in_default-2 c = record {
   found = λ x held e.
       let cut = texts_are c.args.line.now _ _ _ _ _ x c.in-Some.ensures e in
-      none_of _ _ c.in_ok-a.field-0 c.in_default-2.is c.in_ok-a.ensures x.a x.b (is_field x.a held.a held.have.a) (is_field x.b held.b held.have.b) cut.0 cut.1;
+      none_of _ _ c.in_ok-a.field-0 c.in_default-2.is c.in_ok-a.ensures x.a x.b (is_field x.a held.a held.fields_fit.a) (is_field x.b held.b held.fields_fit.b) cut.0 cut.1;
   most = tt;
 }
 
@@ -14,7 +14,7 @@ pub returns-in_default-3 : goal.returns-in_default-3
 returns-in_default-3 c = record {
   found = λ x held e.
       let cut = texts_are c.args.line.now _ _ _ _ _ x c.in-Some.ensures e in
-      none_of _ _ c.in_ok-c.field-0 c.in_default-3.is c.in_ok-c.ensures x.c x.d (is_field x.c held.c held.have.c) (is_field x.d held.d held.have.d) cut.2 cut.3;
+      none_of _ _ c.in_ok-c.field-0 c.in_default-3.is c.in_ok-c.ensures x.c x.d (is_field x.c held.c held.fields_fit.c) (is_field x.d held.d held.fields_fit.d) cut.2 cut.3;
   most = tt;
 }
 

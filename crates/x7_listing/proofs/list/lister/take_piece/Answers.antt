@@ -1,11 +1,12 @@
 use Rattle.std.proofs.Common.{◌≡◌, ◌+◌, ◌-◌, ◌<◌, ◌++◌, ap, append-nil, arith, drop, length, refl, subst, take, Vec, vec_capacity, vec_len, ℕ}
 use Rattle.std.specs.declared.alloc.Global.{Global}
 use Rattle.x7_packets.specs.Cutter.{calls_left, CutterState, run_bytes}
+use Rattle.x7_crc.proofs.CheckerLemmas.{used_up}
 use Rattle.x7_listing.specs.Pens.{lister_with}
 use Rattle.x7_listing.specs.Lister.{HasListedJust}
 use Rattle.x7_listing.specs.declared.list.pen.state.Pen.TheVariants.{Session}
 use Rattle.x7_listing.proofs.list.fast.AtOnceLemmas.{rest_length, seam}
-use Rattle.x7_listing.proofs.list.ListerLemmas.{goes_less, goes_out, one_sync_found, run_length, listed_as, took, took_all}
+use Rattle.x7_listing.proofs.list.ListerLemmas.{goes_less, one_sync_found, run_length, listed_as, took, took_all}
 use Rattle.x7_listing.proofs.list.lister.take_piece.Goals as goal
 
 pub loop-taken-init : goal.loop-taken-init
@@ -18,7 +19,7 @@ loop-taken-init c = record {
 pub returns-in-Need : goal.returns-in-Need
 returns-in-Need c = record {
   rests = λ given before bytes s.
-      let used = goes_out _ _ _ _ c.in-Need.is c.cut-run.ensures.nearer in
+      let used = used_up _ _ _ _ c.in-Need.is c.cut-run.ensures.nearer in
       took_all _ _ _ _ _ _ _ _ _ given before bytes c.args.piece.now
       (listed_as c.loop-taken.cutter c.take_short.new.cutter c.loop-taken.text c.take_short.new.text _ _ _ given before _ (c.in_default.ensures.same_cutter)
       (c.in_default.ensures.same_text) (c.loop-taken.invariant.has_listed given before bytes s)) c.cut-run.ensures.forward (omega (arith, used)) c.in-Need.is

@@ -1,7 +1,7 @@
-use Rattle.std.proofs.Common.{◌≡◌, List, ℕ, arith, inl, inr, refl, subst, sym}
+use Rattle.std.proofs.Common.{◌≡◌, List, ℕ, arith, inl, inr, refl, subst, sym, vec_capacity}
 use Rattle.std.proofs.lemmas.Result.{on_ok_weaker}
 use Rattle.x7_header.specs.Header.{HeaderContents}
-use Rattle.x7_listing.specs.Assembling.{TextsAreRead, IsSoundOutput, asm_state}
+use Rattle.x7_listing.specs.Assembling.{TextsAreRead, IsSoundOutput, output_of}
 use Rattle.x7_listing.specs.BitLine.{bit_text, IsHeaderOf, FitsHeader}
 use Rattle.x7_listing.proofs.asm.AsmLinesLemmas.{err_as, err_weaker, goes_header, goes_plain, header_sound, if_some, none_ok}
 use Rattle.x7_listing.proofs.BitLemmas.{none_of, some_of}
@@ -14,25 +14,22 @@ invariant_of-self c =
 
 pub returns-in-Some-clause-reads : goal.returns-in-Some-clause-reads
 returns-in-Some-clause-reads c = λ all left u.
-    let b = c.args.self.now in
     let h : IsHeaderOf c.args.line.now c.in-Some.header.items = some_of _ _ c.in_ok-header.field-0 c.in-Some.header c.in-Some.is c.in_ok-header.ensures.found in
     let short = if_some _ c.in_ok-header.field-0 c.in-Some.header c.in-Some.is c.in_ok-header.ensures.most in
-    subst (λ (out : List ℕ). TextsAreRead all left (asm_state out c.len-self-inside.result c.new-self-inside.result 1)) (sym c.reserve.ensures.items)
-    (goes_header all left c.args.line.now b.out c.in-Some.header.items b.start c.len-self-inside.result 1 0 b.checker c.new-self-inside.result h (omega (arith, short, c.in-Some.header.ok.0)) (omega (arith, c.len-self-inside.ensures, c.in-Some.header.ok.0)) refl c.new-self-inside.ensures u)
+    subst (λ (out : List ℕ). TextsAreRead all left (output_of out c.len-self-inside.result c.new-self-inside.result (vec_capacity c.reserve.new.self)) 1) (sym c.reserve.ensures.items)
+    (goes_header all left c.args.line.now c.in-Some.header.items c.args.self.now c.len-self-inside.result (vec_capacity c.reserve.new.self) c.new-self-inside.result h (omega (arith, short, c.in-Some.header.ok.0)) (omega (arith, c.len-self-inside.ensures, c.in-Some.header.ok.0)) c.new-self-inside.ensures u)
 
 pub returns-clause-reads : goal.returns-clause-reads
 returns-clause-reads c = on_ok_weaker c.read_one.result (λ h all left u.
-    let b = c.args.self.now in
     let none : (x : HeaderContents) → FitsHeader x → c.args.line.now ≡ bit_text x → ⊥ = none_of _ _ c.in_ok-header.field-0 c.in_default.is c.in_ok-header.ensures.found in
-    h all left 0 refl (goes_plain all left c.args.line.now b.out b.start 0 b.checker none u)) c.read_one.ensures.reads
+    h all left 0 refl (goes_plain all left c.args.line.now c.args.self.now none u)) c.read_one.ensures.reads
 
 pub returns-clause-fault : goal.returns-clause-fault
 returns-clause-fault c = err_weaker c.read_one.result (λ f. elim [
   | inl none ↦ inl none
   | inr h ↦ inr (λ all left u.
-      let b = c.args.self.now in
       let none : (x : HeaderContents) → FitsHeader x → c.args.line.now ≡ bit_text x → ⊥ = none_of _ _ c.in_ok-header.field-0 c.in_default.is c.in_ok-header.ensures.found in
-      h all left 0 refl (goes_plain all left c.args.line.now b.out b.start 0 b.checker none u))
+      h all left 0 refl (goes_plain all left c.args.line.now c.args.self.now none u))
 ]) c.read_one.ensures.fault
 
 pub returns-in_err-header-clause-reads : goal.returns-in_err-header-clause-reads

@@ -1,30 +1,30 @@
-use Rattle.std.proofs.Common.{ℕ, List, ◌∷◌, arith, inl, inr, subst, sym}
-use Rattle.x7_listing.specs.Assembling.{HasLineRoom, IsSoundOutput, TextsAreRead, Output, state_of_output, asm_state}
+use Rattle.std.proofs.Common.{ℕ, List, ◌∷◌, arith, inl, inr, subst, sym, vec_capacity}
+use Rattle.x7_listing.specs.Assembling.{HasLineRoom, IsSoundOutput, TextsAreRead, Output, output_of}
 use Rattle.x7_listing.proofs.AssemblingLemmas.{read_bad, read_long, read_on}
-use Rattle.x7_listing.proofs.asm.AsmLinesLemmas.{err_as, no_room, none_ok, not_line, not_long, output_by, wants_read}
+use Rattle.x7_listing.proofs.asm.AsmLinesLemmas.{err_as, no_room, none_ok, not_line, not_long, wants_read}
 use Rattle.x7_listing.proofs.asm.lines.AsmLines.read_one.Goals as goal
 
 pub returns-then-not-read_checked_line-clause-fault : goal.returns-then-not-read_checked_line-clause-fault
 returns-then-not-read_checked_line-clause-fault c = inr (λ all left k m g.
-    read_bad c.args.line.now c.self.inside.out.items c.reserve.new.self.items c.read_checked_line.new.out.items c.self.inside.start k c.args.line_number c.self.inside.checker c.read_checked_line.new.checker c.read_checked_line.result
-    c.reserve.ensures.items m c.read_checked_line.ensures.reads c.read_checked_line.ensures.keeps all left (subst (λ (o : Output). TextsAreRead all (c.args.line.now ∷ left) (state_of_output o k)) (sym c.self.view_is) g) c.if-not-read_checked_line.true)
+    read_bad c.args.line.now c.reserve.new.self.items c.read_checked_line.new.out.items (output_of c.self.inside.out.items c.self.inside.start c.self.inside.checker (vec_capacity c.self.inside.out)) k c.args.line_number c.read_checked_line.new.checker c.read_checked_line.result
+    c.reserve.ensures.items m c.read_checked_line.ensures.reads c.read_checked_line.ensures.keeps all left (subst (λ (o : Output). TextsAreRead all (c.args.line.now ∷ left) o k) (sym c.self.view_is) g) c.if-not-read_checked_line.true)
 
 pub returns-then-len-gt-ASM_LIMIT-clause-fault : goal.returns-then-len-gt-ASM_LIMIT-clause-fault
 returns-then-len-gt-ASM_LIMIT-clause-fault c = inr (λ all left k m g.
-    read_long c.args.line.now c.self.inside.out.items c.reserve.new.self.items c.read_checked_line.new.out.items c.self.inside.start k c.args.line_number c.self.inside.checker c.read_checked_line.new.checker c.read_checked_line.result
-    c.reserve.ensures.items m c.read_checked_line.ensures.reads c.read_checked_line.ensures.keeps all left (subst (λ (o : Output). TextsAreRead all (c.args.line.now ∷ left) (state_of_output o k)) (sym c.self.view_is) g) c.if-not-read_checked_line.false (omega arith))
+    read_long c.args.line.now c.reserve.new.self.items c.read_checked_line.new.out.items (output_of c.self.inside.out.items c.self.inside.start c.self.inside.checker (vec_capacity c.self.inside.out)) k c.args.line_number c.read_checked_line.new.checker c.read_checked_line.result
+    c.reserve.ensures.items m c.read_checked_line.ensures.reads c.read_checked_line.ensures.keeps all left (subst (λ (o : Output). TextsAreRead all (c.args.line.now ∷ left) o k) (sym c.self.view_is) g) c.if-not-read_checked_line.false (omega arith))
 
 pub returns-in_err-reserve-2-clause-memory : goal.returns-in_err-reserve-2-clause-memory
-returns-in_err-reserve-2-clause-memory c = wants_read _ c.args.self.now (output_by c.reserve-2.new.self.items c.self.inside.start c.read_checked_line.new.checker) c.args.line_number c.args.line.now (λ all left k m g.
-    subst (λ out. TextsAreRead all left (asm_state out c.self.inside.start c.read_checked_line.new.checker c.args.line_number)) (sym c.reserve-2.ensures.items)
-    (read_on c.args.line.now c.self.inside.out.items c.reserve.new.self.items c.read_checked_line.new.out.items c.self.inside.start k c.args.line_number c.self.inside.checker c.read_checked_line.new.checker c.read_checked_line.result
-    c.reserve.ensures.items m c.read_checked_line.ensures.reads c.read_checked_line.ensures.keeps all left (subst (λ (o : Output). TextsAreRead all (c.args.line.now ∷ left) (state_of_output o k)) (sym c.self.view_is) g) c.if-not-read_checked_line.false (omega arith)))
+returns-in_err-reserve-2-clause-memory c = wants_read _ c.args.self.now (output_of c.reserve-2.new.self.items c.self.inside.start c.read_checked_line.new.checker (vec_capacity c.reserve-2.new.self)) c.args.line_number c.args.line.now (λ all left k m g.
+    subst (λ out. TextsAreRead all left (output_of out c.self.inside.start c.read_checked_line.new.checker (vec_capacity c.reserve-2.new.self)) c.args.line_number) (sym c.reserve-2.ensures.items)
+    (read_on c.args.line.now c.reserve.new.self.items c.read_checked_line.new.out.items (output_of c.self.inside.out.items c.self.inside.start c.self.inside.checker (vec_capacity c.self.inside.out)) k c.args.line_number c.read_checked_line.new.checker c.read_checked_line.result
+    c.reserve.ensures.items m c.read_checked_line.ensures.reads c.read_checked_line.ensures.keeps all left (subst (λ (o : Output). TextsAreRead all (c.args.line.now ∷ left) o k) (sym c.self.view_is) g) (vec_capacity c.reserve-2.new.self) c.if-not-read_checked_line.false (omega arith)))
 
 pub returns-clause-reads : goal.returns-clause-reads
 returns-clause-reads c = λ all left k m g.
-    subst (λ out. TextsAreRead all left (asm_state out c.self.inside.start c.read_checked_line.new.checker c.args.line_number)) (sym c.reserve-2.ensures.items)
-    (read_on c.args.line.now c.self.inside.out.items c.reserve.new.self.items c.read_checked_line.new.out.items c.self.inside.start k c.args.line_number c.self.inside.checker c.read_checked_line.new.checker c.read_checked_line.result
-    c.reserve.ensures.items m c.read_checked_line.ensures.reads c.read_checked_line.ensures.keeps all left (subst (λ (o : Output). TextsAreRead all (c.args.line.now ∷ left) (state_of_output o k)) (sym c.self.view_is) g) c.if-not-read_checked_line.false (omega arith))
+    subst (λ out. TextsAreRead all left (output_of out c.self.inside.start c.read_checked_line.new.checker (vec_capacity c.reserve-2.new.self)) c.args.line_number) (sym c.reserve-2.ensures.items)
+    (read_on c.args.line.now c.reserve.new.self.items c.read_checked_line.new.out.items (output_of c.self.inside.out.items c.self.inside.start c.self.inside.checker (vec_capacity c.self.inside.out)) k c.args.line_number c.read_checked_line.new.checker c.read_checked_line.result
+    c.reserve.ensures.items m c.read_checked_line.ensures.reads c.read_checked_line.ensures.keeps all left (subst (λ (o : Output). TextsAreRead all (c.args.line.now ∷ left) o k) (sym c.self.view_is) g) (vec_capacity c.reserve-2.new.self) c.if-not-read_checked_line.false (omega arith))
 
 pub returns-then-not-read_checked_line-clause-reads : goal.returns-then-not-read_checked_line-clause-reads
 returns-then-not-read_checked_line-clause-reads c = tt
@@ -51,7 +51,7 @@ pub returns-clause-memory : goal.returns-clause-memory
 returns-clause-memory c = tt
 
 pub returns-in_err-reserve-clause-memory : goal.returns-in_err-reserve-clause-memory
-returns-in_err-reserve-clause-memory c = no_room c.from_residual.result c.args.self.now (output_by c.reserve.new.self.items c.self.inside.start c.self.inside.checker) c.args.line_number c.args.line.now
+returns-in_err-reserve-clause-memory c = no_room c.from_residual.result c.args.self.now (output_of c.reserve.new.self.items c.self.inside.start c.self.inside.checker (vec_capacity c.reserve.new.self)) c.args.line_number c.args.line.now
     (λ room. omega (arith, subst HasLineRoom (sym c.self.view_is) room, c.in_err-reserve.ensures.full))
 
 pub returns-in_err-reserve-2-clause-reads : goal.returns-in_err-reserve-2-clause-reads
