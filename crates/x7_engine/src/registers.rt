@@ -173,30 +173,32 @@ impl Registers {
         ensures counts { (n : ℕ) → counted_in result n ≡ n }
     {
         let idcode = part.idcode();
-        let Progress {
-            check,
-            has_idcode,
-            ..
-        } = self.progress;
-        let no_idcode = Some(StopCause::Fault(Fault::Id {
+        let check = self.progress.check;
+        let lacks_idcode = !self.progress.has_idcode;
+        let no_idcode = StopCause::Fault(Fault::Id {
             want: idcode,
             got: 0,
-        }));
+        });
+        let start_refused = lacks_idcode && is_command(Command::Start, executed);
+        let encrypted = StopCause::Fault(Fault::Encrypted);
         match reg {
-            Reg::Crc if word != check => Some(StopCause::Fault(Fault::Crc {
+            Reg::Crc => (word != check).then_some(StopCause::Fault(Fault::Crc {
                 want: check,
                 got: word,
             })),
-            Reg::Far | Reg::Cmd if is_command(Command::Start, executed) && !has_idcode => no_idcode,
-            Reg::Fdri | Reg::Mfwr if !has_idcode => no_idcode,
-            Reg::Cmd if is_command(Command::Iprog, executed) && !is_fallback(self.kind) => Some(
+            Reg::Far => start_refused.then_some(no_idcode),
+            Reg::Cmd if start_refused => Some(no_idcode),
+            Reg::Cmd => (is_command(Command::Iprog, executed) && !is_fallback(self.kind)).then_some(
                 StopCause::Iprog,
             ),
-            Reg::Ctl0
-                if has_dec(masked_word(self.controls.ctl0, self.words.held(Reg::Mask), word)) =>
-                Some(StopCause::Fault(Fault::Encrypted)),
-            Reg::Cbc => Some(StopCause::Fault(Fault::Encrypted)),
-            Reg::Idcode if !is_same_idcode(idcode, word) => Some(StopCause::Fault(Fault::Id {
+            Reg::Fdri | Reg::Mfwr => lacks_idcode.then_some(no_idcode),
+            Reg::Ctl0 => has_dec(masked_word(
+                self.controls.ctl0,
+                self.words.held(Reg::Mask),
+                word,
+            )).then_some(encrypted),
+            Reg::Cbc => Some(encrypted),
+            Reg::Idcode => (!is_same_idcode(idcode, word)).then_some(StopCause::Fault(Fault::Id {
                 want: idcode,
                 got: word,
             })),
