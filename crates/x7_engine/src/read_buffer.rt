@@ -102,7 +102,7 @@ impl ReadBuf {
     pub(crate) fn holds_within_most(&self)
         ensures { HoldsWithinMost self.now.most self.now.words }
     {
-        // the words are what it rests on
+        // the contract of `words` says it
         let _words = self.words();
     }
 

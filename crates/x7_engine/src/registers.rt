@@ -414,9 +414,7 @@ impl Registers {
         ensures reads { RunReads run.entry count (change_of part.now self.old self.new) (count - result) }
     {
         match run {
-            Cut::Need => self.take_bytes(part, count),
-            Cut::Skip(_) => self.take_bytes(part, count),
-            Cut::Sync => self.take_bytes(part, count),
+            Cut::Need | Cut::Skip(_) | Cut::Sync => self.take_bytes(part, count),
             Cut::Head(_, step) => self.take_header(part, step, count),
             Cut::Word(register, word) => self.take_word(
                 part,
