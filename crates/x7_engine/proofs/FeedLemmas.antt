@@ -19,7 +19,7 @@ use Rattle.x7_engine.specs.Readout.{GotAllBut}
 use Rattle.x7_engine.specs.Feeding.{DeviceAndBuffer, GivesWordsNext, with_buffer}
 use Rattle.x7_engine.specs.Past.{HasPast, Past, first_stop_at, AnswersAt, past_of, reads_given_at}
 use Rattle.x7_engine.specs.Standing.{DeviceStandsFor, DeviceState, NoWordDue, RegistersStandFor, RegistersState, due_count, answer_at_stop, frames_among, frames_due, taken_in, reads_given, words_still_due}
-use Rattle.x7_engine.specs.State.{first_stop_of_bytes, history_taken, reads_of}
+use Rattle.x7_engine.specs.State.{history_taken, reads_of}
 use Rattle.x7_engine.specs.Stop.{Stopped, stop_at_place}
 use Rattle.x7_engine.proofs.DeviceLemmas.{given_by}
 use Rattle.x7_engine.proofs.FrameLemmas.{frames_at, frames_of, goes_on}
@@ -112,18 +112,9 @@ pub answers_stop : (part : PartData) (kept : Kept) (wrapped : Bool) (d : DeviceS
 answers_stop part kept wrapped d bytes read (stop.Fault f) at s e = (f, s.stop_is ∙ ap (stop_at_place (length bytes)) (sym e), s.none_due_at_stop (stop.Fault f) (sym e))
 answers_stop part kept wrapped d bytes read stop.Iprog at s e = (s.stop_is ∙ ap (stop_at_place (length bytes)) (sym e), s.none_due_at_stop stop.Iprog (sym e))
 
--- a device stopped where its bytes have a stop
-pub stopped_here : (part : PartData) (kept : Kept) (wrapped : Bool) (d : DeviceState) (bytes : List ℕ) → DeviceStandsFor part kept wrapped d bytes
-    → is_some (first_stop_of_bytes part kept bytes) ≡ true → is_some d.registers.stop ≡ true
-stopped_here part kept wrapped d bytes s e = sym (same (length bytes) d.registers.stop) ∙ ap (λ (o : Option Stopped). is_some o) (sym s.stop_is) ∙ e
-  where
-    same : (n : ℕ) (o : Option StopCause) → is_some (stop_at_place n o) ≡ is_some o
-    same n None = refl
-    same n (Some why) = refl
-
--- the bytes of a device that stopped have a stop
-pub has_stop : (d : DeviceState) (p : Past) → HasPast d p → is_some d.registers.stop ≡ true → is_some (first_stop_at p) ≡ true
-has_stop d p s e = ap (λ (o : Option Stopped). is_some o) s.stop_is ∙ (same (length p.bytes) d.registers.stop ∙ e)
+-- a device stopped just where its bytes have a stop
+pub same_stop : (d : DeviceState) (p : Past) → HasPast d p → is_some (first_stop_at p) ≡ is_some d.registers.stop
+same_stop d p s = ap (λ (o : Option Stopped). is_some o) s.stop_is ∙ same (length p.bytes) d.registers.stop
   where
     same : (n : ℕ) (o : Option StopCause) → is_some (stop_at_place n o) ≡ is_some o
     same n None = refl

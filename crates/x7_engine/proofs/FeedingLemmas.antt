@@ -9,7 +9,7 @@ use Rattle.x7_engine.specs.ReadBuffer.{HoldsWithinMost}
 use Rattle.x7_engine.specs.Standing.{DeviceStandsFor, DeviceState, NoWordDue, reads_given}
 use Rattle.x7_engine.specs.State.{first_stop_of_bytes}
 use Rattle.x7_engine.specs.Turns.{TurnMoves}
-use Rattle.x7_engine.proofs.FeedLemmas.{given_on, none_before, now_given, stands_on, stopped_here, words_none}
+use Rattle.x7_engine.proofs.FeedLemmas.{given_on, none_before, now_given, same_stop, stands_on, words_none}
 use Rattle.x7_engine.proofs.UntilReadLemmas.{room_read_on}
 
 -- no byte was taken yet
@@ -94,4 +94,4 @@ gives_round x y z f piece from to going g due m t w = gives_turn x z f piece fro
 -- after a stop nothing is taken
 pub takes_nothing : (part : PartData) (kept : Kept) (wrapped : Bool) (old new : DeviceState) (piece bytes : List ℕ) (count : ℕ) → TakesFirst old new piece count → DeviceStandsFor part kept wrapped old bytes
     → IsSome (first_stop_of_bytes part kept bytes) → (new ≡ old) × (count ≡ 0)
-takes_nothing part kept wrapped old new piece bytes count t s e = t.stopped (stopped_here part kept wrapped old bytes s e)
+takes_nothing part kept wrapped old new piece bytes count t s e = t.stopped (sym (same_stop old (past_of part kept wrapped bytes) s) ∙ e)

@@ -1,7 +1,7 @@
 -- Pasts. A past is all that the state of a device is a function of: the part, what the last reset kept,
 -- whether the flash has ended since then, and the bytes since then. A clause on a device speaks of each
 -- past that the device has (this project's choice).
--- What ends in `_at` takes a past. It is a definition of State.antt, Standing.antt or UntilStarted.antt, which takes the
+-- What ends in `_at` takes a past. Most are a definition of State.antt, Standing.antt or UntilStarted.antt that takes the
 -- past's values one by one: `state_at` is `state_of`, and `first_stop_at` is `first_stop_of_bytes`.
 use Rattle.std.specs.Prelude.{◌≡◌, ℕ, ◌<◌, ◌==◌, ◌++◌, Bool, false, List, length, take, Option, None, Some}
 use Rattle.x7_words.specs.Word.{AreBytes}

@@ -1,5 +1,5 @@
 //! The registers of a device, and what an access does to them.
-ghost use Rattle.std.specs.Prelude.{◌≡◌, ◌≤◌, ◌<◌, ◌+◌, ◌*◌, ◌/◌, ◌%◌, ◌&&◌, ℕ, [], true, Option, None, Some, ◌-◌, length};
+ghost use Rattle.std.specs.Prelude.{◌≡◌, ◌≤◌, ◌<◌, ◌+◌, ◌*◌, ◌/◌, ◌&&◌, ℕ, [], true, None, Some, ◌-◌};
 ghost use Rattle.std.specs.Option.{option_or};
 ghost use Rattle.x7_words.specs.Word.{AreWholeWords};
 ghost use Rattle.x7_packets.specs.Cutter.{IsRun};
@@ -225,7 +225,7 @@ impl Registers {
         self.stop = first_cause(why, refused);
     }
 
-    /// Takes a word written to a register in which it stays, and is folded.
+    /// Takes a word written to a register in which it stays, and is folded into the check.
     fn pass(&mut self, plain: PlainNumber, word: u32)
         ensures { (part : PartData) → MayTakeWords part self.old → TookWrite (change_of part self.old self.new) plain.register word }
     {
@@ -280,8 +280,8 @@ impl Registers {
         0
     }
 
-    /// Takes words written to a register in which they stay, and are folded, up to a byte at which the watchdog fires.
-    /// Says how many bytes these are.
+    /// Takes words written to a register in which they stay, and are folded into the check, up to a byte at which the
+    /// watchdog fires. Says how many bytes these are.
     fn pass_all(&mut self, part: &Part, plain: PlainNumber, bytes: &[u8]) -> usize
         requires may_take { MayTakeWords part.now self.old }
         requires whole { AreWholeWords bytes.now }

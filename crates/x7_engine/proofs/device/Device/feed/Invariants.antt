@@ -1,4 +1,4 @@
-use Rattle.std.proofs.Common.{◌+◌, ◌-◌, length, if◌then◌else◌, Bool}
+use Rattle.std.proofs.Common.{◌+◌, ◌-◌, length, if◌then◌else◌}
 use Rattle.std.specs.Option.{is_some}
 use Rattle.x7_packets.specs.Cutter.{calls_left}
 use Rattle.x7_engine.specs.Feeding.{GivesWordsOfFirst, TakesFirst, with_buffer}

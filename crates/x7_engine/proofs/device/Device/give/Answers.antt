@@ -1,35 +1,25 @@
-use Rattle.std.proofs.Common.{◌≡◌, None, ℕ, Bool, List, sym, subst, ap, ◌∙◌, length}
-use Rattle.x7_part.specs.Part.{PartData}
+use Rattle.std.proofs.Common.{◌≡◌, None, ℕ, Bool, List, ap, ◌∙◌, length, subst}
 use Rattle.x7_engine.specs.declared.kept.Kept.{Kept}
 use Rattle.x7_engine.specs.DeviceFields.{device_in}
 use Rattle.x7_engine.specs.Feeding.{GivesWordsNext, with_buffer}
-use Rattle.x7_engine.specs.Past.{Past, past_of}
+use Rattle.x7_engine.specs.Past.{HasPast, Past, past_of}
 use Rattle.x7_engine.specs.Standing.{DeviceStandsFor, DeviceState, registers_in}
 use Rattle.x7_engine.specs.State.{history_taken}
 use Rattle.x7_engine.proofs.FeedLemmas.{given, stands_given}
-use Rattle.x7_engine.proofs.PastLemmas.{own_past}
+use Rattle.x7_engine.proofs.PastLemmas.{each_by_fields, own_past}
 use Rattle.x7_engine.proofs.device.Device.give.Goals as goal
 
 -- the device after the call, by its fields
 abbrev after : goal.After-give → DeviceState
 after c = record (device_in c.self.inside) { registers = registers_in c.give.new.self }
 
--- the part of a past of the device is the one in its fields
-same_part : (c : goal.After-give) (part : PartData) (kept : Kept) (wrapped : Bool) (bytes : List ℕ) → DeviceStandsFor part kept wrapped c.args.self.now bytes → c.self.inside.part ≡ part
-same_part c part kept wrapped bytes s = ap (λ (d : DeviceState). d.part) c.self.view_is ∙ s.part_is
-
--- a past of the device, by its fields
-before : (c : goal.After-give) (part : PartData) (kept : Kept) (wrapped : Bool) (bytes : List ℕ) → DeviceStandsFor part kept wrapped c.args.self.now bytes → DeviceStandsFor c.self.inside.part kept wrapped (device_in c.self.inside) bytes
-before c part kept wrapped bytes s =
-    subst (λ (d : DeviceState). DeviceStandsFor c.self.inside.part kept wrapped d bytes) (sym c.self.view_is) (subst (λ (p : PartData). DeviceStandsFor p kept wrapped c.args.self.now bytes) (sym (same_part c part kept wrapped bytes s)) s)
-
 -- the device still stands for a past, by its fields
 stands_after : (c : goal.After-give) (kept : Kept) (wrapped : Bool) (bytes : List ℕ) → DeviceStandsFor c.self.inside.part kept wrapped (device_in c.self.inside) bytes → DeviceStandsFor c.self.inside.part kept wrapped (after c) bytes
 stands_after c kept wrapped bytes s =
+    let h = history_taken c.self.inside.part kept bytes in
     let going : c.self.inside.registers.stop ≡ None = ap (λ (d : DeviceState). d.registers.stop) c.self.view_is ∙ c.requires.going in
     stands_given c.self.inside.part kept wrapped (device_in c.self.inside) (registers_in c.give.new.self) bytes c.args.read.now c.give.new.read going c.give.ensures.gave.going s
-    (c.give.ensures.gave.stands kept (history_taken c.self.inside.part kept bytes) (length bytes) s.registers_are)
-    (c.give.ensures.gave.given kept (history_taken c.self.inside.part kept bytes) (length bytes) s.registers_are)
+    (c.give.ensures.gave.stands kept h (length bytes) s.registers_are) (c.give.ensures.gave.given kept h (length bytes) s.registers_are)
 
 pub returns-clause-gives : goal.returns-clause-gives
 returns-clause-gives c = record {
@@ -40,14 +30,12 @@ returns-clause-gives c = record {
   taken = ap (λ (d : DeviceState). d.taken) c.self.view_is;
   fed = ap (λ (d : DeviceState). d.fed) c.self.view_is;
   cutter = ap (λ (d : DeviceState). d.cutter) c.self.view_is;
-  stands = λ part kept wrapped bytes s.
-      subst (λ (p : PartData). DeviceStandsFor p kept wrapped (after c) bytes) (same_part c part kept wrapped bytes s) (stands_after c kept wrapped bytes (before c part kept wrapped bytes s));
-  given = λ part kept wrapped bytes s.
-      let own : PartData = c.self.inside.part in
-      let stands : DeviceStandsFor own kept wrapped (device_in c.self.inside) bytes = before c part kept wrapped bytes s in
-      subst (λ (d : DeviceState). GivesWordsNext (past_of part kept wrapped bytes) (past_of part kept wrapped bytes) (with_buffer d c.args.read.now) (with_buffer (after c) c.give.new.read)) c.self.view_is
-      (subst (λ (p : PartData). GivesWordsNext (past_of p kept wrapped bytes) (past_of p kept wrapped bytes) (with_buffer (device_in c.self.inside) c.args.read.now) (with_buffer (after c) c.give.new.read)) (same_part c part kept wrapped bytes s)
-      (given own kept wrapped (device_in c.self.inside) (registers_in c.give.new.self) bytes c.args.read.now c.give.new.read stands (c.give.ensures.gave.given kept (history_taken own kept bytes) (length bytes) stands.registers_are)));
+  stands = each_by_fields (device_in c.self.inside) c.args.self.now (λ p. HasPast (after c) p) c.self.view_is (stands_after c);
+  given = each_by_fields (device_in c.self.inside) c.args.self.now (λ p. GivesWordsNext p p (with_buffer c.args.self.now c.args.read.now) (with_buffer (after c) c.give.new.read)) c.self.view_is
+      (λ kept wrapped bytes s.
+      subst (λ (d : DeviceState). GivesWordsNext (past_of c.self.inside.part kept wrapped bytes) (past_of c.self.inside.part kept wrapped bytes) (with_buffer d c.args.read.now) (with_buffer (after c) c.give.new.read)) c.self.view_is
+      (given c.self.inside.part kept wrapped (device_in c.self.inside) (registers_in c.give.new.self) bytes c.args.read.now c.give.new.read s
+      (c.give.ensures.gave.given kept (history_taken c.self.inside.part kept bytes) (length bytes) s.registers_are)));
 }
 
 pub invariant_of-self : goal.invariant_of-self
