@@ -1,7 +1,7 @@
 -- The running check of items that are entered.
 use Rattle.std.proofs.Common.{◌≡◌, ℕ, ◌+◌, ◌*◌, ◌%◌, ◌^◌, ◌<◌, ◌==◌, Bool, true, false, if◌then◌else◌, List, [], ◌∷◌, ◌++◌, length, refl, ap, sym, ◌∙◌, arith, lit<}
 use Rattle.x7_packets.specs.History as access
-use Rattle.x7_packets.specs.History.{History, entry, command_held, last_word, history_of, entered, entered_all}
+use Rattle.x7_packets.specs.History.{History, entry, last_word}
 use Rattle.x7_packets.specs.CheckedWrites.{RegisterWrite, checked_writes, clears, write_to}
 use Rattle.x7_crc.specs.Check.{check_after, check_after_one, check_of}
 use Rattle.x7_crc.specs.RunningCheck.{in_order}

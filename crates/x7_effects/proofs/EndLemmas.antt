@@ -5,7 +5,7 @@ use Rattle.x7_regs.specs.declared.register.Reg.TheVariants.{Idcode}
 use Rattle.x7_words.specs.Word.{AreBytes}
 use Rattle.x7_packets.specs.ByHand.{reading_of}
 use Rattle.x7_packets.specs.History as access
-use Rattle.x7_packets.specs.History.{History, command_held, entry, history_of}
+use Rattle.x7_packets.specs.History.{History, entry, history_of}
 use Rattle.x7_packets.specs.Reading.{is_synced}
 use Rattle.x7_part.specs.Part.{PartData}
 use Rattle.x7_startup.specs.Startup.{StartupProgress}

@@ -6,7 +6,7 @@ use Rattle.x7_regs.specs.declared.command.Command.TheVariants.{Lfrm, Rcrc, Shutd
 use Rattle.x7_regs.specs.declared.register.Reg.TheVariants.{Cor0, Ctl0, Far, Idcode, Mask}
 use Rattle.x7_words.specs.Word.{AreBytes}
 use Rattle.x7_packets.specs.History as access
-use Rattle.x7_packets.specs.History.{Access, History, command_held, entry, history_of, last_word}
+use Rattle.x7_packets.specs.History.{Access, History, entry, history_of, last_word}
 use Rattle.x7_crc.specs.RunningCheck.{running_check}
 use Rattle.x7_part.specs.AddressOrder.{addresses_in}
 use Rattle.x7_part.specs.Part.{PartData, frame_words}
@@ -31,7 +31,7 @@ use Rattle.x7_engine.proofs.MaskLemmas.{bit_step}
 use Rattle.x7_engine.proofs.PassesLemmas.{went_past}
 use Rattle.x7_engine.proofs.StateLemmas.{parts_none}
 use Rattle.x7_effects.proofs.Items as item
-use Rattle.x7_effects.proofs.Items.{WriteLong, Write, item_entered, writes_entered}
+use Rattle.x7_effects.proofs.Items.{WriteLong, Write, writes_entered}
 use Rattle.x7_effects.proofs.Checking.{Check, Piece, Put, piece_length, pieces_length}
 use Rattle.x7_effects.proofs.Frames.{frames_at, joined}
 use Rattle.x7_effects.specs.Played.{PlaysFull, device_after}

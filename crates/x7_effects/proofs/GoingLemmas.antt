@@ -5,7 +5,7 @@ use Rattle.x7_packets.specs.History as access
 use Rattle.x7_packets.specs.History.{Access, History, command_held, entry, executes, last_word}
 use Rattle.x7_crc.specs.RunningCheck.{running_check}
 use Rattle.x7_part.specs.Part.{PartData}
-use Rattle.x7_startup.specs.Startup.{Call, StartupProgress}
+use Rattle.x7_startup.specs.Startup.{StartupProgress}
 use Rattle.x7_startup.specs.Startup as call
 use Rattle.x7_engine.specs.declared.kept.Kept.{Kept}
 use Rattle.x7_flow.specs.Controls.{ctl0_held, has_idcode, mask_held, masked_word}

@@ -17,7 +17,7 @@ use Rattle.x7_planner.specs.Writer.{StreamPiece, Words, Check, bytes_of_words, c
 use Rattle.x7_engine.specs.declared.kept.Kept.{Kept}
 use Rattle.x7_engine.specs.Rest.{AtRest}
 use Rattle.x7_engine.specs.State.{memory_of_bytes, reads_of}
-use Rattle.x7_effects.specs.Played.{PlaysBoth, PlaysFull, PlaysPartial, PlaysRead, ReadsBack, play_after, device_after, words_along}
+use Rattle.x7_effects.specs.Played.{PlaysBoth, PlaysFull, PlaysPartial, PlaysRead, ReadsBack, device_after, words_along}
 use Rattle.x7_effects.proofs.LawLemmas.{full_law, partial_law, read_law}
 use Rattle.x7_effects.proofs.ReadbackLemmas.{along_same}
 use Rattle.x7_effects.proofs.StreamLemmas.{bytes_fit}
@@ -71,7 +71,7 @@ partial_reads_back part kept bytes plan far n f r is p can =
     reads_back part kept bytes (bytes ++ partial_stream part plan.rows) (override (memory_of_bytes part kept bytes) (planned plan.rows)) far n (partial_fits part bytes plan.rows f) partial.rests is can partial.reads partial.memory
 
 pub both_play : (part : PartData) (kept : Kept) (bytes : List ℕ) (plan later : PlanData) → AreBytes bytes → AtRest part kept bytes → IsPart part → IsPlanFor part plan → IsPlanFor part later
-    → PlaysBoth (play_after part kept bytes plan) later
+    → PlaysBoth (record { device = device_after part kept bytes; plan = plan }) later
 both_play part kept bytes plan later f r is p q =
     let longer : List ℕ = bytes ++ full_stream part plan in
     let full : PlaysFull (device_after part kept bytes) (full_stream part plan) plan = full_law part kept bytes plan f r is p.is_plan p.width p.addressed in

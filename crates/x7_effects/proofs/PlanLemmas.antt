@@ -19,7 +19,7 @@ use Rattle.x7_pipeline.specs.FarAsRead.{has_frame_at}
 use Rattle.x7_pipeline.proofs.SlotLemmas.{address_has}
 use Rattle.x7_effects.proofs.Frames.{joined, row_frames, row_slots}
 use Rattle.x7_planner.specs.FullStream.{zero_frame}
-use Rattle.x7_planner.specs.PartialStream.{Rows, Section}
+use Rattle.x7_planner.specs.PartialStream.{Rows}
 use Rattle.x7_planner.specs.PartialStream as section
 use Rattle.x7_planner.specs.PartialStream.{groups_led, is_shared, is_first_of_group, rows_not_shared, runs_of, sections_of, with_content}
 use Rattle.x7_effects.proofs.Groups.{IsPlaced}

@@ -22,7 +22,7 @@ use Rattle.x7_packets.specs.PacketWords as packet_words
 use Rattle.x7_planner.specs.FullStream as full
 use Rattle.x7_planner.specs.ReadStream as readback
 use Rattle.x7_packets.specs.PacketWords.{sync_word}
-use Rattle.x7_effects.proofs.Items.{AreItems, Item, Write, WriteLong, bus_width_head, bytes_of_words, closed, desync, item_words, items_entered, items_words, opened}
+use Rattle.x7_effects.proofs.Items.{AreItems, Item, WriteLong, bus_width_head, bytes_of_words, desync, item_words, items_words, opened}
 use Rattle.x7_effects.proofs.Items as item
 use Rattle.x7_effects.proofs.Checking.{ArePieces, Check, Checking, IsPiece, Piece, Put, after_items, at_first, checking_of, piece_item, with_checks}
 use Rattle.x7_effects.proofs.Frames.{frame_of, frames_at, joined, row_frames}

@@ -12,7 +12,7 @@ use Rattle.x7_engine.specs.State.{reads_of, first_stop_of_bytes}
 use Rattle.x7_engine.specs.Value.{read_out}
 use Rattle.x7_planner.specs.PartialStream.{Copies, Rows, Section}
 use Rattle.x7_effects.proofs.Items as item
-use Rattle.x7_effects.proofs.Items.{Item, item_entered, writes_entered}
+use Rattle.x7_effects.proofs.Items.{item_entered, writes_entered}
 use Rattle.x7_effects.proofs.Checking.{ArePieces, Check, Checking, ClearFirst, Piece, Put, checking_of, piece_item, piece_length}
 use Rattle.x7_effects.proofs.Streams.{copy_pieces, stream_of, section_pieces, sections_pieces}
 use Rattle.x7_effects.proofs.EndLemmas.{reads_all}

@@ -12,7 +12,7 @@ use Rattle.x7_packets.specs.Machine.{AllWhole}
 use Rattle.x7_packets.specs.Reading.{Searching, Synced, EndedSession, IsReading, IsEndedSession, packet_bytes, is_synced}
 use Rattle.x7_packets.specs.ByHand.{reading_of}
 use Rattle.x7_packets.specs.History as access
-use Rattle.x7_packets.specs.History.{History, entry, entered_all, history, history_of}
+use Rattle.x7_packets.specs.History.{History, entry, entered_all, history_of}
 use Rattle.x7_packets.proofs.PacketLemmas.{each_more, ended_more}
 use Rattle.x7_packets.proofs.ByHandLemmas.{reading_is}
 use Rattle.x7_packets.proofs.HistoryLemmas.{entered_all_append, history_is}

@@ -41,10 +41,6 @@ pub record PlannedPlay : Type 0 where
   pub device : DeviceAfter
   pub plan : PlanData
 
--- the play of a plan's stream on a device of the part, by what its reset kept and the bytes that it took
-abbrev pub play_after : PartData → Kept → List ℕ → PlanData → PlannedPlay
-play_after part kept bytes plan = record { device = device_after part kept bytes; plan = plan }
-
 -- the device is at rest, and the plan is one for its part
 pub record CanPlay (p : PlannedPlay) : Type 0 where
   pub rests : DeviceRests p.device

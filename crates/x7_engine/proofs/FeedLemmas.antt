@@ -9,45 +9,53 @@ use Rattle.x7_packets.specs.History.{History}
 use Rattle.x7_part.specs.Part.{PartData}
 use Rattle.x7_flow.specs.FrameAccess.{reads_frame_data}
 use Rattle.x7_flow.specs.Standing.{FramesStandFor, FramesState, words_due}
-use Rattle.x7_engine.specs.Course.{course_at}
 use Rattle.x7_engine.specs.declared.due.Due.{Due}
 use Rattle.x7_engine.specs.declared.due.Due.TheVariants as due
 use Rattle.x7_engine.specs.declared.kept.Kept.{Kept}
 use Rattle.x7_engine.specs.declared.stop.StopCause.{StopCause}
 use Rattle.x7_engine.specs.declared.stop.StopCause.TheVariants as stop
 use Rattle.x7_engine.specs.ReadBuffer.{ReadBufState, gathered, with_words}
-use Rattle.x7_engine.specs.Readout.{RegistersGaveWords, GotAllBut, DeviceGaveWords}
-use Rattle.x7_engine.specs.Past.{HasPast, Past, first_stop_at, AnswersAt, past_of}
+use Rattle.x7_engine.specs.Readout.{GotAllBut}
+use Rattle.x7_engine.specs.Feeding.{DeviceAndBuffer, GivesWordsNext, with_buffer}
+use Rattle.x7_engine.specs.Past.{HasPast, Past, first_stop_at, AnswersAt, past_of, reads_given_at}
 use Rattle.x7_engine.specs.Standing.{DeviceStandsFor, DeviceState, NoWordDue, RegistersStandFor, RegistersState, due_count, answer_at_stop, frames_among, frames_due, taken_in, reads_given, words_still_due}
-use Rattle.x7_engine.specs.State.{first_stop_of_bytes, history_taken, reads_of}
+use Rattle.x7_engine.specs.State.{history_taken, reads_of}
 use Rattle.x7_engine.specs.Stop.{Stopped, stop_at_place}
 use Rattle.x7_engine.proofs.DeviceLemmas.{given_by}
 use Rattle.x7_engine.proofs.FrameLemmas.{frames_at, frames_of, goes_on}
 
+-- the words read out, where some of those that were due were given
+now_due : (part : PartData) (left : Due) (known : List ℕ) (h : History) (words reads : List ℕ) (old new : ReadBufState) → reads ≡ known ++ words → (g : GotAllBut (words_still_due part h left) words old new)
+    → reads ≡ (known ++ g.more) ++ words_still_due part h left
+now_due part left known h words reads old new all g = all ∙ ap (λ t. known ++ t) g.words_are ∙ sym (append_assoc known g.more (words_still_due part h left))
+
 -- the device gave words that were due
-pub given : (part : PartData) (kept : Kept) (wrapped : Bool) (d : DeviceState) (r : RegistersState) (bytes : List ℕ) (old new : ReadBufState) → d.registers.stop ≡ None → r.stop ≡ None → DeviceStandsFor part kept wrapped d bytes
-    → RegistersGaveWords (course_at part kept (history_taken part kept bytes) (length bytes)) d.registers r old new → DeviceGaveWords (record { part = part; kept = kept; wrapped = wrapped; bytes = bytes }) d (record d { registers = r }) old new
-given part kept wrapped d r bytes old new going on s g =
+pub given : (part : PartData) (kept : Kept) (wrapped : Bool) (d : DeviceState) (r : RegistersState) (bytes : List ℕ) (old new : ReadBufState) → DeviceStandsFor part kept wrapped d bytes
+    → GotAllBut (words_still_due part (history_taken part kept bytes) r.due) (words_still_due part (history_taken part kept bytes) d.registers.due) old new
+    → GivesWordsNext (past_of part kept wrapped bytes) (past_of part kept wrapped bytes) (with_buffer d old) (with_buffer (record d { registers = r }) new)
+given part kept wrapped d r bytes old new s g =
     let known : List ℕ = s.due_are.given in
-    let h : History = history_taken part kept bytes in
-    let e : DeviceState = record d { registers = r } in
-    let all : reads_of part kept bytes ≡ (known ++ g.more) ++ words_still_due part h r.due = s.due_are.all ∙ ap (λ t. known ++ t) g.words_are ∙ sym (append_assoc known g.more (words_still_due part h r.due)) in
-    record {
-      more = g.more;
-      read_is = g.read_is;
-      given_are = given_by part kept e bytes (known ++ g.more) h all ∙ ap (λ t. t ++ g.more) (sym (given_by part kept d bytes known h s.due_are.all));
-      stands = record {
-        fits = s.fits;
-        part_is = s.part_is;
-        wrapped_is = s.wrapped_is;
-        taken_is = s.taken_is;
-        stop_is = s.stop_is ∙ ap (stop_at_place (length bytes)) (going ∙ sym on);
-        registers_are = g.stands;
-        cutter_is = λ o. s.cutter_is going;
-        due_are = record { given = known ++ g.more; all = all };
-        none_due_at_stop = λ why q. absurd (none-some _ (sym on ∙ q));
-      };
-    }
+    let h : History = history_taken part kept bytes in (
+      g.more,
+      g.read_is,
+      given_by part kept (record d { registers = r }) bytes (known ++ g.more) h (now_due part r.due known h _ _ old new s.due_are.all g) ∙ ap (λ t. t ++ g.more) (sym (given_by part kept d bytes known h s.due_are.all)),
+    )
+
+-- a device that gave words that were due stands for what it stood for
+pub stands_given : (part : PartData) (kept : Kept) (wrapped : Bool) (d : DeviceState) (r : RegistersState) (bytes : List ℕ) (old new : ReadBufState) → d.registers.stop ≡ None → r.stop ≡ None → DeviceStandsFor part kept wrapped d bytes
+    → RegistersStandFor part kept r (history_taken part kept bytes) (length bytes) → GotAllBut (words_still_due part (history_taken part kept bytes) r.due) (words_still_due part (history_taken part kept bytes) d.registers.due) old new
+    → DeviceStandsFor part kept wrapped (record d { registers = r }) bytes
+stands_given part kept wrapped d r bytes old new going on s registers g = record {
+  fits = s.fits;
+  part_is = s.part_is;
+  wrapped_is = s.wrapped_is;
+  taken_is = s.taken_is;
+  stop_is = s.stop_is ∙ ap (stop_at_place (length bytes)) (going ∙ sym on);
+  registers_are = registers;
+  cutter_is = λ o. s.cutter_is going;
+  due_are = record { given = s.due_are.given ++ g.more; all = now_due part r.due s.due_are.given (history_taken part kept bytes) _ _ old new s.due_are.all g };
+  none_due_at_stop = λ why q. absurd (none-some _ (sym on ∙ q));
+}
 
 -- words more after words more
 pub words_append : (b : ReadBufState) (first more : List ℕ) → with_words (with_words b first) more ≡ with_words b (first ++ more)
@@ -87,13 +95,11 @@ pub given_on : (part : PartData) (kept : Kept) (wrapped : Bool) (d e : DeviceSta
 given_on part kept wrapped d e bytes piece from to l f s = sym (ap (reads_given part kept e) (taken_more bytes piece from to l)) ∙ f (bytes ++ take from piece) s
 
 -- the words given before, and those that are given now
-pub now_given : (part : PartData) (kept : Kept) (wrapped : Bool) (d e : DeviceState) (first read next : ReadBufState) (taken known : List ℕ) → DeviceGaveWords (record { part = part; kept = kept; wrapped = wrapped; bytes = taken }) d e read next
-    → ((more : List ℕ) × (read ≡ with_words first more) × (reads_given part kept d taken ≡ known ++ more))
-    → (more : List ℕ) × (next ≡ with_words first more) × (reads_given part kept e taken ≡ known ++ more)
-now_given part kept wrapped d e first read next taken known g m = (
-  m.0 ++ g.more,
-  g.read_is ∙ ap (λ (b : ReadBufState). with_words b g.more) m.1 ∙ words_append first m.0 g.more,
-  g.given_are ∙ ap (λ t. t ++ g.more) m.2 ∙ append_assoc known m.0 g.more,
+pub now_given : (p : Past) (x y z : DeviceAndBuffer) (q : Past) → GivesWordsNext q q y z → GivesWordsNext p q x y → GivesWordsNext p q x z
+now_given p x y z q g m = (
+  m.0 ++ g.0,
+  g.1 ∙ ap (λ (b : ReadBufState). with_words b g.0) m.1 ∙ words_append x.buffer m.0 g.0,
+  g.2 ∙ ap (λ t. t ++ g.0) m.2 ∙ append_assoc (reads_given_at x.device p) m.0 g.0,
 )
 
 -- what is answered for a stop
@@ -106,18 +112,9 @@ pub answers_stop : (part : PartData) (kept : Kept) (wrapped : Bool) (d : DeviceS
 answers_stop part kept wrapped d bytes read (stop.Fault f) at s e = (f, s.stop_is ∙ ap (stop_at_place (length bytes)) (sym e), s.none_due_at_stop (stop.Fault f) (sym e))
 answers_stop part kept wrapped d bytes read stop.Iprog at s e = (s.stop_is ∙ ap (stop_at_place (length bytes)) (sym e), s.none_due_at_stop stop.Iprog (sym e))
 
--- a device stopped where its bytes have a stop
-pub stopped_here : (part : PartData) (kept : Kept) (wrapped : Bool) (d : DeviceState) (bytes : List ℕ) → DeviceStandsFor part kept wrapped d bytes
-    → is_some (first_stop_of_bytes part kept bytes) ≡ true → is_some d.registers.stop ≡ true
-stopped_here part kept wrapped d bytes s e = sym (same (length bytes) d.registers.stop) ∙ ap (λ (o : Option Stopped). is_some o) (sym s.stop_is) ∙ e
-  where
-    same : (n : ℕ) (o : Option StopCause) → is_some (stop_at_place n o) ≡ is_some o
-    same n None = refl
-    same n (Some why) = refl
-
--- the bytes of a device that stopped have a stop
-pub has_stop : (d : DeviceState) (p : Past) → HasPast d p → is_some d.registers.stop ≡ true → is_some (first_stop_at p) ≡ true
-has_stop d p s e = ap (λ (o : Option Stopped). is_some o) s.stop_is ∙ (same (length p.bytes) d.registers.stop ∙ e)
+-- a device stopped just where its bytes have a stop
+pub same_stop : (d : DeviceState) (p : Past) → HasPast d p → is_some (first_stop_at p) ≡ is_some d.registers.stop
+same_stop d p s = ap (λ (o : Option Stopped). is_some o) s.stop_is ∙ same (length p.bytes) d.registers.stop
   where
     same : (n : ℕ) (o : Option StopCause) → is_some (stop_at_place n o) ≡ is_some o
     same n None = refl
@@ -193,28 +190,28 @@ fewer_among (a ∷ h) count left l e = by (reads_frame_data h a.access) e
     by true e = refl
     by false e = omega (arith, l, e)
 
+-- the frames of registers of which words of frame data are due
+frames_due_here : (part : PartData) (kept : Kept) (d : RegistersState) (h : History) (n count : ℕ) → d.stop ≡ None → d.due ≡ due.Frames count → RegistersStandFor part kept d h n → FramesStandFor part d.frames h count
+frames_due_here part kept d h n count going is s = subst (FramesStandFor part d.frames h) (ap frames_due is) (frames_of part d.frames d.stop h (frames_due d.due) (goes_on d.stop going) s.frames)
+
+-- the words of frame data that a buffer got
+pub got_frames : (part : PartData) (kept : Kept) (d : RegistersState) (h : History) (n count left : ℕ) (old new : ReadBufState) → d.stop ≡ None → d.due ≡ due.Frames count
+    → (FramesStandFor part d.frames h count → GotAllBut (words_due part h left) (words_due part h count) old new) → RegistersStandFor part kept d h n
+    → GotAllBut (words_due part h left) (words_still_due part h d.due) old new
+got_frames part kept d h n count left old new going is got s = subst (λ (x : Due). GotAllBut (words_due part h left) (words_still_due part h x) old new) (sym is) (got (frames_due_here part kept d h n count going is s))
+
 -- registers after some of the words of frame data that were due
-pub gave_frames : (part : PartData) (kept : Kept) (d : RegistersState) (frames : FramesState) (h : History) (n count left : ℕ) (old new : ReadBufState) → d.stop ≡ None → d.due ≡ due.Frames count → left ≤ count
-    → (FramesStandFor part d.frames h count → GotAllBut (words_due part h left) (words_due part h count) old new) → (FramesStandFor part d.frames h count → FramesStandFor part frames h left)
-    → RegistersStandFor part kept d h n → RegistersGaveWords (course_at part kept h n) d (record d { due = due.Frames left; frames = frames }) old new
-gave_frames part kept d frames h n count left old new going is few got stands s =
-    let here : FramesStandFor part d.frames h count = subst (FramesStandFor part d.frames h) (ap frames_due is) (frames_of part d.frames d.stop h (frames_due d.due) (goes_on d.stop going) s.frames) in
-    let gets : GotAllBut (words_due part h left) (words_due part h count) old new = got here in
-    let kind : count ≡ frames_among h count = sym (ap frames_due is) ∙ s.due_kind ∙ ap (λ (x : Due). frames_among h (due_count x)) is in
-    record {
-      more = gets.more;
-      read_is = gets.read_is;
-      words_are = ap (words_still_due part h) is ∙ gets.words_are;
-      stands = record {
-        places = s.places;
-        words = s.words;
-        controls = s.controls;
-        progress = s.progress;
-        kind = s.kind;
-        before = s.before;
-        clock = s.clock;
-        stop = s.stop;
-        frames = frames_at part frames d.stop h left (goes_on d.stop going) (stands here);
-        due_kind = fewer_among h count left few kind;
-      };
-    }
+pub gave_frames : (part : PartData) (kept : Kept) (d : RegistersState) (frames : FramesState) (h : History) (n count left : ℕ) → d.stop ≡ None → d.due ≡ due.Frames count → left ≤ count
+    → (FramesStandFor part d.frames h count → FramesStandFor part frames h left) → RegistersStandFor part kept d h n → RegistersStandFor part kept (record d { due = due.Frames left; frames = frames }) h n
+gave_frames part kept d frames h n count left going is few stands s = record {
+  places = s.places;
+  words = s.words;
+  controls = s.controls;
+  progress = s.progress;
+  kind = s.kind;
+  before = s.before;
+  clock = s.clock;
+  stop = s.stop;
+  frames = frames_at part frames d.stop h left (goes_on d.stop going) (stands (frames_due_here part kept d h n count going is s));
+  due_kind = fewer_among h count left few (sym (ap frames_due is) ∙ s.due_kind ∙ ap (λ (x : Due). frames_among h (due_count x)) is);
+}

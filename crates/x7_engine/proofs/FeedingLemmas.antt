@@ -3,12 +3,13 @@ use Rattle.std.proofs.Common.{◌≡◌, ◌++◌, ℕ, None, List, [], take, Bo
 use Rattle.std.specs.Prelude.{IsSome}
 use Rattle.x7_part.specs.Part.{PartData}
 use Rattle.x7_engine.specs.declared.kept.Kept.{Kept}
-use Rattle.x7_engine.specs.Feeding.{DeviceAndBuffer, GivesWordsDue, GivesWordsOf, TakesFirst, with_buffer}
+use Rattle.x7_engine.specs.Feeding.{DeviceAndBuffer, GivesWordsDue, GivesWordsOfFirst, TakesFirst, with_buffer}
+use Rattle.x7_engine.specs.Past.{past_of}
 use Rattle.x7_engine.specs.ReadBuffer.{HoldsWithinMost}
 use Rattle.x7_engine.specs.Standing.{DeviceStandsFor, DeviceState, NoWordDue, reads_given}
 use Rattle.x7_engine.specs.State.{first_stop_of_bytes}
 use Rattle.x7_engine.specs.Turns.{TurnMoves}
-use Rattle.x7_engine.proofs.FeedLemmas.{given_on, none_before, now_given, stands_on, stopped_here, words_none}
+use Rattle.x7_engine.proofs.FeedLemmas.{given_on, none_before, now_given, same_stop, stands_on, words_none}
 use Rattle.x7_engine.proofs.UntilReadLemmas.{room_read_on}
 
 -- no byte was taken yet
@@ -29,7 +30,7 @@ takes_given x y z piece at going g t = record {
   part = g.part ∙ t.part;
   taken = g.taken ∙ t.taken;
   fed = omega (arith, g.fed, t.fed);
-  stands = λ part kept wrapped bytes s. (g.given part kept wrapped (bytes ++ take at piece) (t.stands part kept wrapped bytes s)).stands;
+  stands = λ part kept wrapped bytes s. g.stands part kept wrapped (bytes ++ take at piece) (t.stands part kept wrapped bytes s);
   stopped = λ e. absurd (none_before x.device y.device (λ e. (t.stopped e).0) going e);
 }
 
@@ -45,7 +46,7 @@ takes_turn d e f piece from to going m t = record {
 }
 
 -- the buffer before the first byte
-pub gives_none : (x : DeviceAndBuffer) (piece : List ℕ) → HoldsWithinMost x.buffer.most x.buffer.words → GivesWordsOf x x piece 0
+pub gives_none : (x : DeviceAndBuffer) (piece : List ℕ) → HoldsWithinMost x.buffer.most x.buffer.words → GivesWordsOfFirst x x piece 0
 gives_none x piece few = record {
   words = λ part kept wrapped bytes s. ([], words_none x.buffer, ap (reads_given part kept x.device) (append-nil bytes) ∙ sym (append-nil (reads_given part kept x.device bytes)));
   within_most = few;
@@ -54,11 +55,10 @@ gives_none x piece few = record {
 }
 
 -- the buffer after the words that were due
-pub gives_due : (x y z : DeviceAndBuffer) (piece : List ℕ) (at : ℕ) → None ≡ y.device.registers.stop → GivesWordsDue y z → TakesFirst x.device y.device piece at → GivesWordsOf x y piece at → GivesWordsOf x z piece at
+pub gives_due : (x y z : DeviceAndBuffer) (piece : List ℕ) (at : ℕ) → None ≡ y.device.registers.stop → GivesWordsDue y z → TakesFirst x.device y.device piece at → GivesWordsOfFirst x y piece at → GivesWordsOfFirst x z piece at
 gives_due x y z piece at going g t w = record {
   words = λ part kept wrapped bytes s.
-      now_given part kept wrapped y.device z.device x.buffer y.buffer z.buffer (bytes ++ take at piece) (reads_given part kept x.device bytes)
-      (g.given part kept wrapped (bytes ++ take at piece) (t.stands part kept wrapped bytes s)) (w.words part kept wrapped bytes s);
+      now_given (past_of part kept wrapped bytes) x y z (past_of part kept wrapped (bytes ++ take at piece)) (g.given part kept wrapped (bytes ++ take at piece) (t.stands part kept wrapped bytes s)) (w.words part kept wrapped bytes s);
   within_most = g.within_most;
   room = w.room;
   stopped = λ e. absurd (none_before x.device y.device (λ e. (t.stopped e).0) going e);
@@ -66,7 +66,7 @@ gives_due x y z piece at going g t w = record {
 
 -- the buffer after a turn, which gives no word
 gives_turn : (x y : DeviceAndBuffer) (f : DeviceState) (piece : List ℕ) (from to : ℕ) → y.device.registers.stop ≡ None → NoWordDue y.device → TurnMoves y.device f piece from to → TakesFirst x.device y.device piece from
-    → GivesWordsOf x y piece from → GivesWordsOf x (with_buffer f y.buffer) piece to
+    → GivesWordsOfFirst x y piece from → GivesWordsOfFirst x (with_buffer f y.buffer) piece to
 gives_turn x y f piece from to going due m t w = record {
   words = λ part kept wrapped bytes s.
       let known = w.words part kept wrapped bytes s in
@@ -86,7 +86,7 @@ takes_round x y z f piece from to going g m t = takes_turn x.device z.device f p
 
 -- the buffer after the words that were due and then a turn
 pub gives_round : (x y z : DeviceAndBuffer) (f : DeviceState) (piece : List ℕ) (from to : ℕ) → None ≡ y.device.registers.stop → GivesWordsDue y z → NoWordDue z.device → TurnMoves z.device f piece from to
-    → TakesFirst x.device y.device piece from → GivesWordsOf x y piece from → GivesWordsOf x (with_buffer f z.buffer) piece to
+    → TakesFirst x.device y.device piece from → GivesWordsOfFirst x y piece from → GivesWordsOfFirst x (with_buffer f z.buffer) piece to
 gives_round x y z f piece from to going g due m t w = gives_turn x z f piece from to g.going due m (takes_given x y z piece from going g t) (gives_due x y z piece from going g t w)
 
 -- ---- named facts for the crates above
@@ -94,4 +94,4 @@ gives_round x y z f piece from to going g due m t w = gives_turn x z f piece fro
 -- after a stop nothing is taken
 pub takes_nothing : (part : PartData) (kept : Kept) (wrapped : Bool) (old new : DeviceState) (piece bytes : List ℕ) (count : ℕ) → TakesFirst old new piece count → DeviceStandsFor part kept wrapped old bytes
     → IsSome (first_stop_of_bytes part kept bytes) → (new ≡ old) × (count ≡ 0)
-takes_nothing part kept wrapped old new piece bytes count t s e = t.stopped (stopped_here part kept wrapped old bytes s e)
+takes_nothing part kept wrapped old new piece bytes count t s e = t.stopped (sym (same_stop old (past_of part kept wrapped bytes) s) ∙ e)

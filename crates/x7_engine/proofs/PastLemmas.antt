@@ -2,13 +2,20 @@
 use Rattle.std.proofs.Common.{◌≡◌, ℕ, Bool, true, List, refl, sym, subst, ap, ◌∙◌}
 use Rattle.x7_part.specs.Part.{PartData}
 use Rattle.x7_engine.specs.declared.kept.Kept.{Kept}
-use Rattle.x7_engine.specs.Past.{HasSomePast, Past, TakesJust, later}
+use Rattle.x7_engine.specs.Past.{ForEachPast, HasSomePast, Past, TakesJust, later, past_of}
 use Rattle.x7_engine.specs.Standing.{DeviceState, DeviceStandsFor, with_wrap}
 use Rattle.x7_engine.specs.Undo.{AreEqualButForFed}
 
 -- the past of a device, by the device's own part
 pub own_past : (d : DeviceState) (s : HasSomePast d) → DeviceStandsFor d.part s.past.kept s.past.wrapped d s.past.bytes
 own_past d s = subst (λ (p : PartData). DeviceStandsFor p s.past.kept s.past.wrapped d s.past.bytes) (sym s.has.part_is) s.has
+
+-- what holds of each past of a device with the part in its fields holds of each of its pasts
+pub each_by_fields : (d e : DeviceState) (Fact : Past → Type 0) → d ≡ e → ((kept : Kept) (wrapped : Bool) (bytes : List ℕ) → DeviceStandsFor d.part kept wrapped d bytes → Fact (past_of d.part kept wrapped bytes)) → ForEachPast e Fact
+each_by_fields d e Fact same f part kept wrapped bytes s =
+    let here : d.part ≡ part = ap (λ (x : DeviceState). x.part) same ∙ s.part_is in
+    subst (λ (p : PartData). Fact (past_of p kept wrapped bytes)) here
+    (f kept wrapped bytes (subst (λ (x : DeviceState). DeviceStandsFor d.part kept wrapped x bytes) (sym same) (subst (λ (p : PartData). DeviceStandsFor p kept wrapped e bytes) (sym here) s)))
 
 -- a device that took bytes
 pub past_later : (old new : DeviceState) (more : List ℕ) → TakesJust old new more → HasSomePast old → HasSomePast new

@@ -11,7 +11,7 @@ use Rattle.x7_pipeline.specs.Runs.{put_over}
 use Rattle.x7_pipeline.proofs.LawLemmas.{far_loaded, no_source}
 use Rattle.x7_regs.specs.Command.{command_by}
 use Rattle.x7_regs.specs.declared.command.Command.{Command}
-use Rattle.x7_startup.specs.Startup.{Call, NotBegun, StartupProgress, is_armed, progress_of, since_shutdown}
+use Rattle.x7_startup.specs.Startup.{Call, StartupProgress, is_armed, progress_of, since_shutdown}
 use Rattle.x7_startup.specs.Startup as call
 use Rattle.x7_startup.proofs.CallLemmas.{progress_after_desync, further, is_armed_arm, is_armed_bytes, is_armed_desync, is_armed_drop, progress_arm, progress_bytes, progress_desync, progress_drop}
 use Rattle.x7_flow.specs.Controls.{ctl0_held, has_idcode, mask_held, masked_word, names_part}

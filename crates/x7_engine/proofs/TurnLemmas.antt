@@ -5,6 +5,8 @@ use Rattle.std.specs.Prelude.{nat_lt}
 use Rattle.std.proofs.lemmas.Bool.{lt-ltb}
 use Rattle.std.proofs.lemmas.Bool.Decides.{nat_tests}
 use Rattle.std.proofs.lemmas.List.{length-take-le, take-append-drop}
+use Rattle.x7_packets.specs.declared.cutter.Cut.{Cut}
+use Rattle.x7_packets.specs.declared.cutter.Cut.TheVariants.{Body, Head, Need, Skip, Sync, Word}
 use Rattle.x7_packets.specs.declared.header.Step.{Step}
 use Rattle.x7_packets.specs.declared.header.Step.TheVariants as step
 use Rattle.x7_packets.specs.History.{Bad, History, Placed, Read, Write, entered, entered_all, entry, until}
@@ -18,7 +20,8 @@ use Rattle.x7_engine.specs.declared.kept.Kept.{Kept}
 use Rattle.x7_engine.specs.declared.stop.StopCause.{StopCause}
 use Rattle.x7_engine.specs.declared.stop.StopCause.TheVariants as stop
 use Rattle.x7_engine.specs.Clock.{ClockState, ClockTakes, newest_place}
-use Rattle.x7_engine.specs.Standing.{FramesAre, IsNextAccess, RegistersStandFor, RegistersState, counted_in, frames_due}
+use Rattle.x7_engine.specs.Entering.{run_entered}
+use Rattle.x7_engine.specs.Standing.{FramesAre, HasNoWord, IsNextAccess, RegistersStandFor, RegistersState, counted_in, frames_due}
 use Rattle.x7_engine.specs.State.{history_by, last_counted}
 use Rattle.x7_engine.specs.Stop.{Stopped, why_at_access, first_stop_of_history, stop_at_place, stop_at_firing}
 use Rattle.x7_engine.specs.Value.{read_out}
@@ -243,3 +246,12 @@ quiet_until (Some why) n count left h f p =
     let w : (why ≡ stop.Fault fault.Watchdog) × (left < count) = f why refl in
     ap (λ (l : StopCause). until (last_counted l (n + (count - left))) h) w.0
     ∙ until_placed (n + (count - left) - 1) h (placed_within n (n + (count - left) - 1) h (omega (arith, w.1)) p)
+
+-- a run without a word enters no access
+pub none_entered : (run : Cut) (from : ℕ) (h : History) → HasNoWord run → run_entered run from h ≡ h
+none_entered Need from h none = refl
+none_entered (Skip bytes) from h none = refl
+none_entered Sync from h none = refl
+none_entered (Head w s) from h none = absurd none
+none_entered (Word register w) from h none = absurd none
+none_entered (Body register bytes) from h none = absurd none

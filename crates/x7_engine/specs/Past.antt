@@ -1,7 +1,7 @@
 -- Pasts. A past is all that the state of a device is a function of: the part, what the last reset kept,
 -- whether the flash has ended since then, and the bytes since then. A clause on a device speaks of each
 -- past that the device has (this project's choice).
--- What ends in `_at` takes a past. It is a definition of State.antt, Standing.antt or UntilStarted.antt, which takes the
+-- What ends in `_at` takes a past. Most are a definition of State.antt, Standing.antt or UntilStarted.antt that takes the
 -- past's values one by one: `state_at` is `state_of`, and `first_stop_at` is `first_stop_of_bytes`.
 use Rattle.std.specs.Prelude.{◌≡◌, ℕ, ◌<◌, ◌==◌, ◌++◌, Bool, false, List, length, take, Option, None, Some}
 use Rattle.x7_words.specs.Word.{AreBytes}
@@ -20,7 +20,7 @@ use Rattle.x7_engine.specs.declared.regs.Regs.{Regs}
 use Rattle.x7_engine.specs.declared.until_started.UntilStarted.{UntilStarted}
 use Rattle.x7_engine.specs.declared.until_started.UntilStarted.TheVariants as until
 use Rattle.x7_engine.specs.ReadBuffer.{IsFull, ReadBufState}
-use Rattle.x7_engine.specs.Standing.{DeviceStandsFor, DeviceState, NoWordDue, due_count, due_of, taken_in, reads_given}
+use Rattle.x7_engine.specs.Standing.{DeviceStandsFor, DeviceState, NoWordDue, due_count, taken_in, reads_given, words_still_due}
 use Rattle.x7_engine.specs.State.{cause_of, history_taken, why_stopped, memory_of_bytes, reads_of, state_of, first_stop_of_bytes, taken_of}
 use Rattle.x7_engine.specs.Stop.{Stopped}
 use Rattle.x7_engine.specs.UntilStarted.{has_started, taken_until}
@@ -39,7 +39,7 @@ past_of part kept wrapped bytes = record { part = part; kept = kept; wrapped = w
 
 -- the past after more bytes
 abbrev pub later : Past → List ℕ → Past
-later p more = record { part = p.part; kept = p.kept; wrapped = p.wrapped; bytes = p.bytes ++ more }
+later p more = past_of p.part p.kept p.wrapped (p.bytes ++ more)
 
 -- the device stands for the bytes of a past
 abbrev pub HasPast : DeviceState → Past → Type 0
@@ -53,7 +53,7 @@ pub record HasSomePast (d : DeviceState) : Type 0 where
 -- `Fact` holds of each past that the device has
 abbrev pub ForEachPast : DeviceState → (Past → Type 0) → Type 0
 ForEachPast d Fact = (part : PartData) (kept : Kept) (wrapped : Bool) (bytes : List ℕ)
-    → DeviceStandsFor part kept wrapped d bytes → Fact (record { part = part; kept = kept; wrapped = wrapped; bytes = bytes })
+    → DeviceStandsFor part kept wrapped d bytes → Fact (past_of part kept wrapped bytes)
 
 -- the state that the bytes of a past leave
 abbrev pub state_at : Past → Regs
@@ -85,7 +85,7 @@ reads_given_at d p = reads_given p.part p.kept d p.bytes
 
 -- of the words that a device of a past reads out, those that are still due
 abbrev pub due_at : DeviceState → Past → List ℕ
-due_at d p = due_of p.part p.kept d p.bytes
+due_at d p = words_still_due p.part (history_taken_at p) d.registers.due
 
 -- startup has ended with the bytes of a past
 abbrev pub started_at : Past → Bool
@@ -140,14 +140,6 @@ AnswersAt p d read (fed.ReadFull n) = (first_stop_at p ≡ None) × (0 < due_cou
 abbrev pub AnswersUntilAt : Past → DeviceState → ReadBufState → UntilStarted → Type 0
 AnswersUntilAt p d read (until.Started n) = NoWordDue d
 AnswersUntilAt p d read (until.Fed answer) = AnswersAt p d read answer
-
--- the answer says what the old bytes and then `more` come to
-abbrev pub AnswersFor : DeviceState → DeviceState → List ℕ → ReadBufState → Fed → Type 0
-AnswersFor old new more read answer = ForEachPast old (λ p. AnswersAt (later p more) new read answer)
-
--- the answer of a feed up to the end of startup says what the old bytes and then `more` come to
-abbrev pub AnswersUntilFor : DeviceState → DeviceState → List ℕ → ReadBufState → UntilStarted → Type 0
-AnswersUntilFor old new more read answer = ForEachPast old (λ p. AnswersUntilAt (later p more) new read answer)
 
 -- the bytes taken of a piece, by what is answered
 abbrev pub prefix_taken : List ℕ → Fed → List ℕ

@@ -2,25 +2,16 @@
 use Rattle.std.specs.Prelude.{◌≡◌, ◌<◌, ℕ, ◌++◌, List, None}
 use Rattle.x7_flow.specs.Standing.{FramesFit}
 use Rattle.x7_part.specs.Part.{PartData}
-use Rattle.x7_engine.specs.Course.{Course, course_at}
 use Rattle.x7_engine.specs.declared.registers.Registers.{Registers}
 use Rattle.x7_engine.specs.Entering.{Change, HaveHistory, ForEachHistory}
-use Rattle.x7_engine.specs.Past.{HasPast, Past, reads_given_at}
 use Rattle.x7_engine.specs.ReadBuffer.{IsFull, ReadBufState, with_words}
-use Rattle.x7_engine.specs.Standing.{DeviceState, RegistersStandFor, RegistersState, due_count, registers_in, words_still_due}
+use Rattle.x7_engine.specs.Standing.{RegistersStandFor, due_count, registers_in, words_still_due}
 
 -- of `words` the buffer got the first ones, all but `rest`
 pub record GotAllBut (rest words : List ℕ) (old new : ReadBufState) : Type 0 where
   pub more : List ℕ
   pub read_is : new ≡ with_words old more
   pub words_are : words ≡ more ++ rest
-
--- of the words due the buffer got the first ones, and the registers stand for the same history as before
-pub record RegistersGaveWords (c : Course) (d e : RegistersState) (old new : ReadBufState) : Type 0 where
-  pub more : List ℕ
-  pub read_is : new ≡ with_words old more
-  pub words_are : words_still_due c.part c.history d.due ≡ more ++ words_still_due c.part c.history e.due
-  pub stands : RegistersStandFor c.part c.kept e c.history c.taken
 
 -- registers that can give the words due: nothing stopped them, their frames are those of a device
 -- of the part, and they stand for a history
@@ -34,11 +25,5 @@ pub record GaveWordsDue (x : Change) (old new : ReadBufState) : Type 0 where
   pub full : 0 < due_count x.new.due → IsFull new
   pub going : x.new.stop ≡ None
   pub frames : FramesFit x.part x.new.frames
-  pub given : ForEachHistory x.part x.old (λ kept h n. RegistersGaveWords (course_at x.part kept h n) x.old x.new old new)
-
--- of the words due the buffer got the first ones, and the device stands for the same bytes as before
-pub record DeviceGaveWords (p : Past) (d e : DeviceState) (old new : ReadBufState) : Type 0 where
-  pub more : List ℕ
-  pub read_is : new ≡ with_words old more
-  pub given_are : reads_given_at e p ≡ reads_given_at d p ++ more
-  pub stands : HasPast e p
+  pub stands : ForEachHistory x.part x.old (λ kept h n. RegistersStandFor x.part kept x.new h n)
+  pub given : ForEachHistory x.part x.old (λ kept h n. GotAllBut (words_still_due x.part h x.new.due) (words_still_due x.part h x.old.due) old new)

@@ -284,10 +284,6 @@ pub record DeviceStandsFor (part : PartData) (kept : Kept) (wrapped : Bool) (d :
 abbrev pub reads_given : PartData → Kept → DeviceState → List ℕ → List ℕ
 reads_given part kept d bytes = take (length (reads_of part kept bytes) - due_count d.registers.due) (reads_of part kept bytes)
 
--- the words read out that are still due
-abbrev pub due_of : PartData → Kept → DeviceState → List ℕ → List ℕ
-due_of part kept d bytes = words_still_due part (history_taken part kept bytes) d.registers.due
-
 -- how many bytes of a piece of this length are taken, by what a feed answers
 abbrev pub taken_in : ℕ → Fed → ℕ
 taken_in length fed.All = length

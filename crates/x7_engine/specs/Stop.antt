@@ -1,4 +1,5 @@
--- What stops a device (UG470, configuration registers; the order in which they are looked at is this project's choice).
+-- What stops a device (UG470, configuration registers; the order in which the causes are looked at is this project's
+-- choice).
 use Rattle.std.specs.Prelude.{ℕ, ◌-◌, ◌==◌, ◌&&◌, ◌||◌, Bool, not, if◌then◌else◌, [], ◌∷◌, Option, None, Some}
 use Rattle.std.specs.Option.{option_or}
 use Rattle.x7_packets.specs.History.{Access, Write, Read, Bad, History, executes}

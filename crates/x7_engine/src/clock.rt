@@ -1,5 +1,5 @@
 //! Startup and the watchdog of a device, which the bytes taken move.
-ghost use Rattle.std.specs.Prelude.{◌≡◌, ◌<◌, ◌≤◌, ◌+◌, ◌++◌, [], ℕ, true, None, IfSome, IsTrue, ◌↔◌, ◌==◌, nat_le};
+ghost use Rattle.std.specs.Prelude.{◌≡◌, ◌<◌, ◌≤◌, ◌+◌, ◌++◌, [], ℕ, true, None, IfSome, IsTrue, ◌==◌, nat_le};
 ghost use Rattle.x7_packets.specs.History.{History};
 ghost use Rattle.x7_part.specs.Part.{PartData};
 ghost use Rattle.x7_flow.specs.Standing.{word_to, written_to};

@@ -12,8 +12,8 @@ ghost use Rattle.x7_engine.specs.Stop.{fault_of_stop};
 ghost use Rattle.x7_engine.specs.Turns.{MayTakePiece, TurnAnswers, TurnMoves};
 ghost use Rattle.x7_engine.specs.Value.{failure_of};
 ghost use Rattle.x7_engine.specs.declared.fault.Fault.{Fault as FaultData};
-ghost use Rattle.x7_engine.specs.Feeding.{GivesWordsDue, GivesWordsOf, TakesFirst, with_buffer};
-ghost use Rattle.x7_engine.specs.Past.{AnswersFor, HasSomePast, ForEachPast, prefix_taken, state_at, first_stop_at};
+ghost use Rattle.x7_engine.specs.Feeding.{AnswersFor, GivesWordsDue, GivesWordsOfFirst, TakesFirst, with_buffer};
+ghost use Rattle.x7_engine.specs.Past.{HasSomePast, ForEachPast, state_at, first_stop_at};
 
 mod boot;
 mod started;
@@ -313,8 +313,8 @@ impl Device {
     pub fn feed(&mut self, piece: &[u8], read: &mut ReadBuf) -> Fed
         requires { CanBeGiven self.old (length piece.now) }
         ensures takes { TakesFirst self.old self.new piece.now (taken_in (length piece.now) result) }
-        ensures gives { GivesWordsOf (with_buffer self.old read.old) (with_buffer self.new read.new) piece.now (taken_in (length piece.now) result) }
-        ensures answer { AnswersFor self.old self.new (prefix_taken piece.now result) read.new result }
+        ensures gives { GivesWordsOfFirst (with_buffer self.old read.old) (with_buffer self.new read.new) piece.now (taken_in (length piece.now) result) }
+        ensures answer { AnswersFor self.old (with_buffer self.new read.new) piece.now result }
         ensures answers_stop { (why : StopCause) → self.old.registers.stop ≡ Some why → result ≡ answer_at_stop why 0 }
     {
         read.holds_within_most();

@@ -1,5 +1,5 @@
 //! The running check, and the flags that written words set and clear.
-ghost use Rattle.std.specs.Prelude.{◌≡◌, ◌<◌, false, ◌||◌, ◌&&◌, ℕ, ◌∷◌, [], length, ◌%◌};
+ghost use Rattle.std.specs.Prelude.{◌≡◌, ◌<◌, false, ◌||◌, ◌&&◌, ℕ, ◌∷◌, []};
 ghost use Rattle.x7_words.specs.Word.{AreWholeWords};
 ghost use Rattle.x7_packets.specs.History.{entry, History, Write};
 ghost use Rattle.x7_crc.specs.RunningCheck.{executed_after};

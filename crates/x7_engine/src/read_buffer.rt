@@ -1,5 +1,5 @@
 //! Words read out of a device.
-ghost use Rattle.std.specs.Prelude.{◌≡◌, ◌≤◌, ◌<◌, ◌-◌, ◌∷◌, [], false, length, replicate, ◌==◌, ℕ, List, IfOk, IsTrue, Some, None};
+ghost use Rattle.std.specs.Prelude.{◌≡◌, ◌≤◌, ◌<◌, ◌-◌, ◌∷◌, [], false, replicate, ◌==◌, IfOk, IsTrue, Some, None};
 ghost use Rattle.x7_engine.specs.ReadBuffer.{HoldsWithinMost, IsFull, dropping, no_room, with_words};
 
 use std::alloc::Global;
@@ -102,7 +102,7 @@ impl ReadBuf {
     pub(crate) fn holds_within_most(&self)
         ensures { HoldsWithinMost self.now.most self.now.words }
     {
-        // the words are what it rests on
+        // the contract of `words` says it
         let _words = self.words();
     }
 

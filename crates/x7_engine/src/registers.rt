@@ -1,5 +1,5 @@
 //! The registers of a device, and what an access does to them.
-ghost use Rattle.std.specs.Prelude.{◌≡◌, ◌≤◌, ◌<◌, ◌+◌, ◌*◌, ◌/◌, ◌%◌, ◌&&◌, ℕ, [], true, Option, None, Some, ◌-◌, length};
+ghost use Rattle.std.specs.Prelude.{◌≡◌, ◌≤◌, ◌<◌, ◌+◌, ◌*◌, ◌/◌, ◌&&◌, ℕ, [], true, None, Some, ◌-◌};
 ghost use Rattle.std.specs.Option.{option_or};
 ghost use Rattle.x7_words.specs.Word.{AreWholeWords};
 ghost use Rattle.x7_packets.specs.Cutter.{IsRun};
@@ -173,30 +173,32 @@ impl Registers {
         ensures counts { (n : ℕ) → counted_in result n ≡ n }
     {
         let idcode = part.idcode();
-        let Progress {
-            check,
-            has_idcode,
-            ..
-        } = self.progress;
-        let no_idcode = Some(StopCause::Fault(Fault::Id {
+        let check = self.progress.check;
+        let lacks_idcode = !self.progress.has_idcode;
+        let no_idcode = StopCause::Fault(Fault::Id {
             want: idcode,
             got: 0,
-        }));
+        });
+        let start_refused = lacks_idcode && is_command(Command::Start, executed);
+        let encrypted = StopCause::Fault(Fault::Encrypted);
         match reg {
-            Reg::Crc if word != check => Some(StopCause::Fault(Fault::Crc {
+            Reg::Crc => (word != check).then_some(StopCause::Fault(Fault::Crc {
                 want: check,
                 got: word,
             })),
-            Reg::Far | Reg::Cmd if is_command(Command::Start, executed) && !has_idcode => no_idcode,
-            Reg::Fdri | Reg::Mfwr if !has_idcode => no_idcode,
-            Reg::Cmd if is_command(Command::Iprog, executed) && !is_fallback(self.kind) => Some(
+            Reg::Far => start_refused.then_some(no_idcode),
+            Reg::Cmd if start_refused => Some(no_idcode),
+            Reg::Cmd => (is_command(Command::Iprog, executed) && !is_fallback(self.kind)).then_some(
                 StopCause::Iprog,
             ),
-            Reg::Ctl0
-                if has_dec(masked_word(self.controls.ctl0, self.words.held(Reg::Mask), word)) =>
-                Some(StopCause::Fault(Fault::Encrypted)),
-            Reg::Cbc => Some(StopCause::Fault(Fault::Encrypted)),
-            Reg::Idcode if !is_same_idcode(idcode, word) => Some(StopCause::Fault(Fault::Id {
+            Reg::Fdri | Reg::Mfwr => lacks_idcode.then_some(no_idcode),
+            Reg::Ctl0 => has_dec(masked_word(
+                self.controls.ctl0,
+                self.words.held(Reg::Mask),
+                word,
+            )).then_some(encrypted),
+            Reg::Cbc => Some(encrypted),
+            Reg::Idcode => (!is_same_idcode(idcode, word)).then_some(StopCause::Fault(Fault::Id {
                 want: idcode,
                 got: word,
             })),
@@ -223,7 +225,7 @@ impl Registers {
         self.stop = first_cause(why, refused);
     }
 
-    /// Takes a word written to a register in which it stays, and is folded.
+    /// Takes a word written to a register in which it stays, and is folded into the check.
     fn pass(&mut self, plain: PlainNumber, word: u32)
         ensures { (part : PartData) → MayTakeWords part self.old → TookWrite (change_of part self.old self.new) plain.register word }
     {
@@ -278,8 +280,8 @@ impl Registers {
         0
     }
 
-    /// Takes words written to a register in which they stay, and are folded, up to a byte at which the watchdog fires.
-    /// Says how many bytes these are.
+    /// Takes words written to a register in which they stay, and are folded into the check, up to a byte at which the
+    /// watchdog fires. Says how many bytes these are.
     fn pass_all(&mut self, part: &Part, plain: PlainNumber, bytes: &[u8]) -> usize
         requires may_take { MayTakeWords part.now self.old }
         requires whole { AreWholeWords bytes.now }
@@ -412,9 +414,7 @@ impl Registers {
         ensures reads { RunReads run.entry count (change_of part.now self.old self.new) (count - result) }
     {
         match run {
-            Cut::Need => self.take_bytes(part, count),
-            Cut::Skip(_) => self.take_bytes(part, count),
-            Cut::Sync => self.take_bytes(part, count),
+            Cut::Need | Cut::Skip(_) | Cut::Sync => self.take_bytes(part, count),
             Cut::Head(_, step) => self.take_header(part, step, count),
             Cut::Word(register, word) => self.take_word(
                 part,

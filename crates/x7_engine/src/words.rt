@@ -1,5 +1,5 @@
 //! The last words written to the registers.
-ghost use Rattle.std.specs.Prelude.{◌≡◌, ◌<◌, ℕ, ◌∷◌, [], slice_index, ◌%◌, length};
+ghost use Rattle.std.specs.Prelude.{◌≡◌, ◌<◌, ℕ, ◌∷◌, [], slice_index};
 ghost use Rattle.x7_packets.specs.History.{entered_all, entry, History, Write};
 ghost use Rattle.x7_packets.specs.Packet.{payload_steps};
 ghost use Rattle.x7_words.specs.Word.{AreWholeWords, words_of_bytes};

@@ -38,7 +38,7 @@ pairs_loaded part s source w later = pairs_from part s (flow_loaded part s sourc
 abbrev pub pairs_after : PartData → History → History → List PlanRow
 pairs_after part earlier later = pairs_from part (settings_of part.idcode earlier) (flow_of part earlier) later
 
--- a history with a word written to FAR
+-- a history, and then a word written to FAR at a place
 abbrev pub after_load : ℕ → ℕ → History → History
 after_load w place h = entry (Write (number_of reg.Far) w) place ∷ h
 

@@ -10,7 +10,7 @@ use Rattle.x7_pipeline.specs.Runs.{rest_of, frames_of}
 use Rattle.x7_pipeline.specs.FarAsRead.{has_frame_at}
 use Rattle.x7_pipeline.specs.Copies.{is_mfw}
 
--- the base is no address
+-- the fault of a base that is no address
 unfoldable pub address_fault : PartData → ℕ → Option RunFault
 address_fault part base = if has_frame_at part base then None else Some (Address base)
 

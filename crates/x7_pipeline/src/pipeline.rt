@@ -128,7 +128,8 @@ impl Pipeline {
         self.end_run();
     }
 
-    /// A command: a new run begins at FAR as read. MFW takes the run's newest whole frame as the source.
+    /// A command: a new run begins at FAR as read. MFW right after WCFG takes the ended run's newest whole frame as the
+    /// source, and any other command leaves none.
     pub fn command(&mut self, command: Command, part: &Part)
         ensures stands { FlowGoesOn part.now self.old self.new (begun_by part.now command) }
         ensures part { IsPipelineOf part.now self.old → IsPipelineOf part.now self.new }

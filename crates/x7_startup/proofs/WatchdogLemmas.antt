@@ -66,10 +66,6 @@ count_watched off t calls e =
 pub count_loaded : (off : Bool) (t : ℕ) (calls : List WatchCall) (c : WatchCall) → has_load (c ∷ []) ≡ true → watched_count off t (calls ++ c ∷ []) ≡ 0
 count_loaded off t calls c h = ap (bytes_on off (timer_after t (calls ++ c ∷ []))) (since_loaded calls c h)
 
-both : (a b : Bool) → IsTrue (a && b) → IsTrue a × IsTrue b
-both true b t = (refl, t)
-both false b t = absurd (cc)
-
 equal : (x y : ℕ) → IsTrue (x == y) → x ≡ y
 equal x y t = elim (eqb_tells x y) [ inl e ↦ e.1 | inr e ↦ absurd (cc (e.0, t)) ]
 

@@ -1,5 +1,5 @@
 //! The startup sequence: it moves by a phase a tick, save where COR0 makes it wait.
-ghost use Rattle.std.specs.Prelude.{◌≡◌, ◌<◌, ◌≤◌, ◌+◌, ◌∷◌, ◌++◌, min, ℕ, List, [], replicate, is_some};
+ghost use Rattle.std.specs.Prelude.{◌≡◌, ◌<◌, ◌≤◌, ◌+◌, ◌∷◌, min, ℕ, List, [], replicate, is_some};
 ghost use Rattle.x7_startup.specs.Lines.{done_line, gts_line, gwe_line, AreLines};
 ghost use Rattle.x7_startup.specs.Phases.{last_phase, tick_limit, tick_size};
 ghost use Rattle.x7_startup.specs.Startup.{AddsCalls, Call, Arm, Desync, Byte, DropBack, StartupState, StandsForCalls, IsPhaseOf, progress_of, cor0_of, ticks_of};

@@ -6,8 +6,8 @@ ghost use Rattle.x7_engine.specs.Standing.{CanBeGiven, HasBegun, HasStopped, NoW
 ghost use Rattle.x7_engine.specs.Turns.{MayTakePiece, TurnAnswers};
 ghost use Rattle.x7_engine.specs.UntilStarted.{HasNotBegun, NoneBegun, NoneStarted, says_started, taken_until};
 ghost use Rattle.x7_engine.specs.declared.until_started.UntilStarted.TheVariants as until;
-ghost use Rattle.x7_engine.specs.Feeding.{GivesWordsOf, TakesFirst, with_buffer};
-ghost use Rattle.x7_engine.specs.Past.{AnswersUntilFor, ForEachPast, later, prefix_taken_until, started_at, state_at};
+ghost use Rattle.x7_engine.specs.Feeding.{AnswersUntilFor, GivesWordsOfFirst, TakesFirst, with_buffer};
+ghost use Rattle.x7_engine.specs.Past.{ForEachPast, later, prefix_taken_until, started_at, state_at};
 
 use super::{Device, answer_at_stop};
 use crate::fed::Fed;
@@ -68,10 +68,10 @@ impl Device {
     pub fn feed_until_started(&mut self, piece: &[u8], read: &mut ReadBuf) -> UntilStarted
         requires { CanBeGiven self.old (length piece.now) }
         ensures takes { TakesFirst self.old self.new piece.now (taken_until (length piece.now) result) }
-        ensures gives { GivesWordsOf (with_buffer self.old read.old) (with_buffer self.new read.new) piece.now (taken_until (length piece.now) result) }
+        ensures gives { GivesWordsOfFirst (with_buffer self.old read.old) (with_buffer self.new read.new) piece.now (taken_until (length piece.now) result) }
         ensures first { ForEachPast self.old (λ p. NoneStarted p.part p.kept p.bytes piece.now (taken_until (length piece.now) result)) }
         ensures started { ForEachPast self.old (λ p. NoWordDue self.new → says_started result ≡ started_at (later p (prefix_taken_until piece.now result))) }
-        ensures answer { AnswersUntilFor self.old self.new (prefix_taken_until piece.now result) read.new result }
+        ensures answer { AnswersUntilFor self.old (with_buffer self.new read.new) piece.now result }
     {
         read.holds_within_most();
         let mut at = 0;

@@ -6,8 +6,8 @@ ghost use Rattle.x7_engine.specs.ReadBuffer.{dropping};
 ghost use Rattle.x7_engine.specs.declared.stop.StopCause.{StopCause};
 ghost use Rattle.x7_engine.specs.Standing.{CanBeGiven, DeviceState, DeviceStandsFor, NoWordDue, answer_at_stop, fed_of, taken_in};
 ghost use Rattle.x7_engine.specs.Undo.{AreEqualButForFed, IsUndoOf, SavesDevice, TookFewSince, UndoLeadsBack, device_saved, undo_reach};
-ghost use Rattle.x7_engine.specs.Feeding.{TakesFirst};
-ghost use Rattle.x7_engine.specs.Past.{AnswersFor, ForEachPast, prefix_taken, HasPast, Past, later};
+ghost use Rattle.x7_engine.specs.Feeding.{AnswersFor, TakesFirst, with_buffer};
+ghost use Rattle.x7_engine.specs.Past.{ForEachPast, HasPast, Past, later};
 
 use super::Device;
 use crate::fed::Fed;
@@ -95,7 +95,7 @@ impl Device {
         requires no_word_due { NoWordDue self.old }
         requires undo { IsUndoOf self.old.part undo.old }
         ensures takes { TakesFirst self.old self.new piece.now (taken_in (length piece.now) result) }
-        ensures answer { AnswersFor self.old self.new (prefix_taken piece.now result) dropping result }
+        ensures answer { AnswersFor self.old (with_buffer self.new dropping) piece.now result }
         ensures answers_stop { (why : StopCause) → self.old.registers.stop ≡ Some why → result ≡ answer_at_stop why 0 }
         ensures saves { SavesDevice undo.new self.old }
         ensures back { ForEachPast self.old (λ p. UndoLeadsBack undo.new self.new self.old) }

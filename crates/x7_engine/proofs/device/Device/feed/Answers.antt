@@ -3,7 +3,7 @@ use Rattle.std.specs.Option.{is_some}
 use Rattle.x7_packets.specs.Cutter.{CutterState, calls_left}
 use Rattle.x7_engine.specs.declared.fed.Fed.{Fed}
 use Rattle.x7_engine.specs.declared.stop.StopCause.{StopCause}
-use Rattle.x7_engine.specs.Feeding.{GivesWordsOf, TakesFirst, with_buffer}
+use Rattle.x7_engine.specs.Feeding.{GivesWordsOfFirst, TakesFirst, with_buffer}
 use Rattle.x7_engine.specs.Past.{AnswersAt, past_of}
 use Rattle.x7_engine.specs.Standing.{DeviceState, answer_at_stop, due_count, taken_in}
 use Rattle.x7_engine.specs.Stop.{stop_at_place}
@@ -28,7 +28,7 @@ pub returns-in-Some-clause-takes : goal.returns-in-Some-clause-takes
 returns-in-Some-clause-takes c = subst (TakesFirst c.args.self.now c.runs.self c.args.piece.now) (sym (stop_count c)) c.runs.invariant.takes
 
 pub returns-in-Some-clause-gives : goal.returns-in-Some-clause-gives
-returns-in-Some-clause-gives c = subst (GivesWordsOf (with_buffer c.args.self.now c.args.read.now) (with_buffer c.runs.self c.runs.read) c.args.piece.now) (sym (stop_count c)) c.runs.invariant.gives
+returns-in-Some-clause-gives c = subst (GivesWordsOfFirst (with_buffer c.args.self.now c.args.read.now) (with_buffer c.runs.self c.runs.read) c.args.piece.now) (sym (stop_count c)) c.runs.invariant.gives
 
 pub returns-in-Some-clause-answers_stop : goal.returns-in-Some-clause-answers_stop
 returns-in-Some-clause-answers_stop c = λ why e.
@@ -58,7 +58,7 @@ returns-then-not-give-clause-gives c =
 pub returns-then-not-give-clause-answer : goal.returns-then-not-give-clause-answer
 returns-then-not-give-clause-answer c = λ part kept wrapped bytes s.
     let taken : List ℕ = bytes ++ take c.runs.at c.args.piece.now in
-    let stands = (c.give.ensures.gives.given part kept wrapped taken (c.runs.invariant.takes.stands part kept wrapped bytes s)).stands in
+    let stands = c.give.ensures.gives.stands part kept wrapped taken (c.runs.invariant.takes.stands part kept wrapped bytes s) in
     let due : 0 < due_count c.give.new.self.registers.due = some_due (due_count c.give.new.self.registers.due) c.give.result c.give.ensures.none_left c.if-not-give.true in
     (stands.stop_is ∙ ap (stop_at_place (length taken)) c.give.ensures.gives.going, due, c.give.ensures.gives.full due)
 
@@ -75,7 +75,7 @@ returns-then-turn-clause-takes c =
 
 pub returns-then-turn-clause-gives : goal.returns-then-turn-clause-gives
 returns-then-turn-clause-gives c =
-    subst (GivesWordsOf (with_buffer c.args.self.now c.args.read.now) (with_buffer c.turn.new.self c.give.new.read) c.args.piece.now) (c.turn.ensures.used_up c.if-turn.true).all
+    subst (GivesWordsOfFirst (with_buffer c.args.self.now c.args.read.now) (with_buffer c.turn.new.self c.give.new.read) c.args.piece.now) (c.turn.ensures.used_up c.if-turn.true).all
     (gives_round (with_buffer c.args.self.now c.args.read.now) (with_buffer c.runs.self c.runs.read) (with_buffer c.give.new.self c.give.new.read) c.turn.new.self c.args.piece.now c.runs.at c.turn.new.at
     c.in_default.ensures c.give.ensures.gives (c.give.ensures.none_left.0 c.if-not-give.false) c.turn.ensures.turned c.runs.invariant.takes c.runs.invariant.gives)
 

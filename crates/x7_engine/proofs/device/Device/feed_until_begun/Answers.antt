@@ -56,12 +56,12 @@ returns-then-not-give-clause-takes c =
 pub returns-then-not-give-clause-no_word_due : goal.returns-then-not-give-clause-no_word_due
 returns-then-not-give-clause-no_word_due c = λ part kept wrapped bytes s.
     let given = c.give.ensures.gives.given part kept wrapped (bytes ++ take c.runs.at c.args.piece.now) (c.runs.invariant.takes.stands part kept wrapped bytes s) in
-    none_full _ c.give.new.read (ap (λ (b : ReadBufState). b.most) given.read_is ∙ c.runs.invariant.drops part kept wrapped bytes s) c.give.ensures.gives.full
+    none_full _ c.give.new.read (ap (λ (b : ReadBufState). b.most) given.1 ∙ c.runs.invariant.drops part kept wrapped bytes s) c.give.ensures.gives.full
 
 pub returns-then-not-give-clause-ends : goal.returns-then-not-give-clause-ends
 returns-then-not-give-clause-ends c = λ part kept wrapped bytes s l.
     let given = c.give.ensures.gives.given part kept wrapped (bytes ++ take c.runs.at c.args.piece.now) (c.runs.invariant.takes.stands part kept wrapped bytes s) in
-    let none : NoWordDue c.give.new.self = none_full _ c.give.new.read (ap (λ (b : ReadBufState). b.most) given.read_is ∙ c.runs.invariant.drops part kept wrapped bytes s) c.give.ensures.gives.full in
+    let none : NoWordDue c.give.new.self = none_full _ c.give.new.read (ap (λ (b : ReadBufState). b.most) given.1 ∙ c.runs.invariant.drops part kept wrapped bytes s) c.give.ensures.gives.full in
     let yes : c.give.result ≡ true = c.give.ensures.none_left.1 none in
     let no : c.give.result ≡ false = c.if-not-give.true in
     absurd (let both : true ≡ false = sym yes ∙ no in cc)
@@ -95,7 +95,7 @@ returns-then-turn-clause-takes c =
 pub returns-then-turn-clause-first : goal.returns-then-turn-clause-first
 returns-then-turn-clause-first c = λ part kept wrapped bytes s.
     let taken : List ℕ = bytes ++ take c.runs.at c.args.piece.now in
-    let given : DeviceStandsFor part kept wrapped c.give.new.self taken = (c.give.ensures.gives.given part kept wrapped taken (c.runs.invariant.takes.stands part kept wrapped bytes s)).stands in
+    let given : DeviceStandsFor part kept wrapped c.give.new.self taken = c.give.ensures.gives.stands part kept wrapped taken (c.runs.invariant.takes.stands part kept wrapped bytes s) in
     unbegun_on part kept wrapped c.give.new.self c.turn.new.self bytes c.args.piece.now c.runs.at c.turn.new.at c.turn.ensures.turned.forward c.turn.ensures.turned.within c.give.ensures.gives.going given
     (c.turn.ensures.turned.turn.takes part kept wrapped taken given) (c.turn.ensures.turned.turn.commands part kept wrapped taken given)
     (c.has_begun.ensures.not_begun part kept wrapped taken given c.if-has_begun.false) (c.runs.invariant.first part kept wrapped bytes s)
@@ -118,10 +118,10 @@ runs-preserved c =
       fits = omega (arith, same, c.turn.ensures.turned.taken, c.turn.ensures.turned.forward, c.turn.ensures.turned.within, c.runs.invariant.fits);
       drops = λ part kept wrapped bytes s.
           let given = c.give.ensures.gives.given part kept wrapped (bytes ++ take c.runs.at piece) (c.runs.invariant.takes.stands part kept wrapped bytes s) in
-          ap (λ (b : ReadBufState). b.most) given.read_is ∙ c.runs.invariant.drops part kept wrapped bytes s;
+          ap (λ (b : ReadBufState). b.most) given.1 ∙ c.runs.invariant.drops part kept wrapped bytes s;
       first = λ part kept wrapped bytes s.
           let taken : List ℕ = bytes ++ take c.runs.at piece in
-          let given : DeviceStandsFor part kept wrapped c.give.new.self taken = (c.give.ensures.gives.given part kept wrapped taken (c.runs.invariant.takes.stands part kept wrapped bytes s)).stands in
+          let given : DeviceStandsFor part kept wrapped c.give.new.self taken = c.give.ensures.gives.stands part kept wrapped taken (c.runs.invariant.takes.stands part kept wrapped bytes s) in
           unbegun_on part kept wrapped c.give.new.self c.turn.new.self bytes piece c.runs.at at c.turn.ensures.turned.forward c.turn.ensures.turned.within c.give.ensures.gives.going given
           (c.turn.ensures.turned.turn.takes part kept wrapped taken given) (c.turn.ensures.turned.turn.commands part kept wrapped taken given)
           (c.has_begun.ensures.not_begun part kept wrapped taken given c.if-has_begun.false) (c.runs.invariant.first part kept wrapped bytes s);

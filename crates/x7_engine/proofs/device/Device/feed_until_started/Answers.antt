@@ -8,7 +8,7 @@ use Rattle.x7_engine.specs.Standing.{DeviceStandsFor, due_count, taken_in}
 use Rattle.x7_engine.specs.Stop.{stop_at_place}
 use Rattle.x7_engine.specs.UntilStarted.{NoneStarted, has_started, says_started, taken_until}
 use Rattle.x7_engine.proofs.FeedLemmas.{answers_stop, fewer_left, some_due, stands_on, taken_by_stop}
-use Rattle.x7_engine.specs.Feeding.{GivesWordsOf, TakesFirst, with_buffer}
+use Rattle.x7_engine.specs.Feeding.{GivesWordsOfFirst, TakesFirst, with_buffer}
 use Rattle.x7_engine.proofs.FeedingLemmas.{gives_due, gives_none, gives_round, takes_given, takes_none, takes_round}
 use Rattle.x7_engine.proofs.UntilLemmas.{answers_until, count_is, none_on, says_answer}
 use Rattle.x7_engine.proofs.device.Device.feed_until_started.Goals as goal
@@ -51,7 +51,7 @@ returns-in-Some-clause-answer c = λ part kept wrapped bytes s.
     (answers_until (past_of part kept wrapped (bytes ++ take c.runs.at piece)) c.runs.self c.runs.read c.started.result c.answer_at_stop.result c.runs.at (here.none_due_at_stop c.in-Some.stop (sym c.in-Some.ensures)) answers))
 
 pub returns-in-Some-clause-gives : goal.returns-in-Some-clause-gives
-returns-in-Some-clause-gives c = subst (GivesWordsOf (with_buffer c.args.self.now c.args.read.now) (with_buffer c.runs.self c.runs.read) c.args.piece.now) (sym (stop_count c)) c.runs.invariant.gives
+returns-in-Some-clause-gives c = subst (GivesWordsOfFirst (with_buffer c.args.self.now c.args.read.now) (with_buffer c.runs.self c.runs.read) c.args.piece.now) (sym (stop_count c)) c.runs.invariant.gives
 
 -- ---- words due
 
@@ -64,7 +64,7 @@ returns-then-not-give-clause-started c = λ part kept wrapped bytes s none. absu
 pub returns-then-not-give-clause-answer : goal.returns-then-not-give-clause-answer
 returns-then-not-give-clause-answer c = λ part kept wrapped bytes s.
     let taken : List ℕ = bytes ++ take c.runs.at c.args.piece.now in
-    let stands = (c.give.ensures.gives.given part kept wrapped taken (c.runs.invariant.takes.stands part kept wrapped bytes s)).stands in
+    let stands = c.give.ensures.gives.stands part kept wrapped taken (c.runs.invariant.takes.stands part kept wrapped bytes s) in
     let due : 0 < due_count c.give.new.self.registers.due = some_due (due_count c.give.new.self.registers.due) c.give.result c.give.ensures.none_left c.if-not-give.true in
     (stands.stop_is ∙ ap (stop_at_place (length taken)) c.give.ensures.gives.going, due, c.give.ensures.gives.full due)
 
@@ -91,7 +91,7 @@ returns-then-started-clause-takes c =
 pub returns-then-started-clause-started : goal.returns-then-started-clause-started
 returns-then-started-clause-started c = λ part kept wrapped bytes s due.
     let taken : List ℕ = bytes ++ take c.runs.at c.args.piece.now in
-    sym c.if-started.true ∙ c.started-in-runs.ensures part kept wrapped taken (c.give.ensures.gives.given part kept wrapped taken (c.runs.invariant.takes.stands part kept wrapped bytes s)).stands
+    sym c.if-started.true ∙ c.started-in-runs.ensures part kept wrapped taken (c.give.ensures.gives.stands part kept wrapped taken (c.runs.invariant.takes.stands part kept wrapped bytes s))
 
 pub returns-then-started-clause-gives : goal.returns-then-started-clause-gives
 returns-then-started-clause-gives c =
@@ -115,19 +115,19 @@ returns-then-turn_until_started-clause-first c = λ part kept wrapped bytes s.
     let piece : List ℕ = c.args.piece.now in
     let at : ℕ = c.turn_until_started.new.at in
     let taken : List ℕ = bytes ++ take c.runs.at piece in
-    let given = c.give.ensures.gives.given part kept wrapped taken (c.runs.invariant.takes.stands part kept wrapped bytes s) in
-    let not : has_started part kept taken ≡ false = sym (c.started-in-runs.ensures part kept wrapped taken given.stands) ∙ c.if-started.false in
+    let given = c.give.ensures.gives.stands part kept wrapped taken (c.runs.invariant.takes.stands part kept wrapped bytes s) in
+    let not : has_started part kept taken ≡ false = sym (c.started-in-runs.ensures part kept wrapped taken given) ∙ c.if-started.false in
     subst (NoneStarted part kept bytes piece) (sym (end_count c))
-    (none_on part kept bytes piece c.runs.at at c.turn_until_started.ensures.took.turned.forward (c.runs.invariant.first part kept wrapped bytes s) (c.turn_until_started.ensures.first part kept wrapped taken given.stands not))
+    (none_on part kept bytes piece c.runs.at at c.turn_until_started.ensures.took.turned.forward (c.runs.invariant.first part kept wrapped bytes s) (c.turn_until_started.ensures.first part kept wrapped taken given not))
 
 pub returns-then-turn_until_started-clause-started : goal.returns-then-turn_until_started-clause-started
 returns-then-turn_until_started-clause-started c = λ part kept wrapped bytes s due.
     let piece : List ℕ = c.args.piece.now in
     let at : ℕ = c.turn_until_started.new.at in
     let taken : List ℕ = bytes ++ take c.runs.at piece in
-    let given = c.give.ensures.gives.given part kept wrapped taken (c.runs.invariant.takes.stands part kept wrapped bytes s) in
+    let given = c.give.ensures.gives.stands part kept wrapped taken (c.runs.invariant.takes.stands part kept wrapped bytes s) in
     let here : DeviceStandsFor part kept wrapped c.turn_until_started.new.self (bytes ++ take at piece) =
-    stands_on part kept wrapped c.give.new.self c.turn_until_started.new.self bytes piece c.runs.at at c.turn_until_started.ensures.took.turned.forward (c.turn_until_started.ensures.took.turned.turn.takes part kept wrapped) given.stands in
+    stands_on part kept wrapped c.give.new.self c.turn_until_started.new.self bytes piece c.runs.at at c.turn_until_started.ensures.took.turned.forward (c.turn_until_started.ensures.took.turned.turn.takes part kept wrapped) given in
     ap says_started c.answer-then-turn_until_started.ensures ∙ says_answer c.started-then-turn_until_started.result fed.All at
     ∙ c.started-then-turn_until_started.ensures part kept wrapped (bytes ++ take at piece) here
     ∙ ap (λ (k : ℕ). has_started part kept (bytes ++ take k piece)) (sym (end_count c))
@@ -139,16 +139,16 @@ returns-then-turn_until_started-clause-answer c = λ part kept wrapped bytes s.
     let all : List ℕ = bytes ++ take at piece in
     let used = c.turn_until_started.ensures.took.used_up c.if-turn_until_started.true in
     let taken : List ℕ = bytes ++ take c.runs.at piece in
-    let given = c.give.ensures.gives.given part kept wrapped taken (c.runs.invariant.takes.stands part kept wrapped bytes s) in
+    let given = c.give.ensures.gives.stands part kept wrapped taken (c.runs.invariant.takes.stands part kept wrapped bytes s) in
     let here : DeviceStandsFor part kept wrapped c.turn_until_started.new.self all =
-    stands_on part kept wrapped c.give.new.self c.turn_until_started.new.self bytes piece c.runs.at at c.turn_until_started.ensures.took.turned.forward (c.turn_until_started.ensures.took.turned.turn.takes part kept wrapped) given.stands in
+    stands_on part kept wrapped c.give.new.self c.turn_until_started.new.self bytes piece c.runs.at at c.turn_until_started.ensures.took.turned.forward (c.turn_until_started.ensures.took.turned.turn.takes part kept wrapped) given in
     subst (λ (k : ℕ). AnswersUntilAt (past_of part kept wrapped (bytes ++ take k piece)) c.turn_until_started.new.self c.give.new.read c.answer-then-turn_until_started.result) (sym (end_count c))
     (subst (AnswersUntilAt (past_of part kept wrapped all) c.turn_until_started.new.self c.give.new.read) (sym c.answer-then-turn_until_started.ensures)
     (answers_until (past_of part kept wrapped all) c.turn_until_started.new.self c.give.new.read c.started-then-turn_until_started.result fed.All at used.no_word_due (here.stop_is ∙ ap (stop_at_place (length all)) used.going, used.no_word_due)))
 
 pub returns-then-turn_until_started-clause-gives : goal.returns-then-turn_until_started-clause-gives
 returns-then-turn_until_started-clause-gives c =
-    subst (GivesWordsOf (with_buffer c.args.self.now c.args.read.now) (with_buffer c.turn_until_started.new.self c.give.new.read) c.args.piece.now) (sym (end_count c))
+    subst (GivesWordsOfFirst (with_buffer c.args.self.now c.args.read.now) (with_buffer c.turn_until_started.new.self c.give.new.read) c.args.piece.now) (sym (end_count c))
     (gives_round (with_buffer c.args.self.now c.args.read.now) (with_buffer c.runs.self c.runs.read) (with_buffer c.give.new.self c.give.new.read) c.turn_until_started.new.self c.args.piece.now c.runs.at c.turn_until_started.new.at
     c.in_default.ensures c.give.ensures.gives (c.give.ensures.none_left.0 c.if-not-give.false) c.turn_until_started.ensures.took.turned c.runs.invariant.takes c.runs.invariant.gives)
 
@@ -174,7 +174,7 @@ runs-preserved c =
       fits = omega (arith, same, c.turn_until_started.ensures.took.turned.taken, c.turn_until_started.ensures.took.turned.forward, c.turn_until_started.ensures.took.turned.within, c.runs.invariant.fits);
       first = λ part kept wrapped bytes s.
           let taken : List ℕ = bytes ++ take c.runs.at piece in
-          let given = c.give.ensures.gives.given part kept wrapped taken (c.runs.invariant.takes.stands part kept wrapped bytes s) in
-          let not : has_started part kept taken ≡ false = sym (c.started-in-runs.ensures part kept wrapped taken given.stands) ∙ c.if-started.false in
-          none_on part kept bytes piece c.runs.at at c.turn_until_started.ensures.took.turned.forward (c.runs.invariant.first part kept wrapped bytes s) (c.turn_until_started.ensures.first part kept wrapped taken given.stands not);
+          let given = c.give.ensures.gives.stands part kept wrapped taken (c.runs.invariant.takes.stands part kept wrapped bytes s) in
+          let not : has_started part kept taken ≡ false = sym (c.started-in-runs.ensures part kept wrapped taken given) ∙ c.if-started.false in
+          none_on part kept bytes piece c.runs.at at c.turn_until_started.ensures.took.turned.forward (c.runs.invariant.first part kept wrapped bytes s) (c.turn_until_started.ensures.first part kept wrapped taken given not);
     }

@@ -2,7 +2,7 @@ use Rattle.std.proofs.Common.{◌+◌, ◌-◌, ℕ, List, length, if◌then◌e
 use Rattle.std.specs.Option.{is_some}
 use Rattle.x7_packets.specs.Cutter.{calls_left}
 use Rattle.x7_part.specs.Part.{PartData}
-use Rattle.x7_engine.specs.Feeding.{GivesWordsOf, TakesFirst, with_buffer}
+use Rattle.x7_engine.specs.Feeding.{GivesWordsOfFirst, TakesFirst, with_buffer}
 use Rattle.x7_engine.specs.Standing.{CanBeGiven, DeviceStandsFor}
 use Rattle.x7_engine.specs.UntilStarted.{NoneStarted}
 use Rattle.x7_engine.specs.declared.kept.Kept.{Kept}
@@ -11,7 +11,7 @@ use Rattle.x7_engine.proofs.device.Device.feed_until_started.Given as goal
 abbrev pub invariant-runs : goal.invariant-runs
 invariant-runs l = record {
   takes : TakesFirst l.initial.self l.self l.piece l.at;
-  gives : GivesWordsOf (with_buffer l.initial.self l.initial.read) (with_buffer l.self l.read) l.piece l.at;
+  gives : GivesWordsOfFirst (with_buffer l.initial.self l.initial.read) (with_buffer l.self l.read) l.piece l.at;
   first : (part : PartData) (kept : Kept) (wrapped : Bool) (bytes : List ℕ) → DeviceStandsFor part kept wrapped l.initial.self bytes → NoneStarted part kept bytes l.piece l.at;
   fits : CanBeGiven l.self (length l.piece - l.at);
 }

@@ -7,31 +7,29 @@ use Rattle.x7_part.specs.Part.{PartData}
 use Rattle.x7_flow.specs.Standing.{FramesFit}
 use Rattle.x7_engine.specs.declared.kept.Kept.{Kept}
 use Rattle.x7_engine.specs.Standing.{DeviceStandsFor, DeviceState, due_count, registers_in}
-use Rattle.x7_engine.specs.Past.{GivesNoWord, HasSomePast, ForEachPast, TakesJust}
+use Rattle.x7_engine.specs.DeviceFields.{device_in}
+use Rattle.x7_engine.specs.Past.{GivesNoWord, HasPast, HasSomePast, ForEachPast, TakesJust, later, reads_given_at}
 use Rattle.x7_engine.specs.State.{reads_of}
 use Rattle.x7_engine.proofs.DeviceLemmas.{between_prefix, length_between}
 use Rattle.x7_engine.proofs.PassLemmas.{passed, given_same}
-use Rattle.x7_engine.proofs.PastLemmas.{past_later}
+use Rattle.x7_engine.proofs.PastLemmas.{each_by_fields, past_later}
 use Rattle.x7_engine.proofs.UntilLemmas.{quiet_commands}
 use Rattle.x7_engine.proofs.device.Device.pass_nops.Goals as goal
 
--- the device before the no-ops, and after them
-abbrev device_before : goal.After-self-2-1 → DeviceState
-device_before c = record { part = c.self.inside.part; cutter = c.self.inside.cutter; registers = registers_in c.self.inside.registers; wrapped = c.self.inside.wrapped; taken = c.self.inside.taken; fed = c.self.inside.fed }
+-- how many bytes were taken
+abbrev count_taken : goal.After-self-2-1 → ℕ
+count_taken c = (4 * c.nop_count-count.result) - c.take_bytes-left.result
 
+-- the device after the no-ops
 abbrev device_after : goal.After-self-2-1 → DeviceState
-device_after c = record {
-  part = c.self.inside.part;
-  cutter = c.self.inside.cutter;
-  registers = registers_in c.take_bytes-left.new.self;
-  wrapped = c.self.inside.wrapped;
-  taken = c.self.inside.taken + ((4 * c.nop_count-count.result) - c.take_bytes-left.result);
-  fed = c.saturating_add-self-inside.result;
-}
+device_after c = record (device_in c.self.inside) { registers = registers_in c.take_bytes-left.new.self; taken = c.self.inside.taken + count_taken c; fed = c.saturating_add-self-inside.result }
 
-passed_here : (c : goal.After-self-2-1) (kept : Kept) (wrapped : Bool) (bytes : List ℕ) → (let part : PartData = c.self.inside.part in DeviceStandsFor part kept wrapped c.args.self.now bytes
-    → (let more : List ℕ = between c.args.piece.now c.args.at.now (c.args.at.now + ((4 * c.nop_count-count.result) - c.take_bytes-left.result)) in
-    DeviceStandsFor part kept wrapped (device_after c) (bytes ++ more) × (reads_of part kept (bytes ++ more) ≡ reads_of part kept bytes) × (history_of (bytes ++ more) ≡ history_of bytes)))
+-- the bytes of the no-ops
+abbrev passed_bytes : goal.After-self-2-1 → List ℕ
+passed_bytes c = between c.args.piece.now c.args.at.now (c.args.at.now + count_taken c)
+
+passed_here : (c : goal.After-self-2-1) (kept : Kept) (wrapped : Bool) (bytes : List ℕ) → (let part : PartData = c.self.inside.part in DeviceStandsFor part kept wrapped (device_in c.self.inside) bytes
+    → DeviceStandsFor part kept wrapped (device_after c) (bytes ++ passed_bytes c) × (reads_of part kept (bytes ++ passed_bytes c) ≡ reads_of part kept bytes) × (history_of (bytes ++ passed_bytes c) ≡ history_of bytes))
 passed_here c kept wrapped bytes s =
     let piece : List ℕ = c.args.piece.now in
     let from : ℕ = c.args.at.now in
@@ -50,8 +48,7 @@ passed_here c kept wrapped bytes s =
     let split : cut ≡ more ++ rest = between_prefix piece from (from + count) left (omega (arith, few)) ∙ ap (λ (k : ℕ). between piece from k ++ rest) place in
     let same : count ≡ from + count - from = omega arith in
     let prefix : take count (take (length piece - from) (drop from piece)) ≡ cut = ap (take count) (take_rest piece from) ∙ ap (λ (k : ℕ). take k (drop from piece)) same in
-    let inside : DeviceStandsFor c.self.inside.part kept wrapped (device_before c) bytes = subst (λ (d : DeviceState). DeviceStandsFor c.self.inside.part kept wrapped d bytes) (sym c.self.view_is) s in
-    passed c.self.inside.part kept wrapped (device_before c) (device_after c) bytes cut more rest count left inside
+    passed c.self.inside.part kept wrapped (device_in c.self.inside) (device_after c) bytes cut more rest count left s
     (ap (λ (d : DeviceState). d.registers.stop) c.self.view_is ∙ c.requires.going)
     (ap (λ (d : DeviceState). due_count d.registers.due) c.self.view_is ∙ c.requires.no_word_due)
     (λ sessions place i. subst (λ (b : List ℕ). IdlesThrough c.self.inside.cutter (bytes ++ b) sessions place) prefix (c.nop_count-count.ensures.idles bytes sessions place i))
@@ -59,31 +56,22 @@ passed_here c kept wrapped bytes s =
     c.take_bytes-left.ensures.left.goes_on c.take_bytes-left.ensures.fired refl refl refl (omega (arith, taken))
     (ap due_count c.take_bytes-left.ensures.due ∙ ap (λ (d : DeviceState). due_count d.registers.due) c.self.view_is ∙ c.requires.no_word_due)
 
-stands_after : (c : goal.After-self-2-1) → TakesJust c.args.self.now (device_after c) (between c.args.piece.now c.args.at.now (c.args.at.now + ((4 * c.nop_count-count.result) - c.take_bytes-left.result)))
-stands_after c = λ part kept wrapped bytes s.
-    let here : c.self.inside.part ≡ part = ap (λ (d : DeviceState). d.part) c.self.view_is ∙ s.part_is in
-    let more : List ℕ = between c.args.piece.now c.args.at.now (c.args.at.now + ((4 * c.nop_count-count.result) - c.take_bytes-left.result)) in
-    subst (λ (p : PartData). DeviceStandsFor p kept wrapped (device_after c) (bytes ++ more)) here
-    (passed_here c kept wrapped bytes (subst (λ (p : PartData). DeviceStandsFor p kept wrapped c.args.self.now bytes) (sym here) s)).0
+stands_after : (c : goal.After-self-2-1) → TakesJust c.args.self.now (device_after c) (passed_bytes c)
+stands_after c = each_by_fields (device_in c.self.inside) c.args.self.now (λ p. HasPast (device_after c) (later p (passed_bytes c))) c.self.view_is (λ kept wrapped bytes s. (passed_here c kept wrapped bytes s).0)
 
-silent_after : (c : goal.After-self-2-1) → GivesNoWord c.args.self.now (device_after c) (between c.args.piece.now c.args.at.now (c.args.at.now + ((4 * c.nop_count-count.result) - c.take_bytes-left.result)))
-silent_after c = λ part kept wrapped bytes s.
-    let here : c.self.inside.part ≡ part = ap (λ (d : DeviceState). d.part) c.self.view_is ∙ s.part_is in
-    let more : List ℕ = between c.args.piece.now c.args.at.now (c.args.at.now + ((4 * c.nop_count-count.result) - c.take_bytes-left.result)) in
-    given_same part kept c.args.self.now (device_after c) bytes (bytes ++ more) c.requires.no_word_due
-    (ap due_count c.take_bytes-left.ensures.due ∙ ap (λ (d : DeviceState). due_count d.registers.due) c.self.view_is ∙ c.requires.no_word_due)
-    (subst (λ (p : PartData). reads_of p kept (bytes ++ more) ≡ reads_of p kept bytes) here
-    (passed_here c kept wrapped bytes (subst (λ (p : PartData). DeviceStandsFor p kept wrapped c.args.self.now bytes) (sym here) s)).1)
+silent_after : (c : goal.After-self-2-1) → GivesNoWord c.args.self.now (device_after c) (passed_bytes c)
+silent_after c = each_by_fields (device_in c.self.inside) c.args.self.now (λ p. reads_given_at (device_after c) (later p (passed_bytes c)) ≡ reads_given_at c.args.self.now p) c.self.view_is
+    (λ kept wrapped bytes s.
+    given_same c.self.inside.part kept c.args.self.now (device_after c) bytes (bytes ++ passed_bytes c) c.requires.no_word_due
+    (ap due_count c.take_bytes-left.ensures.due ∙ ap (λ (d : DeviceState). due_count d.registers.due) c.self.view_is ∙ c.requires.no_word_due) (passed_here c kept wrapped bytes s).1)
 
-quiet_after : (c : goal.After-self-2-1) → ForEachPast c.args.self.now (λ p. history_of (p.bytes ++ between c.args.piece.now c.args.at.now (c.args.at.now + ((4 * c.nop_count-count.result) - c.take_bytes-left.result))) ≡ history_of p.bytes)
-quiet_after c = λ part kept wrapped bytes s.
-    let here : c.self.inside.part ≡ part = ap (λ (d : DeviceState). d.part) c.self.view_is ∙ s.part_is in
-    (passed_here c kept wrapped bytes (subst (λ (p : PartData). DeviceStandsFor p kept wrapped c.args.self.now bytes) (sym here) s)).2
+quiet_after : (c : goal.After-self-2-1) → ForEachPast c.args.self.now (λ p. history_of (p.bytes ++ passed_bytes c) ≡ history_of p.bytes)
+quiet_after c = each_by_fields (device_in c.self.inside) c.args.self.now (λ p. history_of (p.bytes ++ passed_bytes c) ≡ history_of p.bytes) c.self.view_is (λ kept wrapped bytes s. (passed_here c kept wrapped bytes s).2)
 
 pub invariant_of-self : goal.invariant_of-self
 invariant_of-self c = record {
   frames = subst (FramesFit c.self.inside.part) (sym c.take_bytes-left.ensures.frames) c.self.invariant.frames;
-  past = past_later c.args.self.now (device_after c) (between c.args.piece.now c.args.at.now (c.args.at.now + ((4 * c.nop_count-count.result) - c.take_bytes-left.result))) (stands_after c) (subst HasSomePast c.self.view_is c.self.invariant.past);
+  past = past_later c.args.self.now (device_after c) (passed_bytes c) (stands_after c) (subst HasSomePast c.self.view_is c.self.invariant.past);
 }
 
 pub returns-clause-same_history : goal.returns-clause-same_history
@@ -100,6 +88,6 @@ returns-clause-turned c = record {
     takes = stands_after c;
     silent = silent_after c;
     commands = λ part kept wrapped bytes s.
-        quiet_commands bytes (between c.args.piece.now c.args.at.now (c.args.at.now + ((4 * c.nop_count-count.result) - c.take_bytes-left.result))) (stands_after c part kept wrapped bytes s).fits (quiet_after c part kept wrapped bytes s);
+        quiet_commands bytes (passed_bytes c) (stands_after c part kept wrapped bytes s).fits (quiet_after c part kept wrapped bytes s);
   };
 }

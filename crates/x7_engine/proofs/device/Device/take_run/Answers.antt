@@ -4,13 +4,14 @@ use Rattle.x7_packets.specs.declared.cutter.Cut.{Cut}
 use Rattle.x7_packets.specs.declared.cutter.Cut.TheVariants.{Body, Head, Need, Skip, Sync, Word}
 use Rattle.x7_part.specs.Part.{PartData}
 use Rattle.x7_engine.specs.declared.kept.Kept.{Kept}
-use Rattle.x7_engine.specs.Past.{HasSomePast}
+use Rattle.x7_engine.specs.DeviceFields.{device_in}
+use Rattle.x7_engine.specs.Past.{HasPast, HasSomePast, later, reads_given_at}
 use Rattle.x7_engine.specs.Standing.{DeviceStandsFor, DeviceState, IsCutterOf, HasNoWord, registers_in, words_still_due}
 use Rattle.x7_engine.specs.State.{history_taken, reads_of}
 use Rattle.x7_engine.specs.Turns.{TurnTakes}
 use Rattle.x7_engine.proofs.DeviceLemmas.{between_prefix, holds_run, length_between, given_by, turned}
 use Rattle.x7_engine.proofs.FrameLemmas.{no_word_due}
-use Rattle.x7_engine.proofs.PastLemmas.{past_later}
+use Rattle.x7_engine.proofs.PastLemmas.{each_by_fields, past_later}
 use Rattle.x7_engine.proofs.UntilLemmas.{prefix_commands, run_commands}
 use Rattle.x7_engine.proofs.device.Device.take_run.Goals as goal
 
@@ -20,24 +21,22 @@ take_run-left-requires-clause-holds c =
     holds_run c.self.inside.cutter c.cut-run.new.self c.cut-run.result (length c.args.piece.now - c.args.at.now) (c.cut-run.new.at - c.args.at.now) cut c.cut-run.ensures.lent c.cut-run.ensures.joined
     (sym (length_between c.args.piece.now c.args.at.now c.cut-run.new.at c.cut-run.ensures.forward c.cut-run.ensures.within))
 
--- the device before the run, and after it
-abbrev device_before : goal.After-is_done → DeviceState
-device_before c = record { part = c.self.inside.part; cutter = c.self.inside.cutter; registers = registers_in c.self.inside.registers; wrapped = c.self.inside.wrapped; taken = c.self.inside.taken; fed = c.self.inside.fed }
-
+-- the device after the run
 abbrev device_after : goal.After-is_done → DeviceState
-device_after c = record {
-  part = c.self.inside.part;
+device_after c = record (device_in c.self.inside) {
   cutter = c.cut-run.new.self;
   registers = registers_in c.take_run-left.new.self;
-  wrapped = c.self.inside.wrapped;
   taken = c.self.inside.taken + (c.cut-run.new.at - c.take_run-left.result - c.args.at.now);
   fed = c.saturating_add-self-inside.result;
 }
 
-turned_here : (c : goal.After-is_done) (kept : Kept) (wrapped : Bool) (bytes : List ℕ) → (let part : PartData = c.self.inside.part in DeviceStandsFor part kept wrapped c.args.self.now bytes
-    → (let more : List ℕ = between c.args.piece.now c.args.at.now (c.cut-run.new.at - c.take_run-left.result) in
-    DeviceStandsFor part kept wrapped (device_after c) (bytes ++ more)
-    × (reads_of part kept (bytes ++ more) ≡ reads_of part kept bytes ++ words_still_due part (history_taken part kept (bytes ++ more)) c.take_run-left.new.self.due)))
+-- the bytes of the run that were taken
+abbrev run_taken : goal.After-is_done → List ℕ
+run_taken c = between c.args.piece.now c.args.at.now (c.cut-run.new.at - c.take_run-left.result)
+
+turned_here : (c : goal.After-is_done) (kept : Kept) (wrapped : Bool) (bytes : List ℕ) → (let part : PartData = c.self.inside.part in DeviceStandsFor part kept wrapped (device_in c.self.inside) bytes
+    → DeviceStandsFor part kept wrapped (device_after c) (bytes ++ run_taken c)
+    × (reads_of part kept (bytes ++ run_taken c) ≡ reads_of part kept bytes ++ words_still_due part (history_taken part kept (bytes ++ run_taken c)) c.take_run-left.new.self.due))
 turned_here c kept wrapped bytes s =
     let piece : List ℕ = c.args.piece.now in
     let from : ℕ = c.args.at.now in
@@ -50,35 +49,27 @@ turned_here c kept wrapped bytes s =
     let forward : from ≤ at - left = omega (arith, some, onward) in
     let all : length cut ≡ at - from = length_between piece from at c.cut-run.ensures.forward c.cut-run.ensures.within in
     let taken : length more ≡ at - left - from = length_between piece from (at - left) forward (omega (arith, c.cut-run.ensures.within)) in
-    let inside : DeviceStandsFor c.self.inside.part kept wrapped (device_before c) bytes = subst (λ (d : DeviceState). DeviceStandsFor c.self.inside.part kept wrapped d bytes) (sym c.self.view_is) s in
-    turned c.self.inside.part kept wrapped (device_before c) (device_after c) bytes cut more (drop (at - left - from) cut) c.cut-run.result (at - from) left (length piece - from) inside
+    turned c.self.inside.part kept wrapped (device_in c.self.inside) (device_after c) bytes cut more (drop (at - left - from) cut) c.cut-run.result (at - from) left (length piece - from) s
     (ap (λ (d : DeviceState). d.registers.stop) c.self.view_is ∙ c.requires.going)
     (c.cut-run.ensures.adds bytes) (c.take_run-left.ensures.enters kept) (c.take_run-left.ensures.reads kept)
     (sym all) (between_prefix piece from at left forward) (length-drop (at - left - from) cut ∙ omega (arith, all, some)) c.cut-run.ensures.run c.cut-run.ensures.lent
     c.take_run-left.ensures.left.goes_on c.take_run-left.ensures.none_due_at_stop.none_due_at_stop refl refl (omega (arith, taken))
 
-turn_taken : (c : goal.After-is_done) → TurnTakes c.args.self.now (device_after c) (between c.args.piece.now c.args.at.now (c.cut-run.new.at - c.take_run-left.result))
+turn_taken : (c : goal.After-is_done) → TurnTakes c.args.self.now (device_after c) (run_taken c)
 turn_taken c = record {
   part = ap (λ (d : DeviceState). d.part) c.self.view_is;
-  takes = λ part kept wrapped bytes s. (
-      let here : c.self.inside.part ≡ part = ap (λ (d : DeviceState). d.part) c.self.view_is ∙ s.part_is in
-      let more : List ℕ = between c.args.piece.now c.args.at.now (c.cut-run.new.at - c.take_run-left.result) in
-      subst (λ (p : PartData). DeviceStandsFor p kept wrapped (device_after c) (bytes ++ more)) here
-      (turned_here c kept wrapped bytes (subst (λ (p : PartData). DeviceStandsFor p kept wrapped c.args.self.now bytes) (sym here) s)).0);
-  silent = λ part kept wrapped bytes s. (
-      let here : c.self.inside.part ≡ part = ap (λ (d : DeviceState). d.part) c.self.view_is ∙ s.part_is in
-      let more : List ℕ = between c.args.piece.now c.args.at.now (c.cut-run.new.at - c.take_run-left.result) in
-      let reads : reads_of part kept (bytes ++ more) ≡ reads_of part kept bytes ++ words_still_due part (history_taken part kept (bytes ++ more)) c.take_run-left.new.self.due =
-      subst (λ (p : PartData). reads_of p kept (bytes ++ more) ≡ reads_of p kept bytes ++ words_still_due p (history_taken p kept (bytes ++ more)) c.take_run-left.new.self.due) here
-      (turned_here c kept wrapped bytes (subst (λ (p : PartData). DeviceStandsFor p kept wrapped c.args.self.now bytes) (sym here) s)).1 in
-      given_by part kept (device_after c) (bytes ++ more) (reads_of part kept bytes) (history_taken part kept (bytes ++ more)) reads
-      ∙ sym (given_by part kept c.args.self.now bytes (reads_of part kept bytes) [] (no_word_due (reads_of part kept bytes) part [] c.args.self.now.registers.due c.requires.no_word_due)));
+  takes = each_by_fields (device_in c.self.inside) c.args.self.now (λ p. HasPast (device_after c) (later p (run_taken c))) c.self.view_is (λ kept wrapped bytes s. (turned_here c kept wrapped bytes s).0);
+  silent = each_by_fields (device_in c.self.inside) c.args.self.now (λ p. reads_given_at (device_after c) (later p (run_taken c)) ≡ reads_given_at c.args.self.now p) c.self.view_is
+      (λ kept wrapped bytes s. (
+      let part : PartData = c.self.inside.part in
+      given_by part kept (device_after c) (bytes ++ run_taken c) (reads_of part kept bytes) (history_taken part kept (bytes ++ run_taken c)) (turned_here c kept wrapped bytes s).1
+      ∙ sym (given_by part kept c.args.self.now bytes (reads_of part kept bytes) [] (no_word_due (reads_of part kept bytes) part [] c.args.self.now.registers.due c.requires.no_word_due))));
   commands = λ part kept wrapped bytes s. (
       let piece : List ℕ = c.args.piece.now in
       let from : ℕ = c.args.at.now in
       let at : ℕ = c.cut-run.new.at in
       let left : ℕ = c.take_run-left.result in
-      let inside : DeviceStandsFor part kept wrapped (device_before c) bytes = subst (λ (d : DeviceState). DeviceStandsFor part kept wrapped d bytes) (sym c.self.view_is) s in
+      let inside : DeviceStandsFor part kept wrapped (device_in c.self.inside) bytes = subst (λ (d : DeviceState). DeviceStandsFor part kept wrapped d bytes) (sym c.self.view_is) s in
       let cutter : IsCutterOf c.self.inside.cutter bytes = inside.cutter_is (ap (λ (d : DeviceState). d.registers.stop) c.self.view_is ∙ c.requires.going) in
       let some : left ≤ at - from = c.take_run-left.ensures.left.within in
       let onward : from ≤ at = c.cut-run.ensures.forward in
@@ -90,7 +81,7 @@ turn_taken c = record {
 pub invariant_of-self : goal.invariant_of-self
 invariant_of-self c = record {
   frames = c.take_run-left.ensures.none_due_at_stop.frames;
-  past = past_later c.args.self.now (device_after c) (between c.args.piece.now c.args.at.now (c.cut-run.new.at - c.take_run-left.result)) (turn_taken c).takes (subst HasSomePast c.self.view_is c.self.invariant.past);
+  past = past_later c.args.self.now (device_after c) (run_taken c) (turn_taken c).takes (subst HasSomePast c.self.view_is c.self.invariant.past);
 }
 
 -- a run that says that the piece is used up leaves nothing of it, and tells of no word; any other comes nearer to that

@@ -1,45 +1,32 @@
-use Rattle.std.proofs.Common.{◌≡◌, ◌+◌, ◌-◌, ◌<◌, ◌∷◌, ℕ, List, length, sym, ap, subst, ◌∙◌, arith}
+use Rattle.std.proofs.Common.{◌≡◌, ◌+◌, ◌-◌, ◌<◌, ◌∷◌, ℕ, List, length, sym, ap, subst, ◌∙◌, arith, inl, inr}
 use Rattle.x7_words.specs.Word.{words_of_bytes}
 use Rattle.x7_packets.specs.Cutter.{IsRun}
 use Rattle.x7_packets.specs.declared.cutter.Cut.{Cut}
 use Rattle.x7_packets.specs.declared.cutter.Cut.TheVariants.{Body, Word}
 use Rattle.x7_packets.specs.History.{History, Write, entered_all, entry, until}
 use Rattle.x7_packets.specs.Packet.{payload_steps}
-use Rattle.x7_engine.specs.Standing.{EndsWords, RegistersStandFor, counted_in, due_count, registers_in}
+use Rattle.x7_engine.specs.Standing.{EndsWords, HasNoWord, RegistersStandFor, counted_in, due_count, registers_in}
 use Rattle.x7_engine.specs.Value.{read_out}
-use Rattle.x7_engine.proofs.TurnLemmas.{counted_more, quiet_until, write_until, writes_until}
+use Rattle.x7_engine.proofs.TurnLemmas.{counted_more, none_entered, quiet_until, write_until, writes_until}
 use Rattle.x7_engine.proofs.FrameLemmas.{no_word_due}
 use Rattle.x7_engine.proofs.registers.Registers.take_run.Goals as goal
 
+-- a run of the first arm has no word
+no_word : (c : goal.After-take_bytes) → HasNoWord c.args.run
+no_word c = elim c.in-Need.is [ inl need ↦ rw need tt | inr rest ↦ elim rest [ inl skip ↦ rw skip.1 tt | inr sync ↦ rw sync tt ] ]
+
 pub returns-in-Need-clause-enters : goal.returns-in-Need-clause-enters
 returns-in-Need-clause-enters c = λ kept h from n e s.
-    rw c.in-Need.is (subst (λ (t : History). RegistersStandFor c.args.part.now kept (registers_in c.take_bytes.new.self) t (n + (c.args.count - c.take_bytes.result)))
-    (sym (quiet_until c.take_bytes.new.self.stop n c.args.count c.take_bytes.result h c.take_bytes.ensures.fired s.places)) (c.take_bytes.ensures.enters kept h n s))
+    let m : ℕ = n + (c.args.count - c.take_bytes.result) in
+    subst (λ (t : History). RegistersStandFor c.args.part.now kept (registers_in c.take_bytes.new.self) (until (counted_in c.take_bytes.new.self.stop m) t) m) (sym (none_entered c.args.run from h (no_word c)))
+    (subst (λ (t : History). RegistersStandFor c.args.part.now kept (registers_in c.take_bytes.new.self) t m) (sym (quiet_until c.take_bytes.new.self.stop n c.args.count c.take_bytes.result h c.take_bytes.ensures.fired s.places))
+    (c.take_bytes.ensures.enters kept h n s))
 
 pub returns-in-Need-clause-reads : goal.returns-in-Need-clause-reads
 returns-in-Need-clause-reads c = λ kept h from n e s.
-    rw c.in-Need.is (ap (read_out c.args.part.now kept) (quiet_until c.take_bytes.new.self.stop n c.args.count c.take_bytes.result h c.take_bytes.ensures.fired s.places)
-    ∙ no_word_due (read_out c.args.part.now kept h) c.args.part.now _ c.take_bytes.new.self.due (ap due_count c.take_bytes.ensures.due ∙ c.requires.may_take.no_word_due))
-
-pub returns-in-Skip-clause-enters : goal.returns-in-Skip-clause-enters
-returns-in-Skip-clause-enters c = λ kept h from n e s.
-    rw c.in-Skip.is (subst (λ (t : History). RegistersStandFor c.args.part.now kept (registers_in c.take_bytes-in-Skip.new.self) t (n + (c.args.count - c.take_bytes-in-Skip.result)))
-    (sym (quiet_until c.take_bytes-in-Skip.new.self.stop n c.args.count c.take_bytes-in-Skip.result h c.take_bytes-in-Skip.ensures.fired s.places)) (c.take_bytes-in-Skip.ensures.enters kept h n s))
-
-pub returns-in-Skip-clause-reads : goal.returns-in-Skip-clause-reads
-returns-in-Skip-clause-reads c = λ kept h from n e s.
-    rw c.in-Skip.is (ap (read_out c.args.part.now kept) (quiet_until c.take_bytes-in-Skip.new.self.stop n c.args.count c.take_bytes-in-Skip.result h c.take_bytes-in-Skip.ensures.fired s.places)
-    ∙ no_word_due (read_out c.args.part.now kept h) c.args.part.now _ c.take_bytes-in-Skip.new.self.due (ap due_count c.take_bytes-in-Skip.ensures.due ∙ c.requires.may_take.no_word_due))
-
-pub returns-in-Sync-clause-enters : goal.returns-in-Sync-clause-enters
-returns-in-Sync-clause-enters c = λ kept h from n e s.
-    rw c.in-Sync.is (subst (λ (t : History). RegistersStandFor c.args.part.now kept (registers_in c.take_bytes-in-Sync.new.self) t (n + (c.args.count - c.take_bytes-in-Sync.result)))
-    (sym (quiet_until c.take_bytes-in-Sync.new.self.stop n c.args.count c.take_bytes-in-Sync.result h c.take_bytes-in-Sync.ensures.fired s.places)) (c.take_bytes-in-Sync.ensures.enters kept h n s))
-
-pub returns-in-Sync-clause-reads : goal.returns-in-Sync-clause-reads
-returns-in-Sync-clause-reads c = λ kept h from n e s.
-    rw c.in-Sync.is (ap (read_out c.args.part.now kept) (quiet_until c.take_bytes-in-Sync.new.self.stop n c.args.count c.take_bytes-in-Sync.result h c.take_bytes-in-Sync.ensures.fired s.places)
-    ∙ no_word_due (read_out c.args.part.now kept h) c.args.part.now _ c.take_bytes-in-Sync.new.self.due (ap due_count c.take_bytes-in-Sync.ensures.due ∙ c.requires.may_take.no_word_due))
+    ap (λ (t : History). read_out c.args.part.now kept (until (counted_in c.take_bytes.new.self.stop (n + (c.args.count - c.take_bytes.result))) t)) (none_entered c.args.run from h (no_word c))
+    ∙ ap (read_out c.args.part.now kept) (quiet_until c.take_bytes.new.self.stop n c.args.count c.take_bytes.result h c.take_bytes.ensures.fired s.places)
+    ∙ no_word_due (read_out c.args.part.now kept h) c.args.part.now _ c.take_bytes.new.self.due (ap due_count c.take_bytes.ensures.due ∙ c.requires.may_take.no_word_due)
 
 pub returns-in-Word-clause-enters : goal.returns-in-Word-clause-enters
 returns-in-Word-clause-enters c = λ kept h from n e s.
