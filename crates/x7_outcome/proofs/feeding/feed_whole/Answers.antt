@@ -1,9 +1,10 @@
-use Rattle.std.proofs.Common.{◌≡◌, ◌∷◌, [], ◌+◌, ◌^◌, ◌<◌, ◌≤◌, ◌++◌, length, length-append, length-take-le, take, arith, ap, ◌∙◌}
-use Rattle.x7_words.proofs.InputLemmas.{once_on, stays_on}
+use Rattle.std.proofs.Common.{◌≡◌, ◌∷◌, [], ◌+◌, ◌^◌, ◌<◌, ◌≤◌, ◌++◌, length, length-append, length-take-le, take, arith, ap, refl, subst, sym, ◌∙◌}
+use Rattle.x7_words.specs.Input.{RestIsWhole}
+use Rattle.x7_words.proofs.InputLemmas.{once_on, preceded_nil, stays_on}
 use Rattle.x7_forms.specs.Event.{event_of}
 use Rattle.x7_forms.specs.Known.{text_limit}
 use Rattle.x7_forms.specs.Step.{CameIn, step_over}
-use Rattle.x7_forms.proofs.ReadLemmas.{at_on, open_refused, turn_refused, whole_read, turn_unread, unopened_unread}
+use Rattle.x7_forms.proofs.ReadLemmas.{at_on, at_open, open_refused, turn_refused, whole_read, turn_unread, unopened_unread}
 use Rattle.x7_outcome.proofs.FeedLemmas.{taken_more}
 use Rattle.x7_forms.proofs.AskedLemmas.{asks_opened, asks_turn}
 use Rattle.x7_forms.proofs.ResultLemmas.{handed_on}
@@ -89,3 +90,30 @@ pub returns-then-turn-clause-asks : goal.returns-then-turn-clause-asks
 returns-then-turn-clause-asks g c =
     let v = c.loop-read.invariant in
     asks_turn _ _ _ c.args.name.now v.known.0 text_limit c.loop-read.left v.known.1.3 v.known.1.2 v.once v.inputs c.next_turn.ensures.gives_few
+
+pub loop-read-init : goal.loop-read-init
+loop-read-init g c =
+    let i = g.I.Inputs in
+    let name = c.args.name.now in
+    let opened = i.state c.open.new.inputs in
+    let whole = subst (λ r. RestIsWhole (i.state c.args.inputs.now).contents name r) (sym (preceded_nil opened.rest)) c.in_ok-open.ensures.opened.found in
+    record {
+      selected = c.in_ok-open.ensures.opened.selected;
+      inputs = c.open.ensures.asks.stays;
+      once = c.open.ensures.asks.once;
+      left = omega arith;
+      piece = refl;
+      known = ([], (whole, c.new.ensures c.args.taker c.requires.nothing_taken, omega arith, at_open name opened c.open.ensures.asks.named));
+    }
+
+pub next_turn-requires-clause-selected : goal.next_turn-requires-clause-selected
+next_turn-requires-clause-selected g c = c.loop-read.invariant.selected
+
+pub next_turn-requires-clause-not_empty : goal.next_turn-requires-clause-not_empty
+next_turn-requires-clause-not_empty g c = omega (arith, c.loop-read.invariant.piece)
+
+pub overflow_sub-left : goal.overflow_sub-left
+overflow_sub-left g c = c.in_ok-turn.ensures.reads.within_limit
+
+pub loop-read-smaller : goal.loop-read-smaller
+loop-read-smaller g c = omega (arith, c.in_ok-turn.ensures.reads.fills c.if-turn.false, c.next_turn.ensures.length, c.loop-read.invariant.piece, c.in_ok-turn.ensures.reads.within_limit)
