@@ -1,43 +1,56 @@
 -- Lemmas on the last input that was asked for, and on how few bytes of it are given.
 use Rattle.std.proofs.Common.{◌≡◌, ◌<◌, ◌≤◌, ◌+◌, ◌-◌, ℕ, Bool, true, false, if◌then◌else◌, List, [], ◌∷◌, ◌++◌, Option, None, Some, Result, Ok, Err, append_assoc, drop, length, length-append, map, suc, add-one, get_or, inl, inr, refl, subst, sym, ap, ◌∙◌, arith}
 use Rattle.std.specs.Prelude.{IfSome, nat_lt}
-use Rattle.x7_words.specs.Input.{AsksForName, AsksAtMost, AsksOnce, InputsState}
+use Rattle.x7_words.specs.Input.{AsksAtMost, AsksOnce, InputsState, InputsStay}
+use Rattle.x7_words.proofs.InputLemmas.{few_once, stays_on}
 use Rattle.x7_forms.specs.declared.bad_input.InputFault.TheVariants as input
 use Rattle.x7_forms.specs.Event.{Event, bad_input, bad_part, missing, reading_failed, too_large}
 use Rattle.x7_forms.specs.Known.{Absent, Broken, Found, Held, Mishap, StreamRead, and_so, bytes_found, data_in, input_found, stream_known, taken_whole, with_inputs, if_within}
 use Rattle.x7_forms.specs.Step.{IsCaused, IsNoPart, IsUnplayed, IsUnread}
 use Rattle.x7_forms.specs.ReadingStops.{IsAbout, Limited, StopsAmong, limited, limited_together, size_in, size_of}
-use Rattle.x7_forms.specs.Turn.{GivesWithinLimit, ReadsBytes, IsLastAsked, UnreadBeginning, Unopened}
+use Rattle.x7_forms.specs.Turn.{AsksFor, AsksOnlyFor, GivesAtMost, GivesWithinLimit, ReadsBytes, IsLastAsked, UnreadBeginning, Unopened}
 use Rattle.x7_forms.proofs.ReadLemmas.{IsAt, asked_on, left_at}
 
 -- a turn after what was read
 pub gives_on : (old mid new : InputsState) (taken : List ℕ) (limit left : ℕ) → ReadsBytes old taken mid → length taken + left ≡ limit → mid.ends ≤ old.ends → GivesWithinLimit mid left new → GivesWithinLimit old limit new
-gives_on old mid new taken limit left r n e g = record { asked = g.asked ∙ r.asked; selects = g.selects ∙ r.takes.selects; ends = omega (arith, e, g.ends); given = omega (arith, n, r.takes.given, g.given) }
+gives_on old mid new taken limit left r n e g = record { asked = g.asked ∙ r.asked; selects = g.selects ∙ r.takes.selects; ends = omega (arith, e, g.ends); given = omega (arith, n, r.takes.given, g.given); stays = stays_on old mid new r.stays g.stays }
 
--- an input of which nothing was read
-pub last_asked_opened : (name : List ℕ) (limit : ℕ) (now : InputsState) → AsksForName name now → IsLastAsked name limit now
-last_asked_opened name limit now a = record { asked = a.asked; given = omega (arith, a.given) }
+-- no more bytes than so many, of which there are more
+pub gives_fewer : (old new : InputsState) (few most : ℕ) → few ≤ most → GivesAtMost old few new → GivesAtMost old most new
+gives_fewer old new few most h g = record { asked = g.asked; selects = g.selects; ends = g.ends; given = omega (arith, h, g.given); stays = g.stays }
 
--- an input that was read
-pub last_asked_read : (name : List ℕ) (limit : ℕ) (opened now : InputsState) → AsksForName name opened → GivesWithinLimit opened limit now → IsLastAsked name limit now
-last_asked_read name limit opened now a g = record { asked = asked_on name opened now a g.asked; given = omega (arith, a.given, g.given) }
+-- the one input that was asked for, and of which nothing was read
+pub asks_opened : (old new : InputsState) (name : List ℕ) (limit : ℕ) → AsksFor old name new → AsksOnlyFor old name limit new
+asks_opened old new name limit a = record { last = record { asked = a.named.asked; given = omega (arith, a.named.given) }; once = few_once old new a.once; stays = a.stays }
 
--- a turn after what was read of it
-pub last_asked_turn : (name taken : List ℕ) (limit left : ℕ) (mid new : InputsState) → IsAt name taken mid → length taken + left ≡ limit → GivesWithinLimit mid left new → IsLastAsked name limit new
-last_asked_turn name taken limit left mid new a n g = record { asked = subst (λ k. IfSome k (λ kept. kept ≡ name)) (sym g.asked) a.asked; given = omega (arith, n, a.given, g.given) }
+-- the one input that was asked for, and read
+pub asks_read : (old opened new : InputsState) (name : List ℕ) (limit : ℕ) → AsksFor old name opened → GivesWithinLimit opened limit new → AsksOnlyFor old name limit new
+asks_read old opened new name limit a g = record {
+  last = record { asked = asked_on name opened new a.named g.asked; given = omega (arith, a.named.given, g.given) };
+  once = record { selects = omega (arith, a.once.selects, g.selects); ends = omega (arith, a.once.ends, g.ends) };
+  stays = stays_on old opened new a.stays g.stays;
+}
 
--- a first turn and what was read after it
-pub last_asked_rest : (name taken : List ℕ) (limit left : ℕ) (opened mid new : InputsState) → AsksForName name opened → ReadsBytes opened taken mid → length taken + left ≡ limit → GivesWithinLimit mid left new → IsLastAsked name limit new
-last_asked_rest name taken limit left opened mid new a r n g = record { asked = asked_on name opened new a (g.asked ∙ r.asked); given = omega (arith, n, a.given, r.takes.given, g.given) }
+-- a turn of it, after those that were read
+pub asks_turn : (old mid new : InputsState) (name taken : List ℕ) (limit left : ℕ) → IsAt name taken mid → length taken + left ≡ limit → AsksOnce old mid → InputsStay old mid → GivesWithinLimit mid left new → AsksOnlyFor old name limit new
+asks_turn old mid new name taken limit left a n o s g = record {
+  last = record { asked = subst (λ k. IfSome k (λ kept. kept ≡ name)) (sym g.asked) a.asked; given = omega (arith, n, a.given, g.given) };
+  once = record { selects = omega (arith, o.selects, g.selects); ends = omega (arith, o.ends, g.ends) };
+  stays = stays_on old mid new s g.stays;
+}
 
--- an input that was asked for once, and its end read once at most
-pub few_read : (old opened new : InputsState) (limit : ℕ) → AsksOnce old opened → GivesWithinLimit opened limit new → AsksAtMost old 1 new
-few_read old opened new limit o g = record { selects = omega (arith, o.selects, g.selects); ends = omega (arith, o.ends, g.ends) }
-
--- one of which a first turn was read, and what is after it where that was not the last
-pub few_after : (last : Bool) (old opened mid new : InputsState) (limit left : ℕ) → AsksOnce old opened → GivesWithinLimit opened limit mid → (last ≡ false → mid.ends ≤ opened.ends) → GivesWithinLimit mid left new → (last ≡ true → new.ends ≤ mid.ends) → AsksAtMost old 1 new
-few_after true old opened mid new limit left o f go g none = record { selects = omega (arith, o.selects, f.selects, g.selects); ends = omega (arith, o.ends, f.ends, none refl) }
-few_after false old opened mid new limit left o f go g none = record { selects = omega (arith, o.selects, f.selects, g.selects); ends = omega (arith, o.ends, go refl, g.ends) }
+-- a first turn of it, and what is after it where that was not the last
+pub asks_rest : (last : Bool) (old opened mid new : InputsState) (name taken : List ℕ) (limit left : ℕ) → AsksFor old name opened → ReadsBytes opened taken mid → length taken + left ≡ limit
+    → GivesWithinLimit opened limit mid → (last ≡ false → mid.ends ≤ opened.ends) → GivesWithinLimit mid left new → (last ≡ true → new.ends ≤ mid.ends) → AsksOnlyFor old name limit new
+asks_rest last old opened mid new name taken limit left a r n f go g none = record {
+  last = record { asked = asked_on name opened new a.named (g.asked ∙ r.asked); given = omega (arith, n, a.named.given, r.takes.given, g.given) };
+  once = record { selects = omega (arith, a.once.selects, f.selects, g.selects); ends = by last go none };
+  stays = stays_on old mid new (stays_on old opened mid a.stays f.stays) g.stays;
+}
+  where
+    by : (b : Bool) → (b ≡ false → mid.ends ≤ opened.ends) → (b ≡ true → new.ends ≤ mid.ends) → new.ends ≤ old.ends + 1
+    by true go none = omega (arith, a.once.ends, f.ends, none refl)
+    by false go none = omega (arith, a.once.ends, go refl, g.ends)
 
 pub last_asked_less : (name : List ℕ) (left limit : ℕ) (now : InputsState) → left ≤ limit → IsLastAsked name left now → IsLastAsked name limit now
 last_asked_less name left limit now h s = record { asked = s.asked; given = omega (arith, h, s.given) }

@@ -21,7 +21,7 @@ use Rattle.x7_listing.specs.StreamListing.{listing_by, stream_listing}
 use Rattle.x7_listing.proofs.BitLemmas.{header_limit}
 use Rattle.x7_forms.specs.Event.{Event, reading_failed, too_large}
 use Rattle.x7_forms.specs.Known.{stream_limit}
-use Rattle.x7_forms.specs.Turn.{DataBeginAt, ReadsBeginning, HoldsFew, IsBeginning, IsRefused, NoLetterGiven, ReadsBytes, RefusedAt, UnreadBeginning, UnreadTurn, turn_size}
+use Rattle.x7_forms.specs.Turn.{DataBeginAt, ReadsBeginning, HoldsFew, IsBeginning, IsJudged, IsRefused, NoLetterGiven, ReadsBytes, RefusedAt, UnreadBeginning, UnreadTurn, turn_size}
 use Rattle.x7_forms.proofs.HeadLemmas.{gives_self}
 use Rattle.x7_forms.proofs.ReadLemmas.{reads_as, reads_on}
 
@@ -282,16 +282,16 @@ piece_of (x ∷ old) mid piece all bytes n a b c e s f h g = record {
 -- the beginning that was read
 pub beginning_read : (old mid piece bytes line : List ℕ) (n start : ℕ) (last : Bool) (s0 s1 s2 : InputsState) → IsPiece old piece bytes n → mid ≡ old ++ piece → bytes ≡ mid → ReadsBytes s0 old s1
     → TakesInput s1 piece s2 → s2.asked ≡ s1.asked → InputsStay s1 s2 → (last ≡ true → AtEnd s2.rest) → (last ≡ false → s2.ends ≤ s0.ends)
-    → length old ≤ longest_header → length piece ≤ turn_size → (start ≤ length bytes) × IsBeginning bytes last line start → DataBeginAt bytes start → ReadsBeginning (record { bytes = mid; line = line; start = start; last = last }) s0 s2
-beginning_read old mid piece bytes line n start last s0 s1 s2 p a b r t q k e more few short j begin =
+    → length old ≤ longest_header → length piece ≤ turn_size → IsJudged bytes last line start → ReadsBeginning (record { bytes = mid; line = line; start = start; last = last }) s0 s2
+beginning_read old mid piece bytes line n start last s0 s1 s2 p a b r t q k e more few short j =
     subst (λ (m : List ℕ). ReadsBeginning (record { bytes = m; line = line; start = start; last = last }) s0 s2) b (record {
       reads = reads_as s0 s2 bytes (old ++ piece) (b ∙ a) (reads_on s0 s1 s2 old piece r t q k);
       end = e;
       no_end_read = more;
-      within = j.0;
+      within = j.within;
       short = omega (arith, few, short, ap length (b ∙ a), length-append old piece);
-      holds_few = holds_few old piece bytes n start p begin;
-      begins = j.1;
+      holds_few = holds_few old piece bytes n start p j.data_begin;
+      begins = j.begins;
     })
 
 -- a turn that was not read, before the header was judged

@@ -83,11 +83,11 @@ input_fault_text (input.Layout place) = codes "layout byte " ++ decimal place
 
 -- what the line of a refusal says after its label
 abbrev pub detail_text : Detail → List ℕ
-detail_text (detail.Text text) = text.now
+detail_text detail.Nothing = []
 detail_text (detail.Number number) = decimal number
 detail_text (detail.Word word) = hex_word word
 detail_text (detail.Sum line want got) = decimal line ++ (codes " want " ++ (hex_byte want ++ (codes " got " ++ hex_byte got)))
-detail_text (detail.InRow key row) = placed_key key.now (Some row)
+detail_text (detail.Key place) = which_text place
 
 -- a row of the table of reasons: the status and the cause of a reason, and what its line says before and after the name
 pub record ReasonRow : Type 0 where

@@ -1,11 +1,12 @@
 -- Inputs that are read turn by turn (this project's choice). A turn reads as many bytes as a buffer holds, and what it
 -- read is used before the next turn.
-use Rattle.std.specs.Prelude.{◌≡◌, ◌≢◌, ◌<◌, ◌≤◌, ◌⊎◌, ◌++◌, ℕ, Bool, true, false, List, [], Some, Ok, Err, IfSome, drop, length, ◌+◌}
-use Rattle.x7_words.specs.Input.{InputsState, AtEnd, InputsFail, MissesInput, InputsStay, TakesInput, preceded}
+use Rattle.std.specs.Prelude.{◌≡◌, ◌≢◌, ◌<◌, ◌≤◌, ◌⊎◌, ◌++◌, ℕ, Bool, true, false, List, [], Some, Ok, Err, IfSome, drop, length, take, ◌+◌}
+use Rattle.x7_words.specs.Input.{InputsState, AsksAtMost, AsksForName, AsksOnce, AtEnd, InputsFail, MissesInput, InputsStay, TakesInput, preceded}
 use Rattle.x7_header.specs.Header.{HeaderContents, EndsInHeader, HasOtherLetterAt, FitHeaderFields, fixed_bytes, fixed_size, header_bytes, longest_header}
 use Rattle.x7_forms.specs.Event.{Event, bad_input, missing, no_memory, reading_failed, too_large}
 use Rattle.x7_forms.specs.declared.bad_input.InputFault.TheVariants as input
 use Rattle.x7_forms.specs.declared.beginning.Beginning.{Beginning}
+use Rattle.x7_forms.specs.declared.read.Turn.{Turn}
 use Rattle.x7_forms.specs.Known.{stream_limit}
 use Rattle.x7_listing.specs.Listing.{listing_of}
 use Rattle.x7_listing.specs.StreamListing.{stream_listing}
@@ -39,18 +40,54 @@ pub record ReadsBytes (old : InputsState) (bytes : List ℕ) (new : InputsState)
   pub asked : new.asked ≡ old.asked
   pub stays : InputsStay old new
 
--- No input was asked for since, and of the selected one at most `left` bytes and one more
--- were given, and its end read once at most.
-pub record GivesWithinLimit (old : InputsState) (left : ℕ) (new : InputsState) : Type 0 where
+-- No input was asked for, at most this many bytes of the selected one were given, its end was read once at most, and
+-- every input keeps its bytes.
+pub record GivesAtMost (old : InputsState) (most : ℕ) (new : InputsState) : Type 0 where
   pub asked : new.asked ≡ old.asked
   pub selects : new.selects ≡ old.selects
   pub ends : new.ends ≤ old.ends + 1
-  pub given : new.given ≤ old.given + (left + 1)
+  pub given : new.given ≤ old.given + most
+  pub stays : InputsStay old new
+
+-- of the selected input, of which `left` bytes are within the limit, at most one byte over the limit was given
+abbrev pub GivesWithinLimit : InputsState → ℕ → InputsState → Type 0
+GivesWithinLimit old left new = GivesAtMost old (left + 1) new
+
+-- one input was asked for, of this name, no byte of it was given yet, and every input keeps its bytes
+pub record AsksFor (old : InputsState) (name : List ℕ) (new : InputsState) : Type 0 where
+  pub named : AsksForName name new
+  pub once : AsksOnce old new
+  pub stays : InputsStay old new
 
 -- The input of this name is the last that was asked for, and no more than a byte over this limit was given of it.
 pub record IsLastAsked (name : List ℕ) (limit : ℕ) (now : InputsState) : Type 0 where
   pub asked : IfSome now.asked (λ kept. kept ≡ name)
   pub given : now.given ≤ limit + 1
+
+-- No input but that of this name was asked for, and that once at most; no more than a byte over this limit was given of
+-- it, its end was read once at most, and every input keeps its bytes.
+pub record AsksOnlyFor (old : InputsState) (name : List ℕ) (limit : ℕ) (new : InputsState) : Type 0 where
+  pub last : IsLastAsked name limit new
+  pub once : AsksAtMost old 1 new
+  pub stays : InputsStay old new
+
+-- the first `count` bytes of a buffer are the next bytes of the open input; where they don't fill it, the input ends
+-- after them, and else no end was read
+pub record FillsBuffer (old : InputsState) (count : ℕ) (buffer : List ℕ) (new : InputsState) : Type 0 where
+  pub takes : TakesInput old (take count buffer) new
+  pub within : count ≤ length buffer
+  pub end : count < length buffer → AtEnd new.rest
+  pub no_end_read : count ≡ length buffer → new.ends ≤ old.ends
+
+-- a turn of the open input, of which `left` bytes were within the limit: its bytes stand at the start of the buffer, and
+-- are the last of the input, or fill the buffer, and then no end was read
+pub record ReadsTurn (old : InputsState) (left : ℕ) (turn : Turn) (buffer : List ℕ) (new : InputsState) : Type 0 where
+  pub takes : TakesInput old (take turn.count buffer) new
+  pub within_limit : turn.count ≤ left
+  pub within_buffer : turn.count ≤ length buffer
+  pub fills : turn.last ≡ false → turn.count ≡ length buffer
+  pub end : turn.last ≡ true → AtEnd new.rest
+  pub no_end_read : turn.last ≡ false → new.ends ≤ old.ends
 
 -- The open input, of which `left` bytes more are within the limit, was not read to its end: it failed before the limit
 -- was passed, or one byte over the limit was taken.
@@ -58,6 +95,13 @@ abbrev pub UnreadTurn : InputsState → List ℕ → InputsState → ℕ → Eve
 UnreadTurn old name new left event =
     ((event ≡ reading_failed name) × BreaksWithin old (left + 1) new)
     ⊎ ((event ≡ too_large name) × ((piece : List ℕ) × ((old.rest ≡ preceded piece new.rest) × (length piece ≡ left + 1))))
+
+-- a turn of at most `size` bytes of the open input wasn't read: it failed before as many were given, or the limit, of
+-- which `left` bytes were left, was passed within them
+pub record StopsTurn (old : InputsState) (name : List ℕ) (left size : ℕ) (new : InputsState) (event : Event) : Type 0 where
+  pub unread : UnreadTurn old name new left event
+  pub fails_early : event ≡ reading_failed name → new.given < old.given + size
+  pub over : event ≡ too_large name → left < size
 
 -- the rest of the open input, these bytes, was read to its end
 abbrev pub ReadsRest : InputsState → InputsState → List ℕ → Type 0
@@ -92,6 +136,12 @@ RefusedAt bytes place = (place ≡ length bytes) ⊎ HasOtherLetterAt bytes plac
 -- the first bytes of a stream, where its header is judged: its line or nothing, and where the data begin
 abbrev pub IsBeginning : List ℕ → Bool → List ℕ → ℕ → Type 0
 IsBeginning bytes last line start = (rest : List ℕ) → FollowsUnlessLast last rest → stream_listing (bytes ++ rest) ≡ Ok (line ++ listing_of (drop start bytes ++ rest))
+
+-- the header is judged by these bytes: its line or nothing, and where the data begin among them
+pub record IsJudged (bytes : List ℕ) (last : Bool) (line : List ℕ) (start : ℕ) : Type 0 where
+  pub within : start ≤ length bytes
+  pub begins : IsBeginning bytes last line start
+  pub data_begin : DataBeginAt bytes start
 
 -- bytes that end inside a header, of a stream that may have more
 abbrev pub HeaderGoesOn : List ℕ → Bool → Type 0

@@ -1,10 +1,9 @@
 //! The beginning of a stream that is listed, up to where its header is judged.
-ghost use Rattle.std.specs.Prelude.{◌≡◌, ◌≤◌, ◌+◌, ◌⊎◌, ℕ, length, true, false, IfErr, IfOk, MatchOption, OnOk};
+ghost use Rattle.std.specs.Prelude.{◌≡◌, ◌≤◌, ◌+◌, ◌⊎◌, ℕ, length, true, false, IfErr, IfOk, MatchOption};
 ghost use Rattle.x7_header.specs.Header.{fixed_size};
-ghost use Rattle.x7_words.specs.Input.{InputsStay};
 ghost use Rattle.x7_forms.specs.Event.{bad_input, event_of, no_memory};
 ghost use Rattle.x7_forms.specs.Known.{stream_limit};
-ghost use Rattle.x7_forms.specs.Turn.{DataBeginAt, GivesWithinLimit, HeaderGoesOn, IsBeginning, IsRefused, ReadsBeginning, RefusedAt, UnreadBeginning, beginning_data, longest_beginning};
+ghost use Rattle.x7_forms.specs.Turn.{GivesWithinLimit, HeaderGoesOn, IsJudged, IsRefused, ReadsBeginning, RefusedAt, UnreadBeginning, beginning_data, longest_beginning};
 ghost use Rattle.x7_forms.specs.declared.bad_input.InputFault.TheVariants as input;
 
 use crate::read::{STREAM_LIMIT, TURN_SIZE, next_turn, refused_at};
@@ -33,9 +32,7 @@ fn judge<'w>(
     last: bool,
 ) -> Result<Option<Judged>, Refusal<'w>>
     requires long { last ≡ false → fixed_size ≤ length bytes.now }
-    ensures judged { IfOk result (λ found. MatchOption found (HeaderGoesOn bytes.now last)
-        (λ judged. (judged.start ≤ length bytes.now) × IsBeginning bytes.now last judged.line.items judged.start)) }
-    ensures data_begin { IfOk result (λ found. MatchOption found (Unit {0}) (λ judged. DataBeginAt bytes.now judged.start)) }
+    ensures judged { IfOk result (λ found. MatchOption found (HeaderGoesOn bytes.now last) (λ judged. IsJudged bytes.now last judged.line.items judged.start)) }
     ensures refused { IfErr result (λ r. (event_of r ≡ no_memory)
         ⊎ ((place : ℕ) × (event_of r ≡ bad_input name.now (input.Byte place)) × IsRefused bytes.now last place × RefusedAt bytes.now place)) }
 {
@@ -89,12 +86,10 @@ pub fn read_beginning<'w, I: Inputs>(
     stream: &'w str,
 ) -> Result<Beginning, Refusal<'w>>
     requires selected { (I.state inputs.old).selected ≡ true }
-    ensures selected { OnOk result ((I.state inputs.new).selected ≡ true) }
     ensures begins { IfOk result (λ first. ReadsBeginning (beginning_data first) (I.state inputs.old) (I.state inputs.new)) }
     ensures refused { IfErr result (λ r. UnreadBeginning (I.state inputs.old) stream.now (I.state inputs.new) (event_of r)) }
     ensures gives_few { GivesWithinLimit (I.state inputs.old) stream_limit (I.state inputs.new) }
     ensures short { (I.state inputs.new).given ≤ (I.state inputs.old).given + longest_beginning }
-    ensures inputs { InputsStay (I.state inputs.old) (I.state inputs.new) }
 {
     let mut bytes = Vec::new(alloc);
     let mut piece = [0u8; TURN_SIZE];

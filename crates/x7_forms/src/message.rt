@@ -14,8 +14,8 @@ use x7_words::{Failed, Sink, write_pieces};
 /// What the line of a refusal says after the name and a label.
 #[derive(Clone, Copy, Drop)]
 pub(crate) enum Detail {
-    /// The text, which may be empty.
-    Text(&'static str),
+    /// Nothing more.
+    Nothing,
     /// A number.
     Number(u64),
     /// A word.
@@ -29,13 +29,8 @@ pub(crate) enum Detail {
         /// The byte that stands there.
         got: u8,
     },
-    /// A key of a row of a part file.
-    InRow {
-        /// The key.
-        key: &'static str,
-        /// The number of the row, from 1.
-        row: u32,
-    },
+    /// A key of a part file, with its row where it is a row's.
+    Key(Which),
 }
 
 /// What the line of an input that was refused says after its name: a label, and what comes after that.
@@ -49,26 +44,15 @@ fn of_input(fault: InputFault) -> (&'static [u8], Detail)
         InputFault::Sum { line, want, got } => (b": sum line ", Detail::Sum { line, want, got }),
         InputFault::LargeLine(line) => (b": large line ", Detail::Number(line)),
         InputFault::Overlap(place) => (b": overlap ", Detail::Word(place)),
-        InputFault::NoEnd => (b": no end", Detail::Text("")),
+        InputFault::NoEnd => (b": no end", Detail::Nothing),
         InputFault::AddressLine(line) => (b": address line ", Detail::Number(line)),
         InputFault::TwiceLine(line) => (b": twice line ", Detail::Number(line)),
-        InputFault::Empty => (b": empty", Detail::Text("")),
-        InputFault::Foreign => (b": foreign", Detail::Text("")),
-        InputFault::Range => (b": range", Detail::Text("")),
-        InputFault::Image => (b": image", Detail::Text("")),
-        InputFault::Long => (b": long", Detail::Text("")),
+        InputFault::Empty => (b": empty", Detail::Nothing),
+        InputFault::Foreign => (b": foreign", Detail::Nothing),
+        InputFault::Range => (b": range", Detail::Nothing),
+        InputFault::Image => (b": image", Detail::Nothing),
+        InputFault::Long => (b": long", Detail::Nothing),
         InputFault::Layout(place) => (b": layout byte ", Detail::Number(place)),
-    }
-}
-
-/// The key that a fault of a part file names, with its row where it is a row's.
-fn of_key(place: Which) -> Detail
-    ensures { which_text place ≡ detail_text result }
-{
-    let key = place.key.name();
-    match place.row {
-        Some(row) => Detail::InRow { key, row },
-        None => Detail::Text(key),
     }
 }
 
@@ -77,12 +61,12 @@ fn of_part(fault: PartFault) -> (&'static [u8], Detail)
     ensures { codes ": " ++ part_fault_text fault ≡ result.0.now ++ detail_text result.1 }
 {
     match fault {
-        PartFault::Toml => (b": toml", Detail::Text("")),
-        PartFault::Key(place) => (b": key ", of_key(place)),
-        PartFault::Range(place) => (b": range ", of_key(place)),
+        PartFault::Toml => (b": toml", Detail::Nothing),
+        PartFault::Key(place) => (b": key ", Detail::Key(place)),
+        PartFault::Range(place) => (b": range ", Detail::Key(place)),
         PartFault::SameRow(row) => (b": same row ", Detail::Number(u64::from(row))),
         PartFault::TooMany(frames) => (b": too many ", Detail::Number(u64::from(frames))),
-        PartFault::NoMemory => (b": no memory", Detail::Text("")),
+        PartFault::NoMemory => (b": no memory", Detail::Nothing),
     }
 }
 
@@ -94,7 +78,7 @@ pub(crate) fn after_name(reason: Why) -> (&'static [u8], Detail)
         Why::BadPart(fault) => of_part(fault),
         Why::BadInput(fault) => of_input(fault),
         Why::Differs(place) => (b": byte ", Detail::Number(place)),
-        _ => (b"", Detail::Text("")),
+        _ => (b"", Detail::Nothing),
     }
 }
 
@@ -170,6 +154,23 @@ fn write_in_row<'x, E: Sink>(
     )
 }
 
+/// Writes the line of a fault that names a key of a part file, with its row where it is a row's.
+fn write_key<'x, E: Sink>(
+    err: &mut E,
+    before_name: &'x [u8],
+    name: &'x str,
+    label: &'x [u8],
+    place: Which,
+) -> Result<(), Failed>
+    ensures { PutsOrFails (E.state err.old) (before_name.now ++ (name.now ++ (label.now ++ (which_text place ++ codes "\n")))) (E.state err.new) }
+{
+    let key = place.key.name();
+    match place.row {
+        Some(row) => write_in_row(err, before_name, name, label, key, row),
+        None => write_text(err, before_name, name, label, key.as_bytes()),
+    }
+}
+
 /// Writes a line: what stands before the name, the name, a label, and what comes after that.
 pub(crate) fn write_line<E: Sink>(
     err: &mut E,
@@ -181,7 +182,7 @@ pub(crate) fn write_line<E: Sink>(
     ensures { PutsOrFails (E.state err.old) (before_name.now ++ (name.now ++ (label.now ++ (detail_text detail ++ codes "\n")))) (E.state err.new) }
 {
     match detail {
-        Detail::Text(text) => write_text(err, before_name, name, label, text.as_bytes()),
+        Detail::Nothing => write_text(err, before_name, name, label, b""),
         Detail::Number(number) => {
             let mut buffer = Buffer::new();
             let digits = buffer.format(number).as_bytes();
@@ -191,6 +192,6 @@ pub(crate) fn write_line<E: Sink>(
         Detail::Sum { line, want, got } => {
             write_sum(err, before_name, name, label, line, want, got)
         }
-        Detail::InRow { key, row } => write_in_row(err, before_name, name, label, key, row),
+        Detail::Key(place) => write_key(err, before_name, name, label, place),
     }
 }

@@ -1,9 +1,8 @@
 //! The part of a part file.
 ghost use Rattle.std.specs.Prelude.{◌≡◌, [], ◌∷◌, IfErr};
-ghost use Rattle.x7_words.specs.Input.{AsksAtMost, InputsStay};
 ghost use Rattle.x7_forms.specs.Event.{event_of};
 ghost use Rattle.x7_forms.specs.Known.{part_event, part_known, part_limit};
-ghost use Rattle.x7_forms.specs.Turn.{IsLastAsked};
+ghost use Rattle.x7_forms.specs.Turn.{AsksOnlyFor};
 ghost use Rattle.x7_forms.specs.Step.{AnswersAs, IsNoPart, result_by, step_over};
 
 use crate::read::{PART_LIMIT, read_whole};
@@ -34,9 +33,7 @@ pub fn read_part<'w, I: Inputs>(
     ensures caused { AnswersAs (step_over (name.now ∷ []) (I.state inputs.old) (I.state inputs.new))
         (λ known. part_known known name.now) (result_by (λ part. part) result) }
     ensures named { IfErr result (λ r. IsNoPart name.now (event_of r)) }
-    ensures last_asked { IsLastAsked name.now part_limit (I.state inputs.new) }
-    ensures asks { AsksAtMost (I.state inputs.old) 1 (I.state inputs.new) }
-    ensures inputs { InputsStay (I.state inputs.old) (I.state inputs.new) }
+    ensures asks { AsksOnlyFor (I.state inputs.old) name.now part_limit (I.state inputs.new) }
 {
     let text = read_whole(alloc, inputs, name, PART_LIMIT)?;
     match part_of(alloc, &text) {

@@ -1,9 +1,9 @@
 //! Reading an input in turns: each fills a buffer, which is used before the next turn.
-ghost use Rattle.std.specs.Prelude.{◌≡◌, ◌+◌, ◌-◌, ◌<◌, ◌≤◌, ◌++◌, ◌⊎◌, ℕ, List, drop, length, take, true, false, vec_len, IfErr, IfOk, OnOk};
-ghost use Rattle.x7_words.specs.Input.{AsksForName, AsksAtMost, AsksOnce, AtEnd, OpensInput, InputsStay, TakesInput};
-ghost use Rattle.x7_forms.specs.Event.{bad_input, event_of, no_memory, reading_failed, too_large};
+ghost use Rattle.std.specs.Prelude.{◌≡◌, ◌+◌, ◌<◌, ◌≤◌, ◌⊎◌, ℕ, List, drop, length, true, vec_len, IfErr, IfOk, OnErr, OnOk};
+ghost use Rattle.x7_words.specs.Input.{AtEnd, OpensInput};
+ghost use Rattle.x7_forms.specs.Event.{bad_input, event_of, no_memory};
 ghost use Rattle.x7_forms.specs.Known.{data_in};
-ghost use Rattle.x7_forms.specs.Turn.{AppendsRest, BreaksWithin, GivesWithinLimit, ReadsRest, IsLastAsked, Unopened, UnreadTurn, UnreadRest};
+ghost use Rattle.x7_forms.specs.Turn.{AppendsRest, AsksFor, AsksOnlyFor, BreaksWithin, FillsBuffer, GivesAtMost, GivesWithinLimit, ReadsRest, ReadsTurn, StopsTurn, Unopened, UnreadRest};
 ghost use Rattle.x7_forms.specs.Step.{IsUnread, ReadsWhole, result_by};
 ghost use Rattle.x7_forms.specs.declared.bad_input.InputFault.TheVariants as input;
 
@@ -12,7 +12,7 @@ use crate::refusal::{Refusal, Why};
 use std::alloc::Global;
 use x7_header::{HeaderFault, header_of};
 use x7_text::put_text;
-use x7_words::{Inputs, SelectFault};
+use x7_words::{Failed, Inputs, SelectFault};
 
 /// The most bytes of a stream, and of all streams of one `play` together.
 pub const STREAM_LIMIT: usize = 67_108_864;
@@ -43,32 +43,18 @@ fn asked_count(left: usize, room: usize) -> usize
 
 /// Fills the buffer with the next bytes of the selected input, and answers how many there were: fewer than the buffer
 /// holds only where the input ended.
-fn fill<'w, I: Inputs>(
-    inputs: &mut I,
-    name: &'w str,
-    buffer: &mut [u8],
-) -> Result<usize, Refusal<'w>>
+fn fill<I: Inputs>(inputs: &mut I, buffer: &mut [u8]) -> Result<usize, Failed>
     requires { (I.state inputs.old).selected ≡ true }
-    ensures takes { IfOk result (λ n. TakesInput (I.state inputs.old) (take n buffer.new) (I.state inputs.new)) }
-    ensures within { IfOk result (λ n. n ≤ length buffer.old) }
-    ensures end { IfOk result (λ n. n < length buffer.old → AtEnd (I.state inputs.new).rest) }
-    ensures no_end_read { IfOk result (λ n. n ≡ length buffer.old → (I.state inputs.new).ends ≤ (I.state inputs.old).ends) }
-    ensures end_once { (I.state inputs.new).ends ≤ (I.state inputs.old).ends + 1 }
+    ensures fills { IfOk result (λ n. FillsBuffer (I.state inputs.old) n buffer.new (I.state inputs.new)) }
+    ensures failed { OnErr result (BreaksWithin (I.state inputs.old) (length buffer.old) (I.state inputs.new)) }
+    ensures gives { GivesAtMost (I.state inputs.old) (length buffer.old) (I.state inputs.new) }
     ensures length { length buffer.new ≡ length buffer.old }
-    ensures failed { IfErr result (λ r. (event_of r ≡ reading_failed name.now) × BreaksWithin (I.state inputs.old) (length buffer.old) (I.state inputs.new)) }
-    ensures asked { (I.state inputs.new).asked ≡ (I.state inputs.old).asked }
-    ensures gives_a_turn { (I.state inputs.new).given ≤ (I.state inputs.old).given + length buffer.old }
-    ensures selects { (I.state inputs.new).selects ≡ (I.state inputs.old).selects }
-    ensures inputs { InputsStay (I.state inputs.old) (I.state inputs.new) }
 {
     let mut at = 0;
     while at < buffer.len() {
         let count = match inputs.read(&mut buffer[at..]) {
             Ok(count) => count,
-            Err(_) => return Err(Refusal {
-                reason: Why::ReadFault,
-                name,
-            }),
+            Err(failed) => return Err(failed),
         };
         if count == 0 {
             return Ok(at);
@@ -82,9 +68,7 @@ fn fill<'w, I: Inputs>(
 pub fn open<'w, I: Inputs>(inputs: &mut I, name: &'w str) -> Result<(), Refusal<'w>>
     ensures opened { OnOk result (OpensInput (I.state inputs.old) name.now (I.state inputs.new)) }
     ensures refused { IfErr result (λ r. Unopened (I.state inputs.old) name.now (I.state inputs.new) (event_of r)) }
-    ensures asks { AsksForName name.now (I.state inputs.new) }
-    ensures once { AsksOnce (I.state inputs.old) (I.state inputs.new) }
-    ensures inputs { InputsStay (I.state inputs.old) (I.state inputs.new) }
+    ensures asks { AsksFor (I.state inputs.old) name.now (I.state inputs.new) }
 {
     match inputs.select(name) {
         Ok(()) => Ok(()),
@@ -117,21 +101,19 @@ pub fn next_turn<'w, I: Inputs>(
 ) -> Result<Turn, Refusal<'w>>
     requires selected { (I.state inputs.old).selected ≡ true }
     requires not_empty { 0 < length buffer.old }
-    ensures takes { IfOk result (λ turn. TakesInput (I.state inputs.old) (take turn.count buffer.new) (I.state inputs.new)) }
-    ensures within { IfOk result (λ turn. (turn.count ≤ left) × (turn.count ≤ length buffer.old)) }
-    ensures fills { IfOk result (λ turn. turn.last ≡ false → turn.count ≡ length buffer.old) }
-    ensures end { IfOk result (λ turn. turn.last ≡ true → AtEnd (I.state inputs.new).rest) }
-    ensures no_end_read { IfOk result (λ turn. turn.last ≡ false → (I.state inputs.new).ends ≤ (I.state inputs.old).ends) }
+    ensures reads { IfOk result (λ turn. ReadsTurn (I.state inputs.old) left turn buffer.new (I.state inputs.new)) }
+    ensures refused { IfErr result (λ r. StopsTurn (I.state inputs.old) name.now left (length buffer.old) (I.state inputs.new) (event_of r)) }
     ensures length { length buffer.new ≡ length buffer.old }
-    ensures refused { IfErr result (λ r. UnreadTurn (I.state inputs.old) name.now (I.state inputs.new) left (event_of r)) }
-    ensures fails_early { IfErr result (λ r. event_of r ≡ reading_failed name.now → (I.state inputs.new).given < (I.state inputs.old).given + length buffer.old) }
-    ensures over { IfErr result (λ r. event_of r ≡ too_large name.now → left < length buffer.old) }
     ensures gives_few { GivesWithinLimit (I.state inputs.old) left (I.state inputs.new) }
-    ensures gives_a_turn { (I.state inputs.new).given ≤ (I.state inputs.old).given + length buffer.old }
-    ensures inputs { InputsStay (I.state inputs.old) (I.state inputs.new) }
+    ensures gives_a_turn { GivesAtMost (I.state inputs.old) (length buffer.old) (I.state inputs.new) }
 {
     let most = asked_count(left, buffer.len());
-    let count = fill(inputs, name, &mut buffer[..most])?;
+    let Ok(count) = fill(inputs, &mut buffer[..most]) else {
+        return Err(Refusal {
+            reason: Why::ReadFault,
+            name,
+        });
+    };
     if count > left {
         return Err(Refusal {
             reason: Why::TooLarge,
@@ -156,7 +138,6 @@ fn read_rest<'w, I: Inputs>(
     ensures read { OnOk result (AppendsRest (I.state inputs.old) (I.state inputs.new) limit onto.old.items onto.new.items) }
     ensures refused { IfErr result (λ r. (event_of r ≡ no_memory) ⊎ UnreadRest (I.state inputs.old) name.now (I.state inputs.new) limit (event_of r)) }
     ensures gives_few { GivesWithinLimit (I.state inputs.old) limit (I.state inputs.new) }
-    ensures inputs { InputsStay (I.state inputs.old) (I.state inputs.new) }
 {
     let mut piece = [0u8; TURN_SIZE];
     let mut left = limit;
@@ -180,9 +161,7 @@ pub fn read_whole<'w, I: Inputs>(
     ensures caused { ReadsWhole (I.state inputs.old) (I.state inputs.new) limit name.now (result_by (λ whole. whole.items) result) }
     ensures named { IfErr result (λ r. IsUnread name.now (event_of r)) }
     ensures within { IfOk result (λ whole. vec_len whole ≤ limit) }
-    ensures last_asked { IsLastAsked name.now limit (I.state inputs.new) }
-    ensures asks { AsksAtMost (I.state inputs.old) 1 (I.state inputs.new) }
-    ensures inputs { InputsStay (I.state inputs.old) (I.state inputs.new) }
+    ensures asks { AsksOnlyFor (I.state inputs.old) name.now limit (I.state inputs.new) }
 {
     open(inputs, name)?;
     let mut whole = Vec::new(alloc);
@@ -207,7 +186,6 @@ pub fn skip_rest<'w, I: Inputs>(
     ensures length { length buffer.new ≡ length buffer.old }
     ensures gives_few { GivesWithinLimit (I.state inputs.old) limit (I.state inputs.new) }
     ensures no_end_read { last ≡ true → (I.state inputs.new).ends ≤ (I.state inputs.old).ends }
-    ensures inputs { InputsStay (I.state inputs.old) (I.state inputs.new) }
 {
     if last {
         return Ok(());

@@ -1,9 +1,9 @@
 //! Texts that are read line by line while they come.
 ghost use Rattle.std.specs.Prelude.{ℕ, ◌<◌, List, [], ◌++◌, length, Ok, Err, IfOk, IfErr, ◌+◌};
-ghost use Rattle.x7_words.specs.Input.{AsksAtMost, InputsStay, taken_bytes_limit};
+ghost use Rattle.x7_words.specs.Input.{taken_bytes_limit};
 ghost use Rattle.x7_forms.specs.Event.{event_of};
 ghost use Rattle.x7_forms.specs.Step.{IsUnread, ReadsWhole};
-ghost use Rattle.x7_forms.specs.Turn.{IsLastAsked};
+ghost use Rattle.x7_forms.specs.Turn.{AsksOnlyFor};
 ghost use Rattle.x7_forms.specs.Known.{text_limit};
 ghost use Rattle.x7_outcome.specs.Feeding.{IsFed, LinesGive};
 
@@ -49,9 +49,7 @@ pub fn feed_whole<'w, I: Inputs, T: TakesLines>(
         × ReadsWhole (I.state inputs.old) (I.state inputs.new) text_limit name.now (Ok text)) }
     ensures refused { IfErr result (λ r. ReadsWhole (I.state inputs.old) (I.state inputs.new) text_limit name.now (Err (event_of r))) }
     ensures named { IfErr result (λ r. IsUnread name.now (event_of r)) }
-    ensures last_asked { IsLastAsked name.now text_limit (I.state inputs.new) }
-    ensures asks { AsksAtMost (I.state inputs.old) 1 (I.state inputs.new) }
-    ensures inputs { InputsStay (I.state inputs.old) (I.state inputs.new) }
+    ensures asks { AsksOnlyFor (I.state inputs.old) name.now text_limit (I.state inputs.new) }
 {
     open(inputs, name)?;
     let mut piece = [0u8; TURN_SIZE];

@@ -1,10 +1,9 @@
 //! Streams that are read whole, each within the limit of a stream, whatever the others have.
 ghost use Rattle.std.specs.Prelude.{◌≡◌, ◌≤◌, [], ◌∷◌, IfErr, IfOk, length};
-ghost use Rattle.x7_words.specs.Input.{AsksAtMost, InputsStay};
 ghost use Rattle.x7_outcome.specs.Outcome.{stream_data};
 ghost use Rattle.x7_forms.specs.Known.{stream_limit};
 ghost use Rattle.x7_forms.specs.Event.{event_of};
-ghost use Rattle.x7_forms.specs.Turn.{IsLastAsked};
+ghost use Rattle.x7_forms.specs.Turn.{AsksOnlyFor};
 ghost use Rattle.x7_forms.specs.Step.{AnswersAs, IsUnplayed, result_by, step_over};
 ghost use Rattle.x7_outcome.specs.Stream.{data_from};
 
@@ -30,10 +29,8 @@ pub fn read_stream<'w, I: Inputs>(
     ensures caused { AnswersAs (step_over (name.now ∷ []) (I.state inputs.old) (I.state inputs.new))
         (λ known. stream_data known name.now) (result_by data_from result) }
     ensures named { IfErr result (λ r. IsUnplayed name.now (event_of r)) }
-    ensures last_asked { IsLastAsked name.now stream_limit (I.state inputs.new) }
     ensures within { IfOk result (λ stream. stream.start ≤ length stream.bytes.items) }
-    ensures asks { AsksAtMost (I.state inputs.old) 1 (I.state inputs.new) }
-    ensures inputs { InputsStay (I.state inputs.old) (I.state inputs.new) }
+    ensures asks { AsksOnlyFor (I.state inputs.old) name.now stream_limit (I.state inputs.new) }
 {
     let bytes = read_whole(alloc, inputs, name, STREAM_LIMIT)?;
     let start = data_start(name, &bytes)?;
@@ -64,9 +61,7 @@ pub fn read_data<'w, I: Inputs>(
     ensures caused { AnswersAs (step_over (name.now ∷ []) (I.state inputs.old) (I.state inputs.new))
         (λ known. stream_data known name.now) (result_by (λ bytes. bytes.items) result) }
     ensures named { IfErr result (λ r. IsUnplayed name.now (event_of r)) }
-    ensures last_asked { IsLastAsked name.now stream_limit (I.state inputs.new) }
-    ensures asks { AsksAtMost (I.state inputs.old) 1 (I.state inputs.new) }
-    ensures inputs { InputsStay (I.state inputs.old) (I.state inputs.new) }
+    ensures asks { AsksOnlyFor (I.state inputs.old) name.now stream_limit (I.state inputs.new) }
 {
     let stream = read_stream(alloc, inputs, name)?;
     Ok(into_data(stream))

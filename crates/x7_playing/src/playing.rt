@@ -4,7 +4,7 @@ ghost use Rattle.x7_words.specs.Input.{AsksAtMost, AtEnd, InputsStay};
 ghost use Rattle.x7_forms.specs.Event.{event_of, no_memory};
 ghost use Rattle.x7_forms.specs.Known.{stream_limit};
 ghost use Rattle.x7_playing.specs.Playing.{MayPlay, PlaysOn, PlaysRest, PlaysStream, PlaysStreams};
-ghost use Rattle.x7_forms.specs.Turn.{GivesWithinLimit, IsLastAsked, ReadsRest, UnreadRest, play_turn_size};
+ghost use Rattle.x7_forms.specs.Turn.{AsksOnlyFor, GivesWithinLimit, ReadsRest, UnreadRest, play_turn_size};
 ghost use Rattle.x7_forms.specs.ReadingStops.{StopsAmong, limited_together};
 ghost use Rattle.x7_forms.specs.Step.{IsOneUnplayed, IsUnplayed, ReadsStream, ReadsStreams};
 
@@ -37,7 +37,6 @@ fn play_rest<'w, I: Inputs>(
     ensures length { length piece.new ≡ length piece.old }
     ensures gives_few { GivesWithinLimit (I.state inputs.old) limit (I.state inputs.new) }
     ensures no_end_read { last ≡ true → (I.state inputs.new).ends ≤ (I.state inputs.old).ends }
-    ensures inputs { InputsStay (I.state inputs.old) (I.state inputs.new) }
 {
     if last {
         return Ok(limit);
@@ -69,10 +68,8 @@ fn play_stream<'w, I: Inputs>(
     ensures played { IfOk result (λ left. PlaysStream limit left (PlaysOn player.old player.new) (ReadsStream (I.state inputs.old) (I.state inputs.new) limit name.now)) }
     ensures refused { IfErr result (λ r. ReadsStream (I.state inputs.old) (I.state inputs.new) limit name.now (Err (event_of r))) }
     ensures named { IfErr result (λ r. IsUnplayed name.now (event_of r)) }
-    ensures last_asked { IsLastAsked name.now limit (I.state inputs.new) }
-    ensures asks { AsksAtMost (I.state inputs.old) 1 (I.state inputs.new) }
+    ensures asks { AsksOnlyFor (I.state inputs.old) name.now limit (I.state inputs.new) }
     ensures length { length piece.new ≡ length piece.old }
-    ensures inputs { InputsStay (I.state inputs.old) (I.state inputs.new) }
 {
     open(inputs, name)?;
     let first = next_turn(inputs, name, limit, piece)?;

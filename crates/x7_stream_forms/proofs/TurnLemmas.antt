@@ -1,6 +1,6 @@
 -- A listing that is written turn by turn.
 use Rattle.std.proofs.Common.{length-append, arith, inl, inr, ◌≡◌, ℕ, ◌+◌, ◌<◌, Bool, true, List, [], ◌∷◌, ◌++◌, false, Option, None, Some, Ok, Err, length, refl, ap, sym, subst, ◌∙◌, append_assoc, append-nil, Result}
-use Rattle.x7_words.specs.Sink.{appended, PutsPrefix, SinkState}
+use Rattle.x7_words.specs.Sink.{appended, PutsPrefix}
 use Rattle.x7_words.specs.Word.{AreBytes}
 use Rattle.x7_words.proofs.SinkLemmas.{appended_appended, appended_nil, prefix_more}
 use Rattle.x7_packets.specs.ByHand.{reading_of}

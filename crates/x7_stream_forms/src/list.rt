@@ -118,8 +118,9 @@ pub fn list<'w, I: Inputs, O: Sink>(
     }
     are_bytes(content);
     put_beginning(&mut lister, out, line, content)?;
-    let mut piece = [0u8; TURN_SIZE];
     let mut left = STREAM_LIMIT - beginning.bytes.len();
+    drop(beginning);
+    let mut piece = [0u8; TURN_SIZE];
     loop {
         let turn = next_turn(inputs, stream, left, &mut piece)?;
         let bytes = &piece[..turn.count];

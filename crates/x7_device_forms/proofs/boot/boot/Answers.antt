@@ -29,8 +29,8 @@ returns-clause-ready g c =
       measured = boot_measured (Some (Booting part_name name)) name part first last made c.boot_from.ensures.caused;
       fails_last = boot_last play_answer name part_name old last c.boot_from.result c.boot_from.ensures.failed (part_good old.contents C name part_name part (c.in_ok-part.ensures.caused None));
       judges = comes_judges part_name name part old new first last made c.boot_from.ensures.caused;
-      asks = c.read_part.ensures.asks;
-      stays = c.read_part.ensures.inputs;
+      asks = c.read_part.ensures.asks.once;
+      stays = c.read_part.ensures.asks.stays;
     }
 
 pub returns-in_err-part-clause-ready : goal.returns-in_err-part-clause-ready
@@ -42,10 +42,10 @@ returns-in_err-part-clause-ready g c = rw (handed_on c.from_residual.result c.in
     let event = event_of c.in_err-part.field-0.0 in
     record {
       caused = λ before after. part_refused (record before { inputs = old; flash = flash }) (record after { inputs = new; flash = flash }) name part_name event (c.in_err-part.ensures.caused flash.bytes);
-      stops = first_stops (Booting part_name name) (limited part_limit part_name) [] old new event refl c.read_part.ensures.last_asked c.read_part.ensures.asks (no_part_about part_name event c.in_err-part.ensures.named);
+      stops = first_stops (Booting part_name name) (limited part_limit part_name) [] old new event refl c.read_part.ensures.asks.last c.read_part.ensures.asks.once (no_part_about part_name event c.in_err-part.ensures.named);
       measured = no_part_measured (Some (Booting part_name name)) flash part_name event (inl refl) c.in_err-part.ensures.named;
       fails_last = no_part_last (Booting part_name name) old flash part_name event (inl refl) c.in_err-part.ensures.named;
       judges = untouched_judges part_name name old new flash event;
-      asks = c.read_part.ensures.asks;
-      stays = c.read_part.ensures.inputs;
+      asks = c.read_part.ensures.asks.once;
+      stays = c.read_part.ensures.asks.stays;
     })

@@ -21,7 +21,7 @@ returns-in_err-stream-clause-caused g c = rw (handed_on c.from_residual-in_err-s
     let event = event_of c.in_err-stream.field-0.0 in
     answers_go PartData DebugInputs (part ∷ []) (stream ∷ []) (part ∷ stream ∷ script ∷ []) (i.state c.args.inputs.now) (i.state c.read_part.new.inputs) (i.state c.read_data.new.inputs) (λ t. part_known t part)
     (λ t p. and_so (stream_data t stream) (λ bytes. and_so (whole_known t script_limit script) (λ text. Ok (record { part = p; stream = bytes; script = text })))) c.in_ok-part.part (Err event)
-    (part_steady part) c.read_part.ensures.inputs (λ n h. inr (first_of stream (script ∷ []) n h)) c.in_ok-part.ensures.caused
+    (part_steady part) c.read_part.ensures.asks.stays (λ n h. inr (first_of stream (script ∷ []) n h)) c.in_ok-part.ensures.caused
     (answers_stop (List ℕ) DebugInputs (stream ∷ []) (stream ∷ []) (i.state c.read_part.new.inputs) (i.state c.read_data.new.inputs) (λ t. stream_data t stream)
     (λ t bytes. and_so (whole_known t script_limit script) (λ text. Ok (record { part = c.in_ok-part.part; stream = bytes; script = text }))) event (λ n h. h) c.in_err-stream.ensures.caused))
 
@@ -35,10 +35,10 @@ returns-in_err-script-clause-caused g c = rw (handed_on c.from_residual-in_err-s
     let last = i.state c.read_whole.new.inputs in
     let event = event_of c.in_err-script.field-0.0 in
     answers_go PartData DebugInputs (part ∷ []) (stream ∷ script ∷ []) (part ∷ stream ∷ script ∷ []) (i.state c.args.inputs.now) first last (λ t. part_known t part)
-    (λ t p. and_so (stream_data t stream) (λ bytes. and_so (whole_known t script_limit script) (λ text. Ok (record { part = p; stream = bytes; script = text })))) c.in_ok-part.part (Err event) (part_steady part) c.read_part.ensures.inputs (λ n h. inr h) c.in_ok-part.ensures.caused
+    (λ t p. and_so (stream_data t stream) (λ bytes. and_so (whole_known t script_limit script) (λ text. Ok (record { part = p; stream = bytes; script = text })))) c.in_ok-part.part (Err event) (part_steady part) c.read_part.ensures.asks.stays (λ n h. inr h) c.in_ok-part.ensures.caused
     (answers_go (List ℕ) DebugInputs (stream ∷ []) (script ∷ []) (stream ∷ script ∷ []) first second last (λ t. stream_data t stream)
     (λ t bytes. and_so (whole_known t script_limit script) (λ text. Ok (record { part = c.in_ok-part.part; stream = bytes; script = text }))) c.in_ok-stream.stream.items (Err event)
-    (stream_steady stream) c.read_data.ensures.inputs (λ n h. inr h) c.in_ok-stream.ensures.caused
+    (stream_steady stream) c.read_data.ensures.asks.stays (λ n h. inr h) c.in_ok-stream.ensures.caused
     (answers_stop (List ℕ) DebugInputs (script ∷ []) (script ∷ []) second last (λ t. whole_known t script_limit script) (λ t text. Ok (record { part = c.in_ok-part.part; stream = c.in_ok-stream.stream.items; script = text })) event (λ n h. h) c.in_err-script.ensures.caused)))
 
 pub returns-in_err-part-clause-caused : goal.returns-in_err-part-clause-caused
@@ -53,23 +53,23 @@ pub returns-in_err-part-clause-stops : goal.returns-in_err-part-clause-stops
 returns-in_err-part-clause-stops g c = rw (handed_on c.from_residual.result c.in_err-part.field-0.0 c.from_residual.ensures)
     (about_among (limited part_limit c.args.part.now ∷ limited stream_limit c.args.stream.now ∷ limited script_limit c.args.script.now ∷ []) [] (limited part_limit c.args.part.now)
     (limited stream_limit c.args.stream.now ∷ limited script_limit c.args.script.now ∷ []) (g.I.Inputs.state c.args.inputs.now) (g.I.Inputs.state c.read_part.new.inputs)
-    (event_of c.in_err-part.field-0.0) refl c.read_part.ensures.last_asked c.read_part.ensures.asks (no_part_about c.args.part.now (event_of c.in_err-part.field-0.0) c.in_err-part.ensures.named))
+    (event_of c.in_err-part.field-0.0) refl c.read_part.ensures.asks.last c.read_part.ensures.asks.once (no_part_about c.args.part.now (event_of c.in_err-part.field-0.0) c.in_err-part.ensures.named))
 
 pub returns-in_err-stream-clause-stops : goal.returns-in_err-stream-clause-stops
 returns-in_err-stream-clause-stops g c = rw (handed_on c.from_residual-in_err-stream.result c.in_err-stream.field-0.0 c.from_residual-in_err-stream.ensures)
     (about_among (limited part_limit c.args.part.now ∷ limited stream_limit c.args.stream.now ∷ limited script_limit c.args.script.now ∷ []) (limited part_limit c.args.part.now ∷ []) (limited stream_limit c.args.stream.now)
     (limited script_limit c.args.script.now ∷ []) (g.I.Inputs.state c.args.inputs.now) (g.I.Inputs.state c.read_data.new.inputs)
-    (event_of c.in_err-stream.field-0.0) refl c.read_data.ensures.last_asked
-    (both_asked (g.I.Inputs.state c.args.inputs.now) (g.I.Inputs.state c.read_part.new.inputs) (g.I.Inputs.state c.read_data.new.inputs) c.read_part.ensures.asks c.read_data.ensures.asks)
+    (event_of c.in_err-stream.field-0.0) refl c.read_data.ensures.asks.last
+    (both_asked (g.I.Inputs.state c.args.inputs.now) (g.I.Inputs.state c.read_part.new.inputs) (g.I.Inputs.state c.read_data.new.inputs) c.read_part.ensures.asks.once c.read_data.ensures.asks.once)
     (unplayed_about c.args.stream.now (event_of c.in_err-stream.field-0.0) c.in_err-stream.ensures.named))
 
 pub returns-in_err-script-clause-stops : goal.returns-in_err-script-clause-stops
 returns-in_err-script-clause-stops g c = rw (handed_on c.from_residual-in_err-script.result c.in_err-script.field-0.0 c.from_residual-in_err-script.ensures)
     (about_among (limited part_limit c.args.part.now ∷ limited stream_limit c.args.stream.now ∷ limited script_limit c.args.script.now ∷ []) (limited part_limit c.args.part.now ∷ limited stream_limit c.args.stream.now ∷ [])
     (limited script_limit c.args.script.now) [] (g.I.Inputs.state c.args.inputs.now) (g.I.Inputs.state c.read_whole.new.inputs)
-    (event_of c.in_err-script.field-0.0) refl c.read_whole.ensures.last_asked
+    (event_of c.in_err-script.field-0.0) refl c.read_whole.ensures.asks.last
     (all_asked (g.I.Inputs.state c.args.inputs.now) (g.I.Inputs.state c.read_part.new.inputs) (g.I.Inputs.state c.read_data.new.inputs)
-    (g.I.Inputs.state c.read_whole.new.inputs) c.read_part.ensures.asks c.read_data.ensures.asks c.read_whole.ensures.asks) (unread_about c.args.script.now
+    (g.I.Inputs.state c.read_whole.new.inputs) c.read_part.ensures.asks.once c.read_data.ensures.asks.once c.read_whole.ensures.asks.once) (unread_about c.args.script.now
     (event_of c.in_err-script.field-0.0) c.in_err-script.ensures.named))
 
 pub returns-clause-caused : goal.returns-clause-caused
@@ -85,34 +85,34 @@ returns-clause-caused g c =
     let text = c.in_ok-script.script.items in
     let got : Result DebugInputs Event = Ok (record { part = c.in_ok-part.part; stream = content; script = text }) in
     answers_go PartData DebugInputs (part ∷ []) (stream ∷ script ∷ []) (part ∷ stream ∷ script ∷ []) (i.state c.args.inputs.now) first last (λ t. part_known t part)
-    (λ t p. and_so (stream_data t stream) (λ bytes. and_so (whole_known t script_limit script) (λ text. Ok (record { part = p; stream = bytes; script = text })))) c.in_ok-part.part got (part_steady part) c.read_part.ensures.inputs (λ n h. inr h) c.in_ok-part.ensures.caused
+    (λ t p. and_so (stream_data t stream) (λ bytes. and_so (whole_known t script_limit script) (λ text. Ok (record { part = p; stream = bytes; script = text })))) c.in_ok-part.part got (part_steady part) c.read_part.ensures.asks.stays (λ n h. inr h) c.in_ok-part.ensures.caused
     (answers_go (List ℕ) DebugInputs (stream ∷ []) (script ∷ []) (stream ∷ script ∷ []) first second last (λ t. stream_data t stream) (λ t bytes. and_so (whole_known t script_limit script) (λ text. Ok (record { part = c.in_ok-part.part; stream = bytes; script = text }))) content got
-    (stream_steady stream) c.read_data.ensures.inputs (λ n h. inr h) c.in_ok-stream.ensures.caused
+    (stream_steady stream) c.read_data.ensures.asks.stays (λ n h. inr h) c.in_ok-stream.ensures.caused
     (answers_end (List ℕ) DebugInputs (script ∷ []) second last (λ t. whole_known t script_limit script) (λ text. Ok (record { part = c.in_ok-part.part; stream = content; script = text })) text got (whole_steady script_limit script) c.in_ok-script.ensures.caused (inr (tt, tt, refl))))
 
 pub returns-in_err-part-clause-asks : goal.returns-in_err-part-clause-asks
-returns-in_err-part-clause-asks g c = few_more _ _ 1 3 (omega arith) c.read_part.ensures.asks
+returns-in_err-part-clause-asks g c = few_more _ _ 1 3 (omega arith) c.read_part.ensures.asks.once
 
 pub returns-in_err-stream-clause-asks : goal.returns-in_err-stream-clause-asks
-returns-in_err-stream-clause-asks g c = few_more _ _ 2 3 (omega arith) (few_on _ _ _ 1 1 c.read_part.ensures.asks c.read_data.ensures.asks)
+returns-in_err-stream-clause-asks g c = few_more _ _ 2 3 (omega arith) (few_on _ _ _ 1 1 c.read_part.ensures.asks.once c.read_data.ensures.asks.once)
 
 pub returns-in_err-script-clause-asks : goal.returns-in_err-script-clause-asks
-returns-in_err-script-clause-asks g c = few_on _ _ _ 2 1 (few_on _ _ _ 1 1 c.read_part.ensures.asks c.read_data.ensures.asks) c.read_whole.ensures.asks
+returns-in_err-script-clause-asks g c = few_on _ _ _ 2 1 (few_on _ _ _ 1 1 c.read_part.ensures.asks.once c.read_data.ensures.asks.once) c.read_whole.ensures.asks.once
 
 pub returns-clause-asks : goal.returns-clause-asks
-returns-clause-asks g c = few_on _ _ _ 2 1 (few_on _ _ _ 1 1 c.read_part.ensures.asks c.read_data.ensures.asks) c.read_whole.ensures.asks
+returns-clause-asks g c = few_on _ _ _ 2 1 (few_on _ _ _ 1 1 c.read_part.ensures.asks.once c.read_data.ensures.asks.once) c.read_whole.ensures.asks.once
 
 pub returns-in_err-part-clause-inputs : goal.returns-in_err-part-clause-inputs
-returns-in_err-part-clause-inputs g c = c.read_part.ensures.inputs
+returns-in_err-part-clause-inputs g c = c.read_part.ensures.asks.stays
 
 pub returns-in_err-stream-clause-inputs : goal.returns-in_err-stream-clause-inputs
-returns-in_err-stream-clause-inputs g c = stays_on _ _ _ c.read_part.ensures.inputs c.read_data.ensures.inputs
+returns-in_err-stream-clause-inputs g c = stays_on _ _ _ c.read_part.ensures.asks.stays c.read_data.ensures.asks.stays
 
 pub returns-in_err-script-clause-inputs : goal.returns-in_err-script-clause-inputs
-returns-in_err-script-clause-inputs g c = stays_on _ _ _ (stays_on _ _ _ c.read_part.ensures.inputs c.read_data.ensures.inputs) c.read_whole.ensures.inputs
+returns-in_err-script-clause-inputs g c = stays_on _ _ _ (stays_on _ _ _ c.read_part.ensures.asks.stays c.read_data.ensures.asks.stays) c.read_whole.ensures.asks.stays
 
 pub returns-clause-inputs : goal.returns-clause-inputs
-returns-clause-inputs g c = stays_on _ _ _ (stays_on _ _ _ c.read_part.ensures.inputs c.read_data.ensures.inputs) c.read_whole.ensures.inputs
+returns-clause-inputs g c = stays_on _ _ _ (stays_on _ _ _ c.read_part.ensures.asks.stays c.read_data.ensures.asks.stays) c.read_whole.ensures.asks.stays
 
 pub returns-clause-last_asked : goal.returns-clause-last_asked
-returns-clause-last_asked g c = c.read_whole.ensures.last_asked
+returns-clause-last_asked g c = c.read_whole.ensures.asks.last

@@ -22,9 +22,9 @@ returns-in_err-part g c = rw (handed_on c.from_residual.result c.in_err-part.fie
     let event = event_of c.in_err-part.field-0.0 in
     record {
       caused = answers_stop PartData Answer (name ∷ []) (name ∷ []) old new (λ t. part_known t name) (λ t p. Ok (gen_answer p seed)) event (λ n h. h) c.in_err-part.ensures.caused;
-      stops = first_stops (Generating name seed) (limited part_limit name) [] old new event refl c.read_part.ensures.last_asked c.read_part.ensures.asks (no_part_about name event c.in_err-part.ensures.named);
-      asks = c.read_part.ensures.asks;
-      stays = c.read_part.ensures.inputs;
+      stops = first_stops (Generating name seed) (limited part_limit name) [] old new event refl c.read_part.ensures.asks.last c.read_part.ensures.asks.once (no_part_about name event c.in_err-part.ensures.named);
+      asks = c.read_part.ensures.asks.once;
+      stays = c.read_part.ensures.asks.stays;
     })
 
 pub returns : goal.returns
@@ -38,6 +38,6 @@ returns g c =
     record {
       caused = answers_end PartData Answer (name ∷ []) old new (λ t. part_known t name) (λ p. Ok (gen_answer p seed)) part (result_by bytes_answer made) (part_steady name) c.in_ok-part.ensures.caused (made_due (gen_answer part seed) made c.summary_of.ensures.text c.summary_of.ensures.refused);
       stops = want_only bytes_answer (Generating name seed) old new made c.summary_of.ensures.refused;
-      asks = c.read_part.ensures.asks;
-      stays = c.read_part.ensures.inputs;
+      asks = c.read_part.ensures.asks.once;
+      stays = c.read_part.ensures.asks.stays;
     }

@@ -55,13 +55,13 @@ returns-in_err-read-clause-answered g c = rw (handed_on c.from_residual-in_err-r
           (unplayed_last (UpdatingFlash c.args.flash_name.now c.args.stream.now) old.inputs mid c.args.stream.now event (inl refl) c.in_err-read.ensures.named)
           (unread_over c.args.flash_name.now c.args.stream.now old new event within (c.in_err-read.ensures.caused first.bytes)) (keeps_all event.reason first mid same);
       stops = first_stops (UpdatingFlash c.args.flash_name.now c.args.stream.now) (limited stream_limit c.args.stream.now) [] (g.I.Inputs.state c.args.inputs.now)
-          (g.I.Inputs.state c.read_stream.new.inputs) (event_of c.in_err-read.field-0.0) refl c.read_stream.ensures.last_asked c.read_stream.ensures.asks
+          (g.I.Inputs.state c.read_stream.new.inputs) (event_of c.in_err-read.field-0.0) refl c.read_stream.ensures.asks.last c.read_stream.ensures.asks.once
           (unplayed_about c.args.stream.now (event_of c.in_err-read.field-0.0) c.in_err-read.ensures.named);
       judges = stream_judges c.args.flash_name.now c.args.stream.now (sources (g.I.Inputs.state c.args.inputs.now) (g.F.Flash.state c.args.flash.now))
           (sources (g.I.Inputs.state c.read_stream.new.inputs) (g.F.Flash.state c.open_flash.new.flash)) (event_of c.in_err-read.field-0.0)
           (unplayed_about c.args.stream.now (event_of c.in_err-read.field-0.0) c.in_err-read.ensures.named);
-      asks = c.read_stream.ensures.asks;
-      stays = c.read_stream.ensures.inputs;
+      asks = c.read_stream.ensures.asks.once;
+      stays = c.read_stream.ensures.asks.stays;
     })
 
 pub returns-in-Ok-clause-answered : goal.returns-in-Ok-clause-answered
@@ -84,8 +84,8 @@ returns-in-Ok-clause-answered g c = λ before after out.
       ends = done_ends c.args.flash_name.now stream bytes old new out within has updatable size becomes;
       stops = tt;
       judges = tt;
-      asks = c.read_stream.ensures.asks;
-      stays = c.read_stream.ensures.inputs;
+      asks = c.read_stream.ensures.asks.once;
+      stays = c.read_stream.ensures.asks.stays;
     }
 
 pub returns-in-Ok-clause-flash : goal.returns-in-Ok-clause-flash
@@ -122,12 +122,12 @@ returns-clause-answered g c = λ before after out.
     record {
       ends = subst (λ (e : Event). CommandEndsAs (Some (UpdatingFlash name stream)) old new (Err e)) (sym c.refusal_of.ensures)
           (fault_ends name stream bytes old new c.in-Err.fault out asked within has reads size cause (λ early. let only = c.in-Err.ensures.unchanged early in only.bytes ∙ stays.bytes));
-      stops = updated_stops c.args.flash_name.now c.args.stream.now (g.I.Inputs.state c.args.inputs.now) (g.I.Inputs.state c.read_stream.new.inputs) c.in-Err.fault (event_of c.refusal_of.result) c.refusal_of.ensures c.read_stream.ensures.last_asked c.read_stream.ensures.asks;
+      stops = updated_stops c.args.flash_name.now c.args.stream.now (g.I.Inputs.state c.args.inputs.now) (g.I.Inputs.state c.read_stream.new.inputs) c.in-Err.fault (event_of c.refusal_of.result) c.refusal_of.ensures c.read_stream.ensures.asks.last c.read_stream.ensures.asks.once;
       judges = updated_judges c.args.flash_name.now c.args.stream.now (sources (g.I.Inputs.state c.args.inputs.now) (g.F.Flash.state c.args.flash.now))
           (sources (g.I.Inputs.state c.read_stream.new.inputs) (g.F.Flash.state c.update.new.flash)) c.in-Err.fault (event_of c.refusal_of.result) c.refusal_of.ensures
           (c.update.ensures.only_uses.attached ∙ c.in_ok-open_flash.ensures.attached);
-      asks = c.read_stream.ensures.asks;
-      stays = c.read_stream.ensures.inputs;
+      asks = c.read_stream.ensures.asks.once;
+      stays = c.read_stream.ensures.asks.stays;
     }
 
 pub returns-clause-flash : goal.returns-clause-flash

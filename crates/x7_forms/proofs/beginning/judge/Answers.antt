@@ -7,11 +7,16 @@ pub returns-in_ok-header_line-in-Ok-clause-judged : goal.returns-in_ok-header_li
 returns-in_ok-header_line-in-Ok-clause-judged c =
     let x = contents_of c.in-Ok.head in
     let found = c.in-Ok.ensures.found in
-    (omega (arith, found.2, ap length found.1, length-append (header_bytes x) (drop c.in-Ok.head.size c.args.bytes.now)), headed c.args.bytes.now c.in_ok-header_line-in-Ok.field-0.items x c.in-Ok.head.size c.args.last found.0 found.1 found.2 c.in_ok-header_line-in-Ok.ensures)
+    record {
+      within = omega (arith, found.2, ap length found.1, length-append (header_bytes x) (drop c.in-Ok.head.size c.args.bytes.now));
+      begins = headed c.args.bytes.now c.in_ok-header_line-in-Ok.field-0.items x c.in-Ok.head.size c.args.last found.0 found.1 found.2 c.in_ok-header_line-in-Ok.ensures;
+      data_begin = inl (x, found.0, found.1, found.2);
+    }
 
 pub returns-in-Err-Raw-clause-judged : goal.returns-in-Err-Raw-clause-judged
 returns-in-Err-Raw-clause-judged c =
-    (omega arith, unheaded c.args.bytes.now c.new.result.items 0 c.args.last c.requires.long (c.in-Err-Raw.ensures.raw.0 (ap Err c.in-Err-Raw.field-0-is)) c.new.ensures.items refl)
+    let raw = c.in-Err-Raw.ensures.raw.0 (ap Err c.in-Err-Raw.field-0-is) in
+    record { within = omega arith; begins = unheaded c.args.bytes.now c.new.result.items 0 c.args.last c.requires.long raw c.new.ensures.items refl; data_begin = inr (refl, raw) }
 
 pub returns-in-Err-Field-clause-refused : goal.returns-in-Err-Field-clause-refused
 returns-in-Err-Field-clause-refused c =
@@ -27,6 +32,3 @@ pub returns-then-last-clause-refused : goal.returns-then-last-clause-refused
 returns-then-last-clause-refused c =
     let here = (c.in-Err-Cut.ensures.cut c.in-Err-Cut.place).0 (ap Err c.in-Err-Cut.field-0-is) in
     inr (c.in-Err-Cut.place, c.refused_at-then-last.ensures, cut_refused c.args.bytes.now c.args.last c.in-Err-Cut.place c.if-last.true (c.in-Err-Cut.ensures.exact ∙ ap Err c.in-Err-Cut.field-0-is), inl here.0)
-
-pub returns-in-Err-Raw-clause-data_begin : goal.returns-in-Err-Raw-clause-data_begin
-returns-in-Err-Raw-clause-data_begin c = inr (refl, c.in-Err-Raw.ensures.raw.0 (ap Err c.in-Err-Raw.field-0-is))

@@ -23,11 +23,30 @@ loop-at-preserved g c =
 pub returns-in-Err-clause-failed : goal.returns-in-Err-clause-failed
 returns-in-Err-clause-failed g c =
     let i = g.I.Inputs in
-    let v = c.loop-at.invariant in (
-      refl,
-      record {
-        risen = risen_from (i.state c.args.inputs.now).faults (i.state c.loop-at.inputs).faults (i.state c.read.new.self).faults v.inputs.faults c.in-Err.ensures.failed.faults;
-        selected = c.in-Err.ensures.failed.selected;
-        given = omega (arith, v.took.given, c.in-Err.ensures.failed.given, length-take-le c.loop-at.at c.loop-at.buffer v.within, v.length, c.loop-at-test.true);
-      },
-    )
+    let v = c.loop-at.invariant in
+    record {
+      risen = risen_from (i.state c.args.inputs.now).faults (i.state c.loop-at.inputs).faults (i.state c.read.new.self).faults v.inputs.faults c.in-Err.ensures.failed.faults;
+      selected = c.in-Err.ensures.failed.selected;
+      given = omega (arith, v.took.given, c.in-Err.ensures.failed.given, length-take-le c.loop-at.at c.loop-at.buffer v.within, v.length, c.loop-at-test.true);
+    }
+
+pub returns-in-Err-clause-gives : goal.returns-in-Err-clause-gives
+returns-in-Err-clause-gives g c =
+    let v = c.loop-at.invariant in
+    record {
+      asked = c.read.ensures.asks.asked ∙ v.asked;
+      selects = c.read.ensures.asks.selects ∙ v.took.selects;
+      ends = omega (arith, v.ends, c.read.ensures.asks.ends);
+      given = omega (arith, v.took.given, c.in-Err.ensures.failed.given, length-take-le c.loop-at.at c.loop-at.buffer v.within, v.within, v.length);
+      stays = stays_on _ _ _ v.inputs c.read.ensures.stays;
+    }
+
+pub returns-clause-fills : goal.returns-clause-fills
+returns-clause-fills g c =
+    let v = c.loop-at.invariant in
+    record { takes = v.took; within = v.within; end = λ few. absurd (omega (arith, few, c.loop-at-test.false)); no_end_read = λ all. v.ends }
+
+pub returns-clause-gives : goal.returns-clause-gives
+returns-clause-gives g c =
+    let v = c.loop-at.invariant in
+    record { asked = v.asked; selects = v.took.selects; ends = omega (arith, v.ends); given = omega (arith, v.took.given, length-take-le c.loop-at.at c.loop-at.buffer v.within, v.within, v.length); stays = v.inputs }

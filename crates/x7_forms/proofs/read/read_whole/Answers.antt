@@ -4,15 +4,14 @@ use Rattle.x7_forms.specs.Event.{event_of}
 use Rattle.x7_forms.specs.Step.{CameIn, IsCaused, step_over}
 use Rattle.x7_forms.specs.Known.{whole_known, with_inputs}
 use Rattle.x7_forms.proofs.ReadLemmas.{open_refused, unopened_unread, want_unread, whole_read, whole_refused}
-use Rattle.x7_forms.proofs.AskedLemmas.{few_read, last_asked_opened, last_asked_read}
-use Rattle.x7_words.proofs.InputLemmas.{few_once}
+use Rattle.x7_forms.proofs.AskedLemmas.{asks_opened, asks_read}
 use Rattle.x7_forms.proofs.ResultLemmas.{handed_on}
 use Rattle.x7_forms.proofs.read.read_whole.Goals as goal
 
 pub returns-in_err-open-clause-caused : goal.returns-in_err-open-clause-caused
 returns-in_err-open-clause-caused g c = rw (handed_on c.from_residual.result c.in_err-open.field-0.0 c.from_residual.ensures) (λ flash.
     let i = g.I.Inputs in
-    open_refused (i.state c.args.inputs.now) (i.state c.open.new.inputs) flash c.args.name.now c.args.limit (event_of c.in_err-open.field-0.0) c.in_err-open.ensures.refused c.open.ensures.asks)
+    open_refused (i.state c.args.inputs.now) (i.state c.open.new.inputs) flash c.args.name.now c.args.limit (event_of c.in_err-open.field-0.0) c.in_err-open.ensures.refused c.open.ensures.asks.named)
 
 pub returns-clause-caused : goal.returns-clause-caused
 returns-clause-caused g c = λ flash.
@@ -30,7 +29,7 @@ pub returns-in_err-read_rest-clause-caused : goal.returns-in_err-read_rest-claus
 returns-in_err-read_rest-clause-caused g c = rw (handed_on c.from_residual-in_err-read_rest.result c.in_err-read_rest.field-0.0 c.from_residual-in_err-read_rest.ensures) (λ flash.
     let i = g.I.Inputs in
     whole_refused (i.state c.args.inputs.now) (i.state c.open.new.inputs) (i.state c.read_rest.new.inputs) flash c.args.name.now c.args.limit (event_of c.in_err-read_rest.field-0.0)
-    c.open.ensures.inputs c.in_ok-open.ensures.opened.found c.open.ensures.asks c.in_err-read_rest.ensures.refused)
+    c.open.ensures.asks.stays c.in_ok-open.ensures.opened.found c.open.ensures.asks.named c.in_err-read_rest.ensures.refused)
 
 pub returns-in_err-open-clause-named : goal.returns-in_err-open-clause-named
 returns-in_err-open-clause-named g c = rw (handed_on c.from_residual.result c.in_err-open.field-0.0 c.from_residual.ensures) (let i = g.I.Inputs in
@@ -40,20 +39,11 @@ pub returns-in_err-read_rest-clause-named : goal.returns-in_err-read_rest-clause
 returns-in_err-read_rest-clause-named g c = rw (handed_on c.from_residual-in_err-read_rest.result c.in_err-read_rest.field-0.0 c.from_residual-in_err-read_rest.ensures) (let i = g.I.Inputs in
     want_unread (i.state c.open.new.inputs) (i.state c.read_rest.new.inputs) c.args.name.now c.args.limit (event_of c.in_err-read_rest.field-0.0) c.in_err-read_rest.ensures.refused)
 
-pub returns-in_err-open-clause-last_asked : goal.returns-in_err-open-clause-last_asked
-returns-in_err-open-clause-last_asked g c = last_asked_opened c.args.name.now c.args.limit (g.I.Inputs.state c.open.new.inputs) c.open.ensures.asks
-
-pub returns-clause-last_asked : goal.returns-clause-last_asked
-returns-clause-last_asked g c = last_asked_read c.args.name.now c.args.limit (g.I.Inputs.state c.open.new.inputs) (g.I.Inputs.state c.read_rest.new.inputs) c.open.ensures.asks c.read_rest.ensures.gives_few
-
-pub returns-in_err-read_rest-clause-last_asked : goal.returns-in_err-read_rest-clause-last_asked
-returns-in_err-read_rest-clause-last_asked g c = last_asked_read c.args.name.now c.args.limit (g.I.Inputs.state c.open.new.inputs) (g.I.Inputs.state c.read_rest.new.inputs) c.open.ensures.asks c.read_rest.ensures.gives_few
-
 pub returns-in_err-open-clause-asks : goal.returns-in_err-open-clause-asks
-returns-in_err-open-clause-asks g c = few_once (g.I.Inputs.state c.args.inputs.now) (g.I.Inputs.state c.open.new.inputs) c.open.ensures.once
+returns-in_err-open-clause-asks g c = asks_opened _ _ c.args.name.now c.args.limit c.open.ensures.asks
 
 pub returns-clause-asks : goal.returns-clause-asks
-returns-clause-asks g c = few_read (g.I.Inputs.state c.args.inputs.now) (g.I.Inputs.state c.open.new.inputs) (g.I.Inputs.state c.read_rest.new.inputs) c.args.limit c.open.ensures.once c.read_rest.ensures.gives_few
+returns-clause-asks g c = asks_read _ _ _ c.args.name.now c.args.limit c.open.ensures.asks c.read_rest.ensures.gives_few
 
 pub returns-in_err-read_rest-clause-asks : goal.returns-in_err-read_rest-clause-asks
-returns-in_err-read_rest-clause-asks g c = few_read (g.I.Inputs.state c.args.inputs.now) (g.I.Inputs.state c.open.new.inputs) (g.I.Inputs.state c.read_rest.new.inputs) c.args.limit c.open.ensures.once c.read_rest.ensures.gives_few
+returns-in_err-read_rest-clause-asks g c = asks_read _ _ _ c.args.name.now c.args.limit c.open.ensures.asks c.read_rest.ensures.gives_few

@@ -10,7 +10,7 @@ pub returns-in_err-turn-clause-refused : goal.returns-in_err-turn-clause-refused
 returns-in_err-turn-clause-refused g c = rw (handed_on c.from_residual.result c.in_err-turn.field-0.0 c.from_residual.ensures) (let i = g.I.Inputs in
     let v = c.loop-turn.invariant in
     rest_unread (i.state c.args.inputs.now) (i.state c.loop-turn.inputs) (i.state c.next_turn.new.inputs) c.args.name.now v.known.0 c.args.limit c.loop-turn.left (event_of c.in_err-turn.field-0.0)
-    v.known.1.1 v.known.1.0 c.in_err-turn.ensures.refused c.next_turn.ensures.gives_few.asked)
+    v.known.1.1 v.known.1.0 c.in_err-turn.ensures.refused.unread c.next_turn.ensures.gives_few.asked)
 
 pub returns-then-turn-clause-read : goal.returns-then-turn-clause-read
 returns-then-turn-clause-read g c =
@@ -18,9 +18,9 @@ returns-then-turn-clause-read g c =
     let v = c.loop-turn.invariant in
     let n = c.in_ok-turn.turn.count in
     let piece = take n c.next_turn.new.buffer in
-    let size : length piece ≡ n = length-take-le n c.next_turn.new.buffer (omega (arith, c.in_ok-turn.ensures.within.1, c.next_turn.ensures.length)) in
-    let reads = reads_on (i.state c.args.inputs.now) (i.state c.loop-turn.inputs) (i.state c.next_turn.new.inputs) v.known.0 piece v.known.1.1 c.in_ok-turn.ensures.takes c.next_turn.ensures.gives_few.asked c.next_turn.ensures.inputs in
-    (v.known.0 ++ piece, omega (arith, v.known.1.0, size, length-append v.known.0 piece, c.in_ok-turn.ensures.within.0), (reads.takes.taken, c.in_ok-turn.ensures.end c.if-turn.true))
+    let size : length piece ≡ n = length-take-le n c.next_turn.new.buffer c.in_ok-turn.ensures.reads.within_buffer in
+    let reads = reads_on (i.state c.args.inputs.now) (i.state c.loop-turn.inputs) (i.state c.next_turn.new.inputs) v.known.0 piece v.known.1.1 c.in_ok-turn.ensures.reads.takes c.next_turn.ensures.gives_few.asked c.next_turn.ensures.gives_few.stays in
+    (v.known.0 ++ piece, omega (arith, v.known.1.0, size, length-append v.known.0 piece, c.in_ok-turn.ensures.reads.within_limit), (reads.takes.taken, c.in_ok-turn.ensures.reads.end c.if-turn.true))
 
 pub loop-turn-preserved : goal.loop-turn-preserved
 loop-turn-preserved g c =
@@ -28,15 +28,15 @@ loop-turn-preserved g c =
     let v = c.loop-turn.invariant in
     let n = c.in_ok-turn.turn.count in
     let piece = take n c.next_turn.new.buffer in
-    let size : length piece ≡ n = length-take-le n c.next_turn.new.buffer (omega (arith, c.in_ok-turn.ensures.within.1, c.next_turn.ensures.length)) in
-    let reads = reads_on (i.state c.args.inputs.now) (i.state c.loop-turn.inputs) (i.state c.next_turn.new.inputs) v.known.0 piece v.known.1.1 c.in_ok-turn.ensures.takes c.next_turn.ensures.gives_few.asked c.next_turn.ensures.inputs in
+    let size : length piece ≡ n = length-take-le n c.next_turn.new.buffer c.in_ok-turn.ensures.reads.within_buffer in
+    let reads = reads_on (i.state c.args.inputs.now) (i.state c.loop-turn.inputs) (i.state c.next_turn.new.inputs) v.known.0 piece v.known.1.1 c.in_ok-turn.ensures.reads.takes c.next_turn.ensures.gives_few.asked c.next_turn.ensures.gives_few.stays in
     record {
-      selected = c.in_ok-turn.ensures.takes.selected;
-      inputs = stays_on _ _ _ v.inputs c.next_turn.ensures.inputs;
-      ends = omega (arith, v.ends, c.in_ok-turn.ensures.no_end_read c.if-turn.false);
+      selected = c.in_ok-turn.ensures.reads.takes.selected;
+      inputs = stays_on _ _ _ v.inputs c.next_turn.ensures.gives_few.stays;
+      ends = omega (arith, v.ends, c.in_ok-turn.ensures.reads.no_end_read c.if-turn.false);
       left = omega (arith, v.left);
       buffer = c.next_turn.ensures.length ∙ v.buffer;
-      known = (v.known.0 ++ piece, (omega (arith, v.known.1.0, size, length-append v.known.0 piece, c.in_ok-turn.ensures.within.0), reads));
+      known = (v.known.0 ++ piece, (omega (arith, v.known.1.0, size, length-append v.known.0 piece, c.in_ok-turn.ensures.reads.within_limit), reads));
     }
 
 pub loop-turn-init : goal.loop-turn-init
@@ -61,16 +61,10 @@ pub returns-then-turn-clause-no_end_read : goal.returns-then-turn-clause-no_end_
 returns-then-turn-clause-no_end_read g c = λ e. let never : false ≡ true = sym c.if-last.false ∙ e in absurd cc
 
 pub loop-turn-smaller : goal.loop-turn-smaller
-loop-turn-smaller g c = omega (arith, c.in_ok-turn.ensures.fills c.if-turn.false, c.loop-turn.invariant.buffer, c.requires.not_empty, c.in_ok-turn.ensures.within.0)
+loop-turn-smaller g c = omega (arith, c.in_ok-turn.ensures.reads.fills c.if-turn.false, c.loop-turn.invariant.buffer, c.requires.not_empty, c.in_ok-turn.ensures.reads.within_limit)
 
 pub next_turn-requires-clause-not_empty : goal.next_turn-requires-clause-not_empty
 next_turn-requires-clause-not_empty g c = omega (arith, c.loop-turn.invariant.buffer, c.requires.not_empty)
-
-pub returns-in_err-turn-clause-inputs : goal.returns-in_err-turn-clause-inputs
-returns-in_err-turn-clause-inputs g c = stays_on _ _ _ c.loop-turn.invariant.inputs c.next_turn.ensures.inputs
-
-pub returns-then-turn-clause-inputs : goal.returns-then-turn-clause-inputs
-returns-then-turn-clause-inputs g c = stays_on _ _ _ c.loop-turn.invariant.inputs c.next_turn.ensures.inputs
 
 pub returns-in_err-turn-clause-length : goal.returns-in_err-turn-clause-length
 returns-in_err-turn-clause-length g c = c.next_turn.ensures.length ∙ c.loop-turn.invariant.buffer

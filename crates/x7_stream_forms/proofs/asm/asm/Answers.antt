@@ -18,9 +18,9 @@ returns-in_err-read g c = rw (handed_on c.from_residual.result c.in_err-read.fie
     let event = event_of c.in_err-read.field-0.0 in
     record {
       caused = asm_unread old new name event c.in_err-read.ensures.refused;
-      stops = first_stops (Assembling name) (limited text_limit name) [] old new event refl c.feed_whole.ensures.last_asked c.feed_whole.ensures.asks (unread_about name event c.in_err-read.ensures.named);
-      asks = c.feed_whole.ensures.asks;
-      stays = c.feed_whole.ensures.inputs;
+      stops = first_stops (Assembling name) (limited text_limit name) [] old new event refl c.feed_whole.ensures.asks.last c.feed_whole.ensures.asks.once (unread_about name event c.in_err-read.ensures.named);
+      asks = c.feed_whole.ensures.asks.once;
+      stays = c.feed_whole.ensures.asks.stays;
     })
 
 pub returns-in-Ok : goal.returns-in-Ok
@@ -31,8 +31,8 @@ returns-in-Ok g c =
     record {
       caused = asm_given (λ v. v.items) old new c.args.name.now t.0 c.in_ok-read.read t.1 t.2 c.in-Ok.bytes c.in-Ok.is;
       stops = tt;
-      asks = c.feed_whole.ensures.asks;
-      stays = c.feed_whole.ensures.inputs;
+      asks = c.feed_whole.ensures.asks.once;
+      stays = c.feed_whole.ensures.asks.stays;
     }
 
 pub returns-in-Err : goal.returns-in-Err
@@ -44,7 +44,7 @@ returns-in-Err g c =
     let t = c.in_ok-read.ensures.read in
     record {
       caused = asm_faulted (λ v. v.items) old new name t.0 c.in_ok-read.read t.1 t.2 c.in-Err.fault event c.in-Err.is (sym c.refusal_of.ensures);
-      stops = first_stops (Assembling name) (limited text_limit name) [] old new event refl c.feed_whole.ensures.last_asked c.feed_whole.ensures.asks (about_by name event (asm_event name c.in-Err.fault) c.refusal_of.ensures (asm_about name c.in-Err.fault));
-      asks = c.feed_whole.ensures.asks;
-      stays = c.feed_whole.ensures.inputs;
+      stops = first_stops (Assembling name) (limited text_limit name) [] old new event refl c.feed_whole.ensures.asks.last c.feed_whole.ensures.asks.once (about_by name event (asm_event name c.in-Err.fault) c.refusal_of.ensures (asm_about name c.in-Err.fault));
+      asks = c.feed_whole.ensures.asks.once;
+      stays = c.feed_whole.ensures.asks.stays;
     }

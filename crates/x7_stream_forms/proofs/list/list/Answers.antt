@@ -3,7 +3,7 @@ use Rattle.std.proofs.lemmas.Result.{on_ok_weaker}
 use Rattle.x7_words.specs.Sink.{SinkFails, appended, PutsPrefix}
 use Rattle.x7_words.specs.Input.{preceded, RestIsWhole}
 use Rattle.x7_words.specs.Word.{AreBytes}
-use Rattle.x7_words.proofs.InputLemmas.{few_once, once_on, stays_on}
+use Rattle.x7_words.proofs.InputLemmas.{once_on, stays_on}
 use Rattle.x7_words.proofs.CountLemmas.{risen_from}
 use Rattle.x7_listing.specs.Listing.{listing_of}
 use Rattle.x7_listing.specs.StreamListing.{stream_listing}
@@ -22,7 +22,7 @@ use Rattle.x7_forms.proofs.ReadLemmas.{asked_on, at_on, turn_unread}
 use Rattle.x7_forms.proofs.ResultLemmas.{handed_on, err_weaker}
 use Rattle.x7_stream_forms.proofs.TurnLemmas.{end_failed, prefix_failed, prefix_so_far, goes_on, line_prefix, line_then, stream_so_far, stream_whole, unread_end, write_failed}
 use Rattle.x7_outcome.proofs.FeedLemmas.{taken_more}
-use Rattle.x7_forms.proofs.AskedLemmas.{few_read, last_asked_opened, last_asked_read, last_asked_turn, without_prefix_about, unopened_about, unread_about}
+use Rattle.x7_forms.proofs.AskedLemmas.{asks_opened, asks_read, asks_turn, without_prefix_about, unopened_about, unread_about}
 use Rattle.x7_stream_forms.proofs.StopLemmas.{prefix_stops, put_stops, written_stops}
 use Rattle.x7_outcome.proofs.StopLemmas.{first_stops}
 use Rattle.x7_forms.specs.ReadingStops.{limited}
@@ -36,16 +36,16 @@ returns-in_err-open g c = rw (handed_on c.from_residual.result c.in_err-open.fie
     let new = record after { inputs = i.state c.open.new.inputs; out = o.state c.args.out.now } in
     let stream = c.args.stream.now in
     let event = event_of c.in_err-open.field-0.0 in
-    let asks = few_once (i.state c.args.inputs.now) (i.state c.open.new.inputs) c.open.ensures.once in
+    let asks = asks_opened (i.state c.args.inputs.now) (i.state c.open.new.inputs) stream stream_limit c.open.ensures.asks in
     record {
-      ends = list_ends stream old new (Err event) (unopened old.inputs new.inputs old.flash.bytes stream (SinkFails old.out new.out) old.out.written event c.in_err-open.ensures.refused c.open.ensures.asks)
-          (stays_near event stream old new (unopened_near old.inputs.contents stream new.inputs.rest old.out.written new.out.written old.inputs new.inputs stream event c.open.ensures.asks (same_now old.out) c.in_err-open.ensures.refused));
+      ends = list_ends stream old new (Err event) (unopened old.inputs new.inputs old.flash.bytes stream (SinkFails old.out new.out) old.out.written event c.in_err-open.ensures.refused c.open.ensures.asks.named)
+          (stays_near event stream old new (unopened_near old.inputs.contents stream new.inputs.rest old.out.written new.out.written old.inputs new.inputs stream event c.open.ensures.asks.named (same_now old.out) c.in_err-open.ensures.refused));
       stops = first_stops (Listing c.args.stream.now) (limited stream_limit c.args.stream.now) [] (g.I.Inputs.state c.args.inputs.now) (g.I.Inputs.state c.open.new.inputs)
-          (event_of c.in_err-open.field-0.0) refl (last_asked_opened c.args.stream.now stream_limit (g.I.Inputs.state c.open.new.inputs) c.open.ensures.asks) asks
+          (event_of c.in_err-open.field-0.0) refl asks.last asks.once
           (unopened_about (g.I.Inputs.state c.args.inputs.now) (g.I.Inputs.state c.open.new.inputs) c.args.stream.now (event_of c.in_err-open.field-0.0) c.in_err-open.ensures.refused);
       judges = tt;
-      asks = asks;
-      stays = c.open.ensures.inputs;
+      asks = asks.once;
+      stays = asks.stays;
     })
 
 pub returns-in_err-beginning : goal.returns-in_err-beginning
@@ -56,21 +56,20 @@ returns-in_err-beginning g c = rw (handed_on c.from_residual-in_err-beginning.re
     let new = record after { inputs = i.state c.read_beginning.new.inputs; out = o.state c.args.out.now } in
     let stream = c.args.stream.now in
     let event = event_of c.in_err-beginning.field-0.0 in
-    let asks = few_read (i.state c.args.inputs.now) (i.state c.open.new.inputs) (i.state c.read_beginning.new.inputs) stream_limit c.open.ensures.once c.read_beginning.ensures.gives_few in
+    let asks = asks_read (i.state c.args.inputs.now) (i.state c.open.new.inputs) (i.state c.read_beginning.new.inputs) stream stream_limit c.open.ensures.asks c.read_beginning.ensures.gives_few in
     record {
       ends = list_ends stream old new (Err event)
-          (without_prefix old.inputs (i.state c.open.new.inputs) new.inputs old.flash.bytes stream (SinkFails old.out new.out) old.out.written event c.open.ensures.inputs c.in_ok-open.ensures.opened.found c.open.ensures.asks c.in_err-beginning.ensures.refused)
+          (without_prefix old.inputs (i.state c.open.new.inputs) new.inputs old.flash.bytes stream (SinkFails old.out new.out) old.out.written event c.open.ensures.asks.stays c.in_ok-open.ensures.opened.found c.open.ensures.asks.named c.in_err-beginning.ensures.refused)
           (stays_near event stream old new (without_prefix_near old.inputs.contents stream new.inputs.rest old.out.written new.out.written
-          (i.state c.open.new.inputs) new.inputs stream event refl c.in_ok-open.ensures.opened.found c.open.ensures.asks c.read_beginning.ensures.short
+          (i.state c.open.new.inputs) new.inputs stream event refl c.in_ok-open.ensures.opened.found c.open.ensures.asks.named c.read_beginning.ensures.short
           (same_now old.out) c.in_err-beginning.ensures.refused));
       stops = first_stops (Listing c.args.stream.now) (limited stream_limit c.args.stream.now) [] (g.I.Inputs.state c.args.inputs.now) (g.I.Inputs.state c.read_beginning.new.inputs)
           (event_of c.in_err-beginning.field-0.0) refl
-          (last_asked_read c.args.stream.now stream_limit (g.I.Inputs.state c.open.new.inputs) (g.I.Inputs.state c.read_beginning.new.inputs) c.open.ensures.asks c.read_beginning.ensures.gives_few)
-          asks (without_prefix_about (g.I.Inputs.state c.open.new.inputs) (g.I.Inputs.state c.read_beginning.new.inputs) c.args.stream.now
+          asks.last asks.once (without_prefix_about (g.I.Inputs.state c.open.new.inputs) (g.I.Inputs.state c.read_beginning.new.inputs) c.args.stream.now
           (event_of c.in_err-beginning.field-0.0) c.in_err-beginning.ensures.refused);
       judges = tt;
-      asks = asks;
-      stays = stays_on _ _ _ c.open.ensures.inputs c.read_beginning.ensures.inputs;
+      asks = asks.once;
+      stays = asks.stays;
     })
 
 pub returns-in_err-put_beginning : goal.returns-in_err-put_beginning
@@ -107,9 +106,9 @@ returns-in_err-put_beginning g c = rw (handed_on c.from_residual-in_err-put_begi
     ] in
     let put = c.in_err-put_beginning.ensures.prefix [] (subst AreBytes (sym (append-nil _)) c.are_bytes.ensures) in
     let longer = longer_prefix old now _ put in
-    let few : given ≤ longest_beginning = omega (arith, c.open.ensures.asks.given, c.read_beginning.ensures.short) in
+    let few : given ≤ longest_beginning = omega (arith, c.open.ensures.asks.named.given, c.read_beginning.ensures.short) in
     let near = unwritten_near contents stream rest old now _ given r (prefix_given contents stream given old now few longer) (prefix_near contents stream taken rest old now sel f.short longer) c.in_err-put_beginning.ensures.refused in
-    let asks = few_read (i.state c.args.inputs.now) (i.state c.open.new.inputs) (i.state c.read_beginning.new.inputs) stream_limit c.open.ensures.once c.read_beginning.ensures.gives_few in
+    let asks = asks_read (i.state c.args.inputs.now) (i.state c.open.new.inputs) (i.state c.read_beginning.new.inputs) stream stream_limit c.open.ensures.asks c.read_beginning.ensures.gives_few in
     record {
       ends = list_ends stream (record before { inputs = i.state c.args.inputs.now; out = o.state c.args.out.now })
           (record after { inputs = i.state c.read_beginning.new.inputs; out = o.state c.put_beginning.new.out }) (Err r) (end c.in_err-put_beginning.ensures.refused)
@@ -117,8 +116,8 @@ returns-in_err-put_beginning g c = rw (handed_on c.from_residual-in_err-put_begi
           (record after { inputs = i.state c.read_beginning.new.inputs; out = o.state c.put_beginning.new.out }) near);
       stops = prefix_stops (Listing c.args.stream.now) (g.I.Inputs.state c.args.inputs.now) (g.I.Inputs.state c.read_beginning.new.inputs) (event_of c.in_err-put_beginning.field-0.0) c.in_err-put_beginning.ensures.refused;
       judges = tt;
-      asks = asks;
-      stays = stays_on _ _ _ c.open.ensures.inputs c.read_beginning.ensures.inputs;
+      asks = asks.once;
+      stays = asks.stays;
     })
 
 pub returns-then-beginning : goal.returns-then-beginning
@@ -165,16 +164,16 @@ returns-then-beginning g c = λ before after.
     let near = both_err c.put_short.result (λ r. PutsPrefix old text now) Why (λ r. StaysNear (status_of_event (event_of r)) (Some (Listing stream)) first later)
     (λ r p w.
     let longer = longer_prefix old now text p in
-    let few : given ≤ longest_beginning = omega (arith, c.open.ensures.asks.given, c.read_beginning.ensures.short) in
+    let few : given ≤ longest_beginning = omega (arith, c.open.ensures.asks.named.given, c.read_beginning.ensures.short) in
     stays_near (event_of r) stream first later (unwritten_near contents stream rest old now _ given (event_of r) (prefix_given contents stream given old now few longer) (prefix_near contents stream taken rest old now sel f.short longer) (why_weaker w)))
     c.put_short.ensures.prefix c.put_short.ensures.refused in
-    let asks = few_read (i.state c.args.inputs.now) (i.state c.open.new.inputs) (i.state c.read_beginning.new.inputs) stream_limit c.open.ensures.once c.read_beginning.ensures.gives_few in
+    let asks = asks_read (i.state c.args.inputs.now) (i.state c.open.new.inputs) (i.state c.read_beginning.new.inputs) stream stream_limit c.open.ensures.asks c.read_beginning.ensures.gives_few in
     record {
       ends = list_seen stream first later c.put_short.result ok err near;
       stops = written_stops _ _ (Listing c.args.stream.now) (g.I.Inputs.state c.args.inputs.now) (g.I.Inputs.state c.read_beginning.new.inputs) c.put_short.result c.put_short.ensures.refused;
       judges = tt;
-      asks = asks;
-      stays = stays_on _ _ _ c.open.ensures.inputs c.read_beginning.ensures.inputs;
+      asks = asks.once;
+      stays = asks.stays;
     }
 
 pub returns-in_err-turn : goal.returns-in_err-turn
@@ -187,22 +186,22 @@ returns-in_err-turn g c = rw (handed_on c.from_residual-in_err-turn.result c.in_
     let stream = c.args.stream.now in
     let event = event_of c.in_err-turn.field-0.0 in
     let t = v.known.1.1 in
-    let asks = few_read (i.state c.args.inputs.now) (i.state c.loop-lister.inputs) (i.state c.next_turn.new.inputs) c.loop-lister.left c.loop-lister.invariant.once c.next_turn.ensures.gives_few in
+    let asks = asks_turn (i.state c.args.inputs.now) (i.state c.loop-lister.inputs) (i.state c.next_turn.new.inputs) stream v.known.0 stream_limit c.loop-lister.left v.known.1.3 v.known.1.2 v.once v.inputs c.next_turn.ensures.gives_few in
     record {
       ends = list_ends stream old new (Err event)
           (unread_end old.inputs (i.state c.loop-lister.inputs) new.inputs old.flash.bytes stream v.known.0 c.loop-lister.lister c.loop-lister.left (SinkFails old.out new.out) old.out.written new.out.written event
-          v.inputs v.known.1.0 v.known.1.3 v.known.1.1 v.known.1.2 c.in_err-turn.ensures.refused c.next_turn.ensures.gives_few.asked)
+          v.inputs v.known.1.0 v.known.1.3 v.known.1.1 v.known.1.2 c.in_err-turn.ensures.refused.unread c.next_turn.ensures.gives_few.asked)
           (stays_near event stream old new (unread_near old.inputs.contents stream new.inputs.rest old.out.written new.out.written (i.state c.loop-lister.inputs) new.inputs stream v.known.0 c.loop-lister.lister c.loop-lister.left event refl v.known.1.0 t
-          (omega (arith, v.known.1.3.given, c.next_turn.ensures.gives_a_turn, v.piece)) (λ e. omega (arith, c.in_err-turn.ensures.over e, v.piece)) (same_now (o.state c.loop-lister.out)) c.in_err-turn.ensures.refused));
+          (omega (arith, v.known.1.3.given, c.next_turn.ensures.gives_a_turn.given, v.piece)) (λ e. omega (arith, c.in_err-turn.ensures.refused.over e, v.piece)) (same_now (o.state c.loop-lister.out)) c.in_err-turn.ensures.refused.unread));
       stops = let v = c.loop-lister.invariant in first_stops (Listing c.args.stream.now) (limited stream_limit c.args.stream.now) [] (g.I.Inputs.state c.args.inputs.now)
           (g.I.Inputs.state c.next_turn.new.inputs) (event_of c.in_err-turn.field-0.0) refl
-          (last_asked_turn c.args.stream.now v.known.0 stream_limit c.loop-lister.left (g.I.Inputs.state c.loop-lister.inputs) (g.I.Inputs.state c.next_turn.new.inputs) v.known.1.3 v.known.1.2 c.next_turn.ensures.gives_few) asks
+          asks.last asks.once
           (unread_about c.args.stream.now (event_of c.in_err-turn.field-0.0)
           (turn_unread (g.I.Inputs.state c.loop-lister.inputs) (g.I.Inputs.state c.next_turn.new.inputs) c.args.stream.now c.loop-lister.left
-          (event_of c.in_err-turn.field-0.0) c.in_err-turn.ensures.refused));
+          (event_of c.in_err-turn.field-0.0) c.in_err-turn.ensures.refused.unread));
       judges = tt;
-      asks = asks;
-      stays = stays_on _ _ _ c.loop-lister.invariant.inputs c.next_turn.ensures.inputs;
+      asks = asks.once;
+      stays = asks.stays;
     })
 
 pub returns-in_err-put_turn : goal.returns-in_err-put_turn
@@ -218,7 +217,7 @@ returns-in_err-put_turn g c = rw (handed_on c.from_residual-in_err-put_turn.resu
     let taken = v.known.0 in
     let t = v.known.1.1 in
     let piece = take c.in_ok-turn.turn.count c.next_turn.new.buffer in
-    let sel = taken_more contents stream taken piece (i.state c.loop-lister.inputs).rest (i.state c.next_turn.new.inputs).rest v.known.1.0 c.in_ok-turn.ensures.takes.taken in
+    let sel = taken_more contents stream taken piece (i.state c.loop-lister.inputs).rest (i.state c.next_turn.new.inputs).rest v.known.1.0 c.in_ok-turn.ensures.reads.takes.taken in
     let now = (o.state c.put_turn.new.out).written in
     let Full : Type 0 = SinkFails (o.state c.args.out.now) (o.state c.put_turn.new.out) in
     let r = event_of c.in_err-put_turn.field-0.0 in
@@ -237,12 +236,12 @@ returns-in_err-put_turn g c = rw (handed_on c.from_residual-in_err-put_turn.resu
     ] in
     let n = c.in_ok-turn.turn.count in
     let rest = (i.state c.next_turn.new.inputs).rest in
-    let few : length piece ≤ turn_size = omega (arith, length-take-le n c.next_turn.new.buffer (omega (arith, c.in_ok-turn.ensures.within.1, c.next_turn.ensures.length, v.piece)), c.in_ok-turn.ensures.within.1, v.piece) in
+    let few : length piece ≤ turn_size = omega (arith, length-take-le n c.next_turn.new.buffer c.in_ok-turn.ensures.reads.within_buffer, c.in_ok-turn.ensures.reads.within_buffer, c.next_turn.ensures.length, v.piece) in
     let known = stream_whole taken t.line t.content (t.listing []) in
     let near = turn_near contents stream taken piece t.line t.content c.loop-lister.lister rest old (o.state c.loop-lister.out).written now sel t.short_header few known t.lists c.put_turn.ensures.extends in
     let gives = turn_given contents stream taken t.line t.content given c.loop-lister.lister (i.state c.loop-lister.inputs).rest old (o.state c.loop-lister.out).written now v.known.1.0
-    (omega (arith, v.known.1.3.given, c.next_turn.ensures.gives_a_turn, v.piece)) known t.lists c.put_turn.ensures.extends in
-    let asks = few_read (i.state c.args.inputs.now) (i.state c.loop-lister.inputs) (i.state c.next_turn.new.inputs) c.loop-lister.left c.loop-lister.invariant.once c.next_turn.ensures.gives_few in
+    (omega (arith, v.known.1.3.given, c.next_turn.ensures.gives_a_turn.given, v.piece)) known t.lists c.put_turn.ensures.extends in
+    let asks = asks_turn (i.state c.args.inputs.now) (i.state c.loop-lister.inputs) (i.state c.next_turn.new.inputs) stream v.known.0 stream_limit c.loop-lister.left v.known.1.3 v.known.1.2 v.once v.inputs c.next_turn.ensures.gives_few in
     record {
       ends = list_ends stream (record before { inputs = i.state c.args.inputs.now; out = o.state c.args.out.now })
           (record after { inputs = i.state c.next_turn.new.inputs; out = o.state c.put_turn.new.out }) (Err r) (end c.in_err-put_turn.ensures.refused)
@@ -250,8 +249,8 @@ returns-in_err-put_turn g c = rw (handed_on c.from_residual-in_err-put_turn.resu
           (unwritten_near contents stream rest old now _ given r gives near (why_weaker c.in_err-put_turn.ensures.refused)));
       stops = put_stops (Listing c.args.stream.now) (g.I.Inputs.state c.args.inputs.now) (g.I.Inputs.state c.next_turn.new.inputs) (event_of c.in_err-put_turn.field-0.0) c.in_err-put_turn.ensures.refused;
       judges = tt;
-      asks = asks;
-      stays = stays_on _ _ _ c.loop-lister.invariant.inputs c.next_turn.ensures.inputs;
+      asks = asks.once;
+      stays = asks.stays;
     })
 
 pub returns-then-turn : goal.returns-then-turn
@@ -268,14 +267,14 @@ returns-then-turn g c = λ before after.
     let t = v.known.1.1 in
     let n = c.in_ok-turn.turn.count in
     let piece = take n c.next_turn.new.buffer in
-    let sel = taken_more contents stream taken piece (i.state c.loop-lister.inputs).rest (i.state c.next_turn.new.inputs).rest v.known.1.0 c.in_ok-turn.ensures.takes.taken in
+    let sel = taken_more contents stream taken piece (i.state c.loop-lister.inputs).rest (i.state c.next_turn.new.inputs).rest v.known.1.0 c.in_ok-turn.ensures.reads.takes.taken in
     let lists : ListsInTurns c.put_turn.new.lister (appended old t.line) (o.state c.put_turn.new.out).written (t.content ++ piece) = c.in_ok-put_turn.ensures.listed (appended old t.line) t.content t.lists in
     let listing = goes_on taken piece t.line t.content t.listing in
     let now = (o.state c.put_end.new.out).written in
     let Full : Type 0 = SinkFails (o.state c.args.out.now) (o.state c.put_end.new.out) in
-    let size : length (taken ++ piece) ≡ length taken + n = length-append taken piece ∙ ap (λ k. length taken + k) (length-take-le n c.next_turn.new.buffer (omega (arith, c.in_ok-turn.ensures.within.1, c.next_turn.ensures.length, v.piece))) in
-    let short : length (taken ++ piece) ≤ stream_limit = omega (arith, size, c.in_ok-turn.ensures.within.0, v.known.1.2) in
-    let end = c.in_ok-turn.ensures.end c.if-turn.true in
+    let size : length (taken ++ piece) ≡ length taken + n = length-append taken piece ∙ ap (λ k. length taken + k) (length-take-le n c.next_turn.new.buffer c.in_ok-turn.ensures.reads.within_buffer) in
+    let short : length (taken ++ piece) ≤ stream_limit = omega (arith, size, c.in_ok-turn.ensures.reads.within_limit, v.known.1.2) in
+    let end = c.in_ok-turn.ensures.reads.end c.if-turn.true in
     let text = t.line ++ listing_of (t.content ++ piece) in
     let same = stream_whole (taken ++ piece) t.line (t.content ++ piece) (listing []) in
     let flash = before.flash.bytes in
@@ -298,25 +297,25 @@ returns-then-turn g c = λ before after.
           ends_same (with_inputs contents flash) C stream Full old now (event_of r) no_memory h.0 (out_of_memory contents flash C stream (taken ++ piece) (i.state c.next_turn.new.inputs).rest Full old now sel so_far)
       | inr h ↦
           let risen = risen_from (o.state c.args.out.now).faults (o.state c.put_turn.new.out).faults (o.state c.put_end.new.out).faults (omega (arith, v.written, c.put_turn.ensures.counts.faults)) h.1 in
-          ends_same (with_inputs contents flash) C stream Full old now (event_of r) writing_failed h.0 (end_failed contents flash C stream (taken ++ piece) (i.state c.next_turn.new.inputs).rest Full old now sel (c.in_ok-turn.ensures.end c.if-turn.true) risen prefix)
+          ends_same (with_inputs contents flash) C stream Full old now (event_of r) writing_failed h.0 (end_failed contents flash C stream (taken ++ piece) (i.state c.next_turn.new.inputs).rest Full old now sel (c.in_ok-turn.ensures.reads.end c.if-turn.true) risen prefix)
     ] in
     end w)
     c.put_end.ensures.prefix c.put_end.ensures.refused in
-    let few : length piece ≤ turn_size = omega (arith, length-take-le n c.next_turn.new.buffer (omega (arith, c.in_ok-turn.ensures.within.1, c.next_turn.ensures.length, v.piece)), c.in_ok-turn.ensures.within.1, v.piece) in
+    let few : length piece ≤ turn_size = omega (arith, length-take-le n c.next_turn.new.buffer c.in_ok-turn.ensures.reads.within_buffer, c.in_ok-turn.ensures.reads.within_buffer, c.next_turn.ensures.length, v.piece) in
     let longer = longer_twice (o.state c.loop-lister.out).written (o.state c.put_turn.new.out).written now c.put_turn.ensures.extends c.put_end.ensures.extends in
     let whole = stream_whole taken t.line t.content (t.listing []) in
     let near = turn_near contents stream taken piece t.line t.content c.loop-lister.lister (i.state c.next_turn.new.inputs).rest old (o.state c.loop-lister.out).written now sel t.short_header few whole t.lists longer in
-    let gives = turn_given contents stream taken t.line t.content given c.loop-lister.lister (i.state c.loop-lister.inputs).rest old (o.state c.loop-lister.out).written now v.known.1.0 (omega (arith, v.known.1.3.given, c.next_turn.ensures.gives_a_turn, v.piece)) whole t.lists longer in
+    let gives = turn_given contents stream taken t.line t.content given c.loop-lister.lister (i.state c.loop-lister.inputs).rest old (o.state c.loop-lister.out).written now v.known.1.0 (omega (arith, v.known.1.3.given, c.next_turn.ensures.gives_a_turn.given, v.piece)) whole t.lists longer in
     let close = err_weaker c.put_end.result (λ r w. stays_near (event_of r) stream (record before { inputs = i.state c.args.inputs.now; out = o.state c.args.out.now })
     (record after { inputs = i.state c.next_turn.new.inputs; out = o.state c.put_end.new.out })
     (unwritten_near contents stream (i.state c.next_turn.new.inputs).rest old now _ given (event_of r) gives near (why_weaker w))) c.put_end.ensures.refused in
-    let asks = few_read (i.state c.args.inputs.now) (i.state c.loop-lister.inputs) (i.state c.next_turn.new.inputs) c.loop-lister.left c.loop-lister.invariant.once c.next_turn.ensures.gives_few in
+    let asks = asks_turn (i.state c.args.inputs.now) (i.state c.loop-lister.inputs) (i.state c.next_turn.new.inputs) stream v.known.0 stream_limit c.loop-lister.left v.known.1.3 v.known.1.2 v.once v.inputs c.next_turn.ensures.gives_few in
     record {
       ends = list_seen stream (record before { inputs = i.state c.args.inputs.now; out = o.state c.args.out.now }) (record after { inputs = i.state c.next_turn.new.inputs; out = o.state c.put_end.new.out }) c.put_end.result ok err close;
       stops = written_stops _ _ (Listing c.args.stream.now) (g.I.Inputs.state c.args.inputs.now) (g.I.Inputs.state c.next_turn.new.inputs) c.put_end.result c.put_end.ensures.refused;
       judges = tt;
-      asks = asks;
-      stays = stays_on _ _ _ c.loop-lister.invariant.inputs c.next_turn.ensures.inputs;
+      asks = asks.once;
+      stays = asks.stays;
     }
 
 pub loop-lister-preserved : goal.loop-lister-preserved
@@ -331,15 +330,15 @@ loop-lister-preserved g c =
     let t = v.known.1.1 in
     let n = c.in_ok-turn.turn.count in
     let piece = take n c.next_turn.new.buffer in
-    let sel = taken_more contents stream taken piece (i.state c.loop-lister.inputs).rest (i.state c.next_turn.new.inputs).rest v.known.1.0 c.in_ok-turn.ensures.takes.taken in
+    let sel = taken_more contents stream taken piece (i.state c.loop-lister.inputs).rest (i.state c.next_turn.new.inputs).rest v.known.1.0 c.in_ok-turn.ensures.reads.takes.taken in
     let lists : ListsInTurns c.put_turn.new.lister (appended old t.line) (o.state c.put_turn.new.out).written (t.content ++ piece) = c.in_ok-put_turn.ensures.listed (appended old t.line) t.content t.lists in
     let listing = goes_on taken piece t.line t.content t.listing in
-    let size : length (taken ++ piece) ≡ length taken + n = length-append taken piece ∙ ap (λ k. length taken + k) (length-take-le n c.next_turn.new.buffer (omega (arith, c.in_ok-turn.ensures.within.1, c.next_turn.ensures.length, v.piece))) in
-    let full : n ≡ turn_size = c.in_ok-turn.ensures.fills c.if-turn.false ∙ v.piece in
+    let size : length (taken ++ piece) ≡ length taken + n = length-append taken piece ∙ ap (λ k. length taken + k) (length-take-le n c.next_turn.new.buffer c.in_ok-turn.ensures.reads.within_buffer) in
+    let full : n ≡ turn_size = c.in_ok-turn.ensures.reads.fills c.if-turn.false ∙ c.next_turn.ensures.length ∙ v.piece in
     record {
-      selected = c.in_ok-turn.ensures.takes.selected;
-      inputs = stays_on _ _ _ v.inputs c.next_turn.ensures.inputs;
-      once = once_on _ _ _ v.once c.in_ok-turn.ensures.takes.selects (c.in_ok-turn.ensures.no_end_read c.if-turn.false);
+      selected = c.in_ok-turn.ensures.reads.takes.selected;
+      inputs = stays_on _ _ _ v.inputs c.next_turn.ensures.gives_few.stays;
+      once = once_on _ _ _ v.once c.in_ok-turn.ensures.reads.takes.selects (c.in_ok-turn.ensures.reads.no_end_read c.if-turn.false);
       written = omega (arith, v.written, c.put_turn.ensures.counts.faults);
       left = omega (arith, v.left);
       piece = omega (arith, c.next_turn.ensures.length, v.piece);
@@ -348,9 +347,9 @@ loop-lister-preserved g c =
         (
           sel,
           record { line = t.line; content = t.content ++ piece; lists = lists; listing = listing; short_header = omega (arith, t.short_header, length-append taken piece, length-append t.content piece) },
-          omega (arith, size, v.known.1.2, c.in_ok-turn.ensures.within.0),
+          omega (arith, size, v.known.1.2, c.in_ok-turn.ensures.reads.within_limit),
           at_on stream taken piece (i.state c.loop-lister.inputs)
-              (i.state c.next_turn.new.inputs) v.known.1.3 c.in_ok-turn.ensures.takes c.next_turn.ensures.gives_few.asked,
+              (i.state c.next_turn.new.inputs) v.known.1.3 c.in_ok-turn.ensures.reads.takes c.next_turn.ensures.gives_few.asked,
         ),
       );
     }
@@ -376,10 +375,10 @@ loop-lister-init g c =
     f.begins left (λ l. let never : false ≡ true = sym c.if-beginning.false ∙ l in absurd cc)
     ∙ ap (λ (l : List ℕ). Ok (l ++ listing_of (drop start taken ++ left))) (sym c.deref-line.ensures.value) ∙ ap (λ (s : List ℕ). Ok (line ++ listing_of (s ++ left))) (sym cut) in
     record {
-      selected = c.in_ok-beginning.ensures.selected;
-      inputs = stays_on _ _ _ c.open.ensures.inputs c.read_beginning.ensures.inputs;
+      selected = f.reads.takes.selected;
+      inputs = stays_on _ _ _ c.open.ensures.asks.stays c.read_beginning.ensures.gives_few.stays;
       written = c.put_beginning.ensures.counts.faults;
-      once = once_on _ _ _ c.open.ensures.once c.read_beginning.ensures.gives_few.selects (f.no_end_read c.if-beginning.false);
+      once = once_on _ _ _ c.open.ensures.asks.once c.read_beginning.ensures.gives_few.selects (f.no_end_read c.if-beginning.false);
       left = omega arith;
       piece = refl;
       known = (
@@ -389,9 +388,9 @@ loop-lister-init g c =
           record { line = line; content = content; lists = c.in_ok-put_beginning.ensures.listed; listing = listing; short_header = omega (arith, f.short) },
           omega (arith, f.short, c.len-left.ensures),
           record {
-            asked = asked_on stream (i.state c.open.new.inputs) now c.open.ensures.asks f.reads.asked;
+            asked = asked_on stream (i.state c.open.new.inputs) now c.open.ensures.asks.named f.reads.asked;
             given =
-                omega (arith, c.open.ensures.asks.given, f.reads.takes.given);
+                omega (arith, c.open.ensures.asks.named.given, f.reads.takes.given);
           },
         ),
       );

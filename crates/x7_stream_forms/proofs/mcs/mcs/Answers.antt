@@ -20,9 +20,9 @@ returns-in_err-bytes g c = rw (handed_on c.from_residual.result c.in_err-bytes.f
     let event = event_of c.in_err-bytes.field-0.0 in
     record {
       caused = answers_stop (List ℕ) Answer (name ∷ []) (name ∷ []) old new (λ t. whole_known t flash_limit name) (λ t xs. Ok (record { stopped = false; text = mcs_text xs })) event (λ n h. h) c.in_err-bytes.ensures.caused;
-      stops = first_stops (ToMcs name) (limited flash_limit name) [] old new event refl c.read_whole.ensures.last_asked c.read_whole.ensures.asks (unread_about name event c.in_err-bytes.ensures.named);
-      asks = c.read_whole.ensures.asks;
-      stays = c.read_whole.ensures.inputs;
+      stops = first_stops (ToMcs name) (limited flash_limit name) [] old new event refl c.read_whole.ensures.asks.last c.read_whole.ensures.asks.once (unread_about name event c.in_err-bytes.ensures.named);
+      asks = c.read_whole.ensures.asks.once;
+      stays = c.read_whole.ensures.asks.stays;
     })
 
 pub returns : goal.returns
@@ -35,12 +35,12 @@ returns g c =
       caused = answers_end (List ℕ) Answer (name ∷ []) old new (λ t. whole_known t flash_limit name) (λ xs. Ok (whole (mcs_text xs))) c.in_ok-bytes.bytes.items (Ok (whole (mcs_text c.in_ok-new.field-0))) (whole_steady flash_limit name) c.in_ok-bytes.ensures.caused
           (inr (tt, tt, ap (λ t. Ok (whole (mcs_text t))) (sym c.in_ok-new.ensures)));
       stops = tt;
-      asks = c.read_whole.ensures.asks;
-      stays = c.read_whole.ensures.inputs;
+      asks = c.read_whole.ensures.asks.once;
+      stays = c.read_whole.ensures.asks.stays;
     }
 
 pub returns-in_err-new : goal.returns-in_err-new
 returns-in_err-new g c = rw (want_seen mcs_answer c.from_residual-in_err-new.result c.from_residual-in_err-new.ensures)
     (let old = g.I.Inputs.state c.args.inputs.now in
     let new = g.I.Inputs.state c.read_whole.new.inputs in
-    record { caused = λ flash. inl (inl refl); stops = want_stops (ToMcs c.args.image.now) old new no_memory refl; asks = c.read_whole.ensures.asks; stays = c.read_whole.ensures.inputs })
+    record { caused = λ flash. inl (inl refl); stops = want_stops (ToMcs c.args.image.now) old new no_memory refl; asks = c.read_whole.ensures.asks.once; stays = c.read_whole.ensures.asks.stays })

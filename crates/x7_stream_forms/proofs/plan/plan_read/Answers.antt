@@ -21,9 +21,9 @@ returns-in_err-part g c = rw (handed_on c.from_residual.result c.in_err-part.fie
     let event = event_of c.in_err-part.field-0.0 in
     record {
       caused = answers_kept PartData Answer (name ∷ []) old new (λ t. part_known t name) (PlannedRead name c.args.far c.args.slot_count) event (λ x. refl) c.in_err-part.ensures.caused;
-      stops = first_stops (PlanningRead name c.args.far c.args.slot_count) (limited part_limit name) [] old new event refl c.read_part.ensures.last_asked c.read_part.ensures.asks (no_part_about name event c.in_err-part.ensures.named);
-      asks = c.read_part.ensures.asks;
-      stays = c.read_part.ensures.inputs;
+      stops = first_stops (PlanningRead name c.args.far c.args.slot_count) (limited part_limit name) [] old new event refl c.read_part.ensures.asks.last c.read_part.ensures.asks.once (no_part_about name event c.in_err-part.ensures.named);
+      asks = c.read_part.ensures.asks.once;
+      stays = c.read_part.ensures.asks.stays;
     })
 
 pub returns : goal.returns
@@ -38,7 +38,7 @@ returns g c =
           (read_due name part c.args.far c.args.slot_count made c.readback_text.ensures.text c.readback_text.ensures.refused);
       stops = result_stops bytes_answer (PlanningRead name c.args.far c.args.slot_count) old new made
           (err_weaker made (λ r a. first_stops (PlanningRead name c.args.far c.args.slot_count) (limited part_limit name) [] old new
-          (event_of r) refl c.read_part.ensures.last_asked c.read_part.ensures.asks a) c.readback_text.ensures.named);
-      asks = c.read_part.ensures.asks;
-      stays = c.read_part.ensures.inputs;
+          (event_of r) refl c.read_part.ensures.asks.last c.read_part.ensures.asks.once a) c.readback_text.ensures.named);
+      asks = c.read_part.ensures.asks.once;
+      stays = c.read_part.ensures.asks.stays;
     }

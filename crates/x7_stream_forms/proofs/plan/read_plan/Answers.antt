@@ -24,11 +24,11 @@ returns-in-Err-clause-caused g c =
 pub returns-in_err-read-clause-stops : goal.returns-in_err-read-clause-stops
 returns-in_err-read-clause-stops g c = rw (handed_on c.from_residual.result c.in_err-read.field-0.0 c.from_residual.ensures)
     (about_among (limited text_limit c.args.name.now ∷ []) [] (limited text_limit c.args.name.now) [] (g.I.Inputs.state c.args.inputs.now) (g.I.Inputs.state c.feed_whole.new.inputs)
-    (event_of c.in_err-read.field-0.0) refl c.feed_whole.ensures.last_asked c.feed_whole.ensures.asks (unread_about c.args.name.now (event_of c.in_err-read.field-0.0) c.in_err-read.ensures.named))
+    (event_of c.in_err-read.field-0.0) refl c.feed_whole.ensures.asks.last c.feed_whole.ensures.asks.once (unread_about c.args.name.now (event_of c.in_err-read.field-0.0) c.in_err-read.ensures.named))
 
 pub returns-in-Err-clause-stops : goal.returns-in-Err-clause-stops
 returns-in-Err-clause-stops g c =
-    about_among (limited text_limit c.args.name.now ∷ []) [] (limited text_limit c.args.name.now) [] (g.I.Inputs.state c.args.inputs.now) (g.I.Inputs.state c.feed_whole.new.inputs) (event_of c.frames_refusal.result) refl c.feed_whole.ensures.last_asked c.feed_whole.ensures.asks
+    about_among (limited text_limit c.args.name.now ∷ []) [] (limited text_limit c.args.name.now) [] (g.I.Inputs.state c.args.inputs.now) (g.I.Inputs.state c.feed_whole.new.inputs) (event_of c.frames_refusal.result) refl c.feed_whole.ensures.asks.last c.feed_whole.ensures.asks.once
     (about_by c.args.name.now (event_of c.frames_refusal.result) (frames_event c.args.name.now c.in-Err.fault) c.frames_refusal.ensures (frames_about c.args.name.now c.in-Err.fault))
 
 pub returns-in_err-read-clause-caused : goal.returns-in_err-read-clause-caused

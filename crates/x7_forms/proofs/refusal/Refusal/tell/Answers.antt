@@ -11,4 +11,4 @@ line_is e before label detail b a =
 
 pub returns-clause-line : goal.returns-clause-line
 returns-clause-line g c =
-    rw (← line_is (event_of c.args.self.now) c.before_name.result.now c.after_name.result.0.now (detail_text c.after_name.result.1) c.before_name.ensures c.after_name.ensures) c.write_line.ensures
+    rw (← line_is (event_of c.args.self.now) c.before_name.result.now c.after_name-detail.result.0.now (detail_text c.after_name-detail.result.1) c.before_name.ensures c.after_name-detail.ensures) c.write_line.ensures
