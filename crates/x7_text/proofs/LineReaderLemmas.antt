@@ -146,10 +146,6 @@ each_fault (Err e) P f = f e
 
 -- ---- readers
 
-pub none_left : (xs : List ℕ) → length xs ≡ 0 → xs ≡ []
-none_left [] e = refl
-none_left (x ∷ xs) e = absurd (omega (arith, e))
-
 module _ {B : Type 0} (taken : B → List (List ℕ) → Type 0) where
   -- what a reader took, and how many lines, is that of its view
   pub view_took : (r q : ReaderState B) (lines : List (List ℕ)) → r ≡ q → taken q.taker lines → taken r.taker lines

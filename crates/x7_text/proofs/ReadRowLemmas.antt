@@ -14,28 +14,19 @@ use Rattle.x7_text.proofs.WholeLineLemmas.{length_hex_bytes}
 use Rattle.x7_text.specs.Row.{IsByteRow, IsWordRow}
 use Rattle.x7_text.specs.Reads.{AppendsIfRead}
 use Rattle.x7_text.specs.DigitValue.{bytes_value}
-use Rattle.x7_text.proofs.ValueLemmas.{byte_back, word_digits}
+use Rattle.x7_text.proofs.ValueLemmas.{word_digits, bytes_value_on}
 use Rattle.x7_text.proofs.DigitLemmas.{refuted}
+use Rattle.x7_text.proofs.FewLemmas.{hex_prefix}
 
 pub length_spaced : (ws : List ℕ) → length (flat_map spaced ws) ≡ 9 * length ws
 length_spaced [] = refl
 length_spaced (w ∷ ws) = omega (arith, length_spaced ws)
-
-take_hex : (n : ℕ) (bs : List ℕ) → n ≤ length bs → take (2 * n) (flat_map hex_byte bs) ≡ flat_map hex_byte (take n bs)
-take_hex zero bs h = refl
-take_hex (suc n) [] h = absurd (omega arith)
-take_hex (suc n) (b ∷ bs) h = let e : 2 * suc n ≡ suc (suc (2 * n)) = omega arith in
-    ap (λ (j : ℕ). take j (flat_map hex_byte (b ∷ bs))) e ∙ ap (λ t. hex_byte b ++ t) (take_hex n bs (omega arith))
 
 pub take_spaced : (n : ℕ) (ws z : List ℕ) → n ≤ length ws → take (9 * n) (flat_map spaced ws ++ z) ≡ flat_map spaced (take n ws)
 take_spaced zero ws z h = refl
 take_spaced (suc n) [] z h = absurd (omega arith)
 take_spaced (suc n) (w ∷ ws) z h = let e : 9 * suc n ≡ suc (suc (suc (suc (suc (suc (suc (suc (suc (9 * n))))))))) = omega arith in
     ap (λ (j : ℕ). take j (flat_map spaced (w ∷ ws) ++ z)) e ∙ ap (λ t. spaced w ++ t) (take_spaced n ws z (omega arith))
-
-bytes_prefix : (bs zs : List ℕ) → AreBytes bs → bytes_value (flat_map hex_byte bs ++ zs) ≡ bs ++ bytes_value zs
-bytes_prefix [] zs h = refl
-bytes_prefix (b ∷ bs) zs h = ap₂ (λ (x : ℕ) (t : List ℕ). x ∷ t) (byte_back b h.0) (bytes_prefix bs zs h.1)
 
 pub hex_words : (ws : List ℕ) → AreWords ws → flat_map hex_word ws ≡ flat_map hex_byte (flat_map bytes_of_word ws)
 hex_words [] h = refl
@@ -62,7 +53,7 @@ pub no_byte_row : (ds p r known : List ℕ) (b : Bool) → take (length ds) p �
 no_byte_row ds p r known b prefix value text off is bs row e =
     let T : List ℕ = drop (length ds) p in
     let whole : p ≡ flat_map hex_byte bs ++ drop (length ds) p = prefix_of ds p prefix ∙ ap (λ t. t ++ drop (length ds) p) e in
-    let read : r ≡ bs ++ bytes_value (drop (length ds) p) = value ∙ ap bytes_value whole ∙ bytes_prefix bs (drop (length ds) p) row.0 in
+    let read : r ≡ bs ++ bytes_value (drop (length ds) p) = value ∙ ap bytes_value whole ∙ bytes_value_on bs (drop (length ds) p) row.0 in
     let again : known ≡ ds ++ flat_map hex_byte (bytes_value (drop (length ds) p)) = text ∙ ap (flat_map hex_byte) read ∙ flat_map-append hex_byte bs (bytes_value (drop (length ds) p)) ∙ ap (λ t. t ++ flat_map hex_byte (bytes_value (drop (length ds) p))) (sym e) in
     refuted b off (is (ap (take (length ds)) again ∙ take-append_seam ds (flat_map hex_byte (bytes_value (drop (length ds) p)))))
 
@@ -70,7 +61,7 @@ pub yes_byte_row : (ds r known old new : List ℕ) (n : ℕ) → length r ≡ 32
     → AppendsIfRead IsByteRow (flat_map hex_byte) (λ (bs : List ℕ). bs) true ds old new
 yes_byte_row ds r known old new n long fit text same some two few appended =
     let count : length (take n r) ≡ n = length-take-le n r (omega arith) in
-    let is : ds ≡ flat_map hex_byte (take n r) = sym same ∙ ap (take (length ds)) text ∙ ap (λ (j : ℕ). take j (flat_map hex_byte r)) two ∙ take_hex n r (omega arith) in
+    let is : ds ≡ flat_map hex_byte (take n r) = sym same ∙ ap (take (length ds)) text ∙ ap (λ (j : ℕ). take j (flat_map hex_byte r)) two ∙ hex_prefix n r (omega arith) in
     let all : AreBytes r = all_from_places (λ b. b < 256) r (λ k l. fit k) in
     (take n r, (all_take (λ b. b < 256) n r all, omega (arith, count), omega (arith, count)), is, appended)
 
@@ -86,7 +77,7 @@ no_word_row ds p r known m b same prefix long value text off is ws row e =
     let ds_of : flat_map (λ (word : List ℕ). drop 1 word) (first_chunks 9 (length ds / 9) ds) ≡ flat_map hex_byte (flat_map bytes_of_word ws) =
     ap₂ (λ (k : ℕ) (t : List ℕ). flat_map (λ (word : List ℕ). drop 1 word) (first_chunks 9 k t)) count e ∙ digits_of_spaced ws ∙ hex_words ws row.0 in
     let whole : p ≡ flat_map hex_byte (flat_map bytes_of_word ws) ++ T = sym (take-append-drop (8 * (length ds / 9)) p) ∙ ap (λ t. t ++ T) (prefix ∙ ds_of) in
-    let read : words_of_bytes r ≡ ws ++ words_of_bytes (bytes_value T) = ap words_of_bytes (value ∙ ap bytes_value whole ∙ bytes_prefix (flat_map bytes_of_word ws) T (bytes_fit ws)) ∙ words_back ws (bytes_value T) row.0 in
+    let read : words_of_bytes r ≡ ws ++ words_of_bytes (bytes_value T) = ap words_of_bytes (value ∙ ap bytes_value whole ∙ bytes_value_on (flat_map bytes_of_word ws) T (bytes_fit ws)) ∙ words_back ws (bytes_value T) row.0 in
     let again : known ≡ ds ++ (flat_map spaced (words_of_bytes (bytes_value T)) ++ 10 ∷ []) =
     text ∙ ap (λ t. flat_map spaced t ++ 10 ∷ []) read ∙ ap (λ t. t ++ 10 ∷ []) (flat_map-append spaced ws (words_of_bytes (bytes_value T)) ∙ ap (λ t. t ++ flat_map spaced (words_of_bytes (bytes_value T))) (sym e)) ∙ append_assoc ds (flat_map spaced (words_of_bytes (bytes_value T))) (10 ∷ []) in
     refuted b off (is (ap (λ (j : ℕ). take j known) same ∙ ap (take (length ds)) again ∙ take-append_seam ds (flat_map spaced (words_of_bytes (bytes_value T)) ++ 10 ∷ [])))

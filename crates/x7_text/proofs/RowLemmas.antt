@@ -1,22 +1,16 @@
 -- Rows: all but the last are full, and joined they are the elements.
 use Rattle.std.proofs.Common.{◌≡◌, ℕ, ◌+◌, ◌<◌, ◌==◌, Bool, true, false, if◌then◌else◌, List, [], ◌∷◌, ◌++◌, length, refl, ap, ◌∙◌, append_assoc, arith, length-append, flat_map}
-use Rattle.std.proofs.lemmas.Grind.{common_steps}
+use Rattle.std.proofs.lemmas.Bool.{eqb-true, eqb-false}
 use Rattle.x7_text.specs.Row.{AreFullButLast, rows_from}
 
 cons_full : (n : ℕ) (r : List ℕ) (rs : List (List ℕ)) → length r ≡ n → 0 < n → AreFullButLast n rs → AreFullButLast n (r ∷ rs)
 cons_full n r [] e h f = (omega arith, omega arith)
 cons_full n r (s ∷ rs) e h f = (e, f)
 
-is_eq : (a b : ℕ) → (a == b) ≡ true → a ≡ b
-is_eq a b e = grind (arith, common_steps)
-
-not_eq : (a b : ℕ) → (a == b) ≡ false → a ≡ b → ⊥
-not_eq a b e f = grind (arith, common_steps)
-
 full_by : (n : ℕ) (open_row : List ℕ) (x : ℕ) (xs : List ℕ) (b : Bool) → length open_row < n → (length open_row + 1 == n) ≡ b → AreFullButLast n (rows_from n [] xs) → (length (open_row ++ x ∷ []) < n → AreFullButLast n (rows_from n (open_row ++ x ∷ []) xs))
     → AreFullButLast n (if b then (open_row ++ x ∷ []) ∷ rows_from n [] xs else rows_from n (open_row ++ x ∷ []) xs)
-full_by n open_row x xs true h e f g = cons_full n (open_row ++ x ∷ []) (rows_from n [] xs) (length-append open_row (x ∷ []) ∙ is_eq (length open_row + 1) n e) (omega arith) f
-full_by n open_row x xs false h e f g = let no : length open_row + 1 ≡ n → ⊥ = not_eq (length open_row + 1) n e in g (omega (arith, length-append open_row (x ∷ []), no))
+full_by n open_row x xs true h e f g = cons_full n (open_row ++ x ∷ []) (rows_from n [] xs) (length-append open_row (x ∷ []) ∙ eqb-true (length open_row + 1) n e) (omega arith) f
+full_by n open_row x xs false h e f g = let no : length open_row + 1 ≡ n → ⊥ = eqb-false (length open_row + 1) n e in g (omega (arith, length-append open_row (x ∷ []), no))
 
 pub rows_full : (n : ℕ) (open_row xs : List ℕ) → length open_row < n → AreFullButLast n (rows_from n open_row xs)
 rows_full n [] [] h = tt

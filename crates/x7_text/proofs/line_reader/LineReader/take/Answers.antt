@@ -1,13 +1,13 @@
 use Rattle.std.proofs.Common.{◌≡◌, ◌^◌, ◌<◌, [], ◌++◌, ◌∙◌, MatchOption, MatchResult, append_assoc, length, arith, ap, sym, subst}
 use Rattle.x7_text.specs.LineReader.{FailsFrom, StandsFor, TakesPrefix}
-use Rattle.x7_text.proofs.LineReaderLemmas.{none_left}
 use Rattle.std.proofs.lemmas.Result.{err_from_is_err_and}
+use Rattle.std.proofs.lemmas.List.{nil_from_length}
 use Rattle.x7_text.proofs.line_reader.LineReader.take.Goals as goal
 
 pub returns-then-is_empty-clause-read : goal.returns-then-is_empty-clause-read
 returns-then-is_empty-clause-read g c = λ first text fits s.
     let left : length c.self.inside.held.items ≡ 0 = grind (arith, c.is_empty.ensures, c.if-is_empty.true) in
-    c.take_at_line_start.ensures.read first (sym (ap (λ x. x.held) c.self.view_is) ∙ none_left c.self.inside.held.items left) text fits s
+    c.take_at_line_start.ensures.read first (sym (ap (λ x. x.held) c.self.view_is) ∙ nil_from_length c.self.inside.held.items left) text fits s
 
 pub returns-in_err-rest-clause-memory : goal.returns-in_err-rest-clause-memory
 returns-in_err-rest-clause-memory g c =

@@ -1,7 +1,8 @@
 use Rattle.std.proofs.Common.{◌≡◌, ◌++◌, ◌∙◌, inl, inr, length, length-append, arith, ap, sym, subst}
 use Rattle.x7_text.specs.LineReader.{ReaderState, StandsFor, TakesWhole}
-use Rattle.x7_text.proofs.LineReaderLemmas.{few_lines, lines_fail, lines_taken, none_left, view_count, view_took}
+use Rattle.x7_text.proofs.LineReaderLemmas.{few_lines, lines_fail, lines_taken, view_count, view_took}
 use Rattle.std.proofs.lemmas.Result.{err_from_is_err_and}
+use Rattle.std.proofs.lemmas.List.{nil_from_length}
 use Rattle.x7_text.proofs.line_reader.LineReader.take_at_line_start.Goals as goal
 
 pub returns-in_err-rest-clause-read : goal.returns-in_err-rest-clause-read
@@ -33,7 +34,7 @@ returns-then-is_empty-clause-read g c = λ first clear text fits now.
     let s : StandsFor taken r text = subst (λ x. StandsFor taken x text) (sym c.self.view_is) now in
     let none = ap (λ x. x.held) c.self.view_is ∙ clear in
     let left : length rest ≡ 0 = grind (arith, c.is_empty.ensures, c.if-is_empty.true) in
-    lines_taken taken r _ text piece rest s none (none ∙ sym (none_left rest left))
+    lines_taken taken r _ text piece rest s none (none ∙ sym (nil_from_length rest left))
     (c.in_ok-rest.ensures.read first s.lines s.count (omega (arith, few_lines taken r text s, fits, length-append text piece)) s.took)
 
 pub returns-in_default-clause-memory : goal.returns-in_default-clause-memory
