@@ -47,7 +47,7 @@ pub record KeepsCheckOf (c : CheckerState) (bytes : List ℕ) : Type 0 where
   pub within : c.taken ≤ length bytes
   pub checks : HasTaken c.pieces (take c.taken bytes)
 
--- a write to this register may do more than lengthen the check: it may clear the check, at once or by a later write to
--- FAR, or is left out of it
+-- a write to this register may do more to the running check than go into it: it may clear the check, at once or by a
+-- later write to FAR, or is left out of it
 abbrev pub steers_check : ℕ → Bool
 steers_check register = register == number_of Crc || register == number_of Far || register == number_of Cmd || register == number_of Lout

@@ -31,7 +31,7 @@ fn held_after(held: u8, reg: Reg, word: u32) -> u8
     }
 }
 
-/// The check state after a word written to a register to which a write may do more than lengthen the check.
+/// The check state after a word written to a register by which the check may be cleared, or which stays out of it.
 fn after_steering_word(state: CheckState, reg: Reg, word: u32) -> CheckState
     ensures { (h : History) (place : ℕ) → IsCheckState state.check state.held h
         → IsCheckState result.check result.held (entry (Write (number_of reg) word) place ∷ h) }
@@ -43,8 +43,8 @@ fn after_steering_word(state: CheckState, reg: Reg, word: u32) -> CheckState
     }
 }
 
-/// The check state after words written to a register to which a write may do more than lengthen the check, taken word
-/// by word: four bytes each.
+/// The check state after words written to a register by which the check may be cleared, or which stays out of it, taken
+/// word by word: four bytes each.
 fn after_steering_words(state: CheckState, reg: Reg, bytes: &[u8]) -> CheckState
     requires whole { AreWholeWords bytes.now }
     ensures { (h : History) (place : ℕ) → IsCheckState state.check state.held h
@@ -58,7 +58,8 @@ fn after_steering_words(state: CheckState, reg: Reg, bytes: &[u8]) -> CheckState
     now
 }
 
-/// Whether a write to the register may do more than lengthen the check.
+/// Whether a write to the register may clear the running check or stay out of it. A write to any other goes into it,
+/// and does no more.
 fn steers_check(reg: Reg) -> bool
     ensures { result ≡ steers_check (number_of reg) }
 {
@@ -68,7 +69,7 @@ fn steers_check(reg: Reg) -> bool
     }
 }
 
-/// The register with this number, where a write to it may do more than lengthen the check.
+/// The register with this number, where a write to it may clear the running check or stay out of it.
 fn steering_register(register: u8) -> Option<Reg>
     ensures number { IfSome result (λ reg. number_of reg ≡ register) }
     ensures not_steering { IfNone result (steers_check register ≡ false) }

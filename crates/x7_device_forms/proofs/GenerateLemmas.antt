@@ -29,7 +29,7 @@ use Rattle.x7_effects.proofs.FormLemmas.{full_length}
 use Rattle.x7_effects.proofs.PlannerLemmas.{full_same}
 use Rattle.x7_effects.specs.Played.{PlaysFull, device_after}
 use Rattle.x7_effects.proofs.LawLemmas.{new_law}
-use Rattle.x7_outcome.specs.Generate.{count_line, counted, gen_text, generated, gen_line, least_planned, next_number, planned_summary, played_summary, row_by, rows_after, sum_line, summary_text, words_sum}
+use Rattle.x7_outcome.specs.Generate.{count_line, counted, gen_text, plan_of_seed, gen_line, least_planned, next_number, planned_summary, played_summary, row_by, rows_after, sum_line, summary_text, words_sum}
 use Rattle.x7_forms.specs.Known.{reads_limit}
 use Rattle.x7_playing.specs.Playing.{HasPlayed, HasPlayedBy, PlayState, DevicePlayed, PlaysOn}
 use Rattle.x7_playing.specs.declared.player.Player.{Player}
@@ -90,17 +90,17 @@ rows_order width x least [] r = λ i j d l h. absurd (omega (arith, h))
 rows_order width x least (far ∷ fars) (rise m y ys l r) =
     order_by (nat_lt (next_number x) least_planned) far width (next_number x) (rows_after width (next_number x) fars) (rows_low width (next_number x) (far + 1) fars r) (rows_order width (next_number x) (far + 1) fars r)
 
-pub rows_apart : (part : PartData) (seed : ℕ) → Rises 0 (addresses_in part) → AreApart (generated part seed).rows
+pub rows_apart : (part : PartData) (seed : ℕ) → Rises 0 (addresses_in part) → AreApart (plan_of_seed part seed).rows
 rows_apart part seed r = λ i j d l h e. let k = rows_order (frame_words part) seed 0 (addresses_in part) r i j d l h in omega (arith, k, e)
 
 -- the plan of rows that stand in order has just these
-pub plan_is : (part : PartData) (seed : ℕ) (draft plan : PlanData) → Rises 0 (addresses_in part) → draft.rows ≡ (generated part seed).rows → draft.width ≡ frame_words part → plan.width ≡ draft.width
-    → IsPermutation draft.rows plan.rows → IsPlan plan → plan ≡ generated part seed
+pub plan_is : (part : PartData) (seed : ℕ) (draft plan : PlanData) → Rises 0 (addresses_in part) → draft.rows ≡ (plan_of_seed part seed).rows → draft.width ≡ frame_words part → plan.width ≡ draft.width
+    → IsPermutation draft.rows plan.rows → IsPlan plan → plan ≡ plan_of_seed part seed
 plan_is part seed draft plan r e w v same is =
-    let permuted : IsPermutation (generated part seed).rows plan.rows = subst (λ (t : List PlanRow). IsPermutation t plan.rows) e same in
-    let rows : plan.rows ≡ (generated part seed).rows = same_order plan.rows (generated part seed).rows is.order (rows_order (frame_words part) seed 0 (addresses_in part) r)
-    (All-permutation (Contains (generated part seed).rows) (generated part seed).rows plan.rows permuted (All-contains_itself (generated part seed).rows))
-    (All-permutation (Contains plan.rows) plan.rows (generated part seed).rows (IsPermutation-sym (generated part seed).rows plan.rows permuted) (All-contains_itself plan.rows)) in
+    let permuted : IsPermutation (plan_of_seed part seed).rows plan.rows = subst (λ (t : List PlanRow). IsPermutation t plan.rows) e same in
+    let rows : plan.rows ≡ (plan_of_seed part seed).rows = same_order plan.rows (plan_of_seed part seed).rows is.order (rows_order (frame_words part) seed 0 (addresses_in part) r)
+    (All-permutation (Contains (plan_of_seed part seed).rows) (plan_of_seed part seed).rows plan.rows permuted (All-contains_itself (plan_of_seed part seed).rows))
+    (All-permutation (Contains plan.rows) plan.rows (plan_of_seed part seed).rows (IsPermutation-sym (plan_of_seed part seed).rows plan.rows permuted) (All-contains_itself plan.rows)) in
     ap (λ (n : ℕ). let p : PlanData = record { width = n; rows = plan.rows } in p) (v ∙ w) ∙ ap (λ (t : List PlanRow). let p : PlanData = record { width = frame_words part; rows = t } in p) rows
 
 -- ---- sums
@@ -166,10 +166,10 @@ summary_put name seed planned size phase total old first second third fourth las
     e ∙ ap (λ (t : List ℕ). t ++ sum_line total) (d ∙ ap (λ (t : List ℕ). t ++ count_line (codes "phase ") phase) (c ∙ ap (λ (t : List ℕ). t ++ count_line (codes "stream ") size) (b ∙ ap (λ (t : List ℕ). t ++ count_line (codes "planned ") planned) a)))
     ∙ five old (gen_line name seed) (count_line (codes "planned ") planned) (count_line (codes "stream ") size) (count_line (codes "phase ") phase) (sum_line total)
 
-pub gen_is : (part : PartData) (seed planned : ℕ) (plan : PlanData) (stream text : List ℕ) → plan ≡ generated part seed → planned ≡ length plan.rows → stream ≡ full_stream part plan → text ≡ played_summary part seed planned stream → text ≡ gen_text part seed
+pub gen_is : (part : PartData) (seed planned : ℕ) (plan : PlanData) (stream text : List ℕ) → plan ≡ plan_of_seed part seed → planned ≡ length plan.rows → stream ≡ full_stream part plan → text ≡ played_summary part seed planned stream → text ≡ gen_text part seed
 unfolding gen_text
 gen_is part seed planned plan stream text p n s t =
-    t ∙ ap (λ (k : ℕ). played_summary part seed k stream) (n ∙ ap (λ (x : PlanData). length x.rows) p) ∙ ap (played_summary part seed (length (generated part seed).rows)) (s ∙ ap (full_stream part) p)
+    t ∙ ap (λ (k : ℕ). played_summary part seed k stream) (n ∙ ap (λ (x : PlanData). length x.rows) p) ∙ ap (played_summary part seed (length (plan_of_seed part seed).rows)) (s ∙ ap (full_stream part) p)
 
 -- a summary by another count of the planned frames
 pub planned_as : (part : PartData) (seed n planned : ℕ) (stream text : List ℕ) → text ≡ played_summary part seed n stream → n ≡ planned → text ≡ played_summary part seed planned stream
@@ -197,30 +197,30 @@ rows_each P width x (far ∷ fars) all =
     (All-head (λ (a : ℕ). (n : ℕ) → P record { far = a; words = counted width n }) far fars all (next_number x))
     (rows_each P width (next_number x) fars (All-tail (λ (a : ℕ). (n : ℕ) → P record { far = a; words = counted width n }) far fars all))
 
-generated_plan : (part : PartData) (seed : ℕ) → IsPart part → IsPlan (generated part seed)
-generated_plan part seed is = record {
+plan_of_seed_is_plan : (part : PartData) (seed : ℕ) → IsPart part → IsPlan (plan_of_seed part seed)
+plan_of_seed_is_plan part seed is = record {
   order = rows_order (frame_words part) seed 0 (addresses_in part) (part_rises part.field_widths part.rows is.field_widths is.rows);
   width = rows_each (λ row. length row.words ≡ frame_words part) (frame_words part) seed (addresses_in part) (λ i d h n. counted_long (frame_words part) n);
   each = rows_each IsPlanRow (frame_words part) seed (addresses_in part)
       (λ i d h n. record { far = address_small part (get_or (addresses_in part) i d) is (All-contains_itself (addresses_in part) i d h); words = counted_fits (frame_words part) n });
 }
 
-pub generated_addressed : (part : PartData) (seed : ℕ) → AreAddressed part (generated part seed).rows
-generated_addressed part seed =
+pub plan_of_seed_is_addressed : (part : PartData) (seed : ℕ) → AreAddressed part (plan_of_seed part seed).rows
+plan_of_seed_is_addressed part seed =
     rows_each (λ row. Contains (addresses_in part) row.far) (frame_words part) seed (addresses_in part) (λ i d h n. All-contains_itself (addresses_in part) i d h)
 
 -- the full stream of a seed's plan, played on a new device
-pub generated_plays : (part : PartData) (seed : ℕ) → IsPart part → PlaysFull (device_after part on_the_bench []) (full_stream part (generated part seed)) (generated part seed)
-generated_plays part seed is = new_law part (generated part seed) is (generated_plan part seed is) refl (generated_addressed part seed)
+pub plan_of_seed_plays : (part : PartData) (seed : ℕ) → IsPart part → PlaysFull (device_after part on_the_bench []) (full_stream part (plan_of_seed part seed)) (plan_of_seed part seed)
+plan_of_seed_plays part seed is = new_law part (plan_of_seed part seed) is (plan_of_seed_is_plan part seed is) refl (plan_of_seed_is_addressed part seed)
 
 -- the full stream of a seed's plan leaves the plan over zeros, and phase 7
 pub planned_is : (part : PartData) (seed : ℕ) (text : List ℕ) → IsPart part → text ≡ gen_text part seed → text ≡ planned_summary part seed
 unfolding gen_text
 planned_is part seed text is e =
-    let plan = generated part seed in
+    let plan = plan_of_seed part seed in
     let stream = full_stream part plan in
     let sums = words_sum (memory_of_bytes part on_the_bench stream) (addresses_in part) % 2 ^ 32 in
-    let law = new_law part plan is (generated_plan part seed is) refl (generated_addressed part seed) in
+    let law = new_law part plan is (plan_of_seed_is_plan part seed is) refl (plan_of_seed_is_addressed part seed) in
     e ∙ ap (λ (n : ℕ). summary_text part.name seed (record { planned = length plan.rows; size = length stream; phase = n; sum = sums })) (law.phase false)
     ∙ ap (λ (n : ℕ). summary_text part.name seed (record { planned = length plan.rows; size = length stream; phase = 7; sum = n % 2 ^ 32 })) (sum_same (memory_of_bytes part on_the_bench stream) (total part plan) (addresses_in part) law.memory)
 

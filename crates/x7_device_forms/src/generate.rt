@@ -9,7 +9,7 @@ ghost use Rattle.x7_memory.specs.Plan.{AreAddressed, IsPlan};
 ghost use Rattle.x7_planner.specs.FullStream.{full_stream};
 ghost use Rattle.x7_planner.specs.FullStreamPieces.{HasGiven};
 ghost use Rattle.x7_device_forms.specs.Summary.{TookStream};
-ghost use Rattle.x7_outcome.specs.Generate.{count_line, counted, gen_text, gen_line, sum_line, generated, next_number, planned_summary, played_summary, row_by, summary_text, words_sum};
+ghost use Rattle.x7_outcome.specs.Generate.{count_line, counted, gen_text, gen_line, sum_line, plan_of_seed, next_number, planned_summary, played_summary, row_by, summary_text, words_sum};
 ghost use Rattle.x7_forms.specs.Event.{event_of, no_memory};
 ghost use Rattle.x7_outcome.specs.Outcome.{gen_answer};
 ghost use Rattle.x7_outcome.specs.Ending.{MakesReady};
@@ -65,8 +65,8 @@ fn push_row(draft: &mut Draft, frame: &mut Vec<u32>, far: u32, number: u32) -> R
 }
 
 /// The plan of a seed.
-fn generated(alloc: Global, part: &Part, seed: u32) -> Result<Plan, NoMemory>
-    ensures { IfOk result (λ plan. plan ≡ generated part.now seed) }
+fn plan_of_seed(alloc: Global, part: &Part, seed: u32) -> Result<Plan, NoMemory>
+    ensures { IfOk result (λ plan. plan ≡ plan_of_seed part.now seed) }
 {
     let Ok(mut frame) = vec![in alloc; 0u32; part.words() as usize] else {
         return Err(NoMemory);
@@ -261,7 +261,7 @@ pub fn gen_text(alloc: Global, part: &Part, seed: u32) -> Result<Vec<u8>, NoMemo
     ensures text { IfOk result (λ text. text.items ≡ gen_text part.now seed) }
     ensures planned { IfOk result (λ text. text.items ≡ planned_summary part.now seed) }
 {
-    let plan = generated(alloc, part, seed)?;
+    let plan = plan_of_seed(alloc, part, seed)?;
     // for the proof alone: a part has a frame
     let _frames = part.frames();
     summary_of_plan(alloc, part, seed, &plan)

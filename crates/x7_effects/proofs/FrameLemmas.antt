@@ -14,7 +14,7 @@ use Rattle.x7_pipeline.proofs.LawLemmas.{zip_nil}
 use Rattle.x7_part.specs.Part.{FieldWidths, RowData, PartData, frame_words}
 use Rattle.x7_part.specs.Ranges.{IsPart}
 use Rattle.x7_part.specs.Address.{AreRows, AreWidths, no_row, row, row_address, row_low, column_low, address_width, far_width}
-use Rattle.x7_part.proofs.SlotLemmas.{slots_all}
+use Rattle.x7_part.proofs.SlotLemmas.{slots_all, among_slots}
 use Rattle.x7_part.proofs.WidthLemmas.{columns_fit, pitch_least, row_within}
 use Rattle.x7_part.specs.AddressOrder.{addresses_of, addresses, addresses_in, row_addresses, count_from}
 use Rattle.x7_words.proofs.ListLemmas.{all_append}
@@ -29,7 +29,6 @@ use Rattle.x7_memory.proofs.MapLemmas.{zeros_at, unnamed_none}
 use Rattle.x7_memory.proofs.PlanLemmas.{planned_here, planned_after}
 use Rattle.x7_pipeline.specs.Runs.{onto, written_frames, put_over}
 use Rattle.x7_pipeline.specs.RunsInWords.{pair_of}
-use Rattle.x7_pipeline.proofs.SlotLemmas.{addresses_among_slots}
 use Rattle.x7_flow.proofs.InsideLemmas.{contains_or_not}
 use Rattle.x7_flow.proofs.StreamLemmas.{frames_land}
 use Rattle.x7_effects.proofs.Frames.{joined, AreWide, frame_of, frames_at, row_of, row_frames, row_slots}
@@ -130,7 +129,7 @@ slots_land part plan is p same_width =
     let last : List ℕ = zero_frame part in
     let split : frames_at part plan (slots_in part) ≡ frames ++ last ∷ [] = ap (frames_at part plan) e.split ∙ frames_at_append part plan e.prefix (Pad ∷ []) in
     let wide : AreWide (frame_words part) (frames ++ last ∷ []) = rw split at (all_wide part plan (slots_in part) (plan_wide part plan p same_width)) in
-    let fars : addresses_in part ≡ addresses_among e.prefix = sym (addresses_among_slots part.field_widths part.rows) ∙ ap addresses_among e.split ∙ addresses_before_pad e.prefix in
+    let fars : addresses_in part ≡ addresses_among e.prefix = sym (among_slots part.field_widths part.rows) ∙ ap addresses_among e.split ∙ addresses_before_pad e.prefix in
     ap (λ t. written_frames part first (onto (joined t) [])) split
     ∙ frames_land part first frames last (omega (arith, is.words)) wide
     ∙ ap (λ t. reverse (filter_map pair_of (zip t frames))) (slots_all part is ∙ e.split)

@@ -1,5 +1,6 @@
 -- What a planner writes after a history in which nothing stops the device, and which leaves startup as it is.
-use Rattle.std.proofs.Common.{◌≡◌, ◌==◌, ◌&&◌, ◌||◌, ◌+◌, ◌*◌, ◌%◌, ◌^◌, ◌≤◌, ℕ, Bool, true, false, if◌then◌else◌, None, List, [], ◌∷◌, ◌++◌, length, refl, sym, ap, ◌∙◌, arith}
+use Rattle.std.proofs.Common.{◌≡◌, ◌==◌, ◌||◌, ◌+◌, ◌*◌, ◌%◌, ◌^◌, ◌≤◌, ℕ, Bool, true, false, if◌then◌else◌, None, List, [], ◌∷◌, ◌++◌, length, refl, sym, ap, ◌∙◌, arith}
+use Rattle.std.proofs.lemmas.Bool.{and_right}
 use Rattle.std.specs.Option.{option_or}
 use Rattle.x7_packets.specs.History as access
 use Rattle.x7_packets.specs.History.{Access, History, command_held, entry, executes, last_word}
@@ -59,12 +60,8 @@ pub record IsQuiet (h : History) (access : Access) : Type 0 where
   pub shutdown : executes 11 h access ≡ false
   pub desync : executes 13 h access ≡ false
 
-and_none : (a b : Bool) → b ≡ false → (a && b) ≡ false
-and_none true b e = e
-and_none false b e = refl
-
 pub no_taking : (h : History) (access : Access) → is_pending h ≡ false → takes_shutdown h access ≡ false
-no_taking h access e = and_none (clears_check h access) (is_pending h) e
+no_taking h access e = and_right (clears_check h access) (is_pending h) e
 
 pub quiet_call : (h : History) (access : Access) → is_pending h ≡ false → IsQuiet h access → startup_call h access ≡ []
 quiet_call h access e q = rw (q.start, no_taking h access e, q.desync) refl

@@ -15,10 +15,11 @@ use Rattle.x7_part.specs.Slot.{addresses_among, slots_in, from_address, slots_fr
 use Rattle.x7_part.specs.declared.slot.Slot.{Slot}
 use Rattle.x7_part.specs.declared.slot.Slot.TheVariants.{Frame, Pad, End}
 use Rattle.x7_part.proofs.RowLemmas.{part_rises}
+use Rattle.x7_part.proofs.SlotLemmas.{among_slots}
 use Rattle.x7_memory.specs.Plan.{PlanRow, planned_addresses}
-use Rattle.x7_pipeline.specs.Runs.{frames_of, in_slots, written_frames, onto, without_newest}
+use Rattle.x7_pipeline.specs.Runs.{frames_of, in_slots, written_frames, onto}
 use Rattle.x7_pipeline.specs.Copies.{newest_of}
-use Rattle.x7_pipeline.proofs.SlotLemmas.{addresses_among_slots, slot_among}
+use Rattle.x7_pipeline.proofs.SlotLemmas.{slot_among}
 use Rattle.x7_planner.proofs.FewLemmas.{rises_in, rises_rest, by_rows}
 use Rattle.x7_effects.proofs.Frames.{joined, AreWide, row_frames}
 use Rattle.x7_planner.specs.FullStream.{zero_frame}
@@ -142,7 +143,7 @@ copies_land : (part : PartData) (words fars : List ℕ) → 0 < frame_words part
 unfolding written_frames in_slots
 copies_land part words fars some w =
     let one : frames_of (frame_words part) (onto words []) ≡ words ∷ [] = ap (λ t. frames_of (frame_words part) (onto t [])) (sym (append-nil words)) ∙ whole_cut part [] words some (w, tt) in
-    (ap (λ t. in_slots (slots_from part (get_or fars 0 0)) (without_newest t)) one, ap newest_of one)
+    (rw one refl, ap newest_of one)
 
 groups_land : (part : PartData) (all qs : List PlanRow) → 0 < frame_words part → AllByRecursion (λ row. length row.words ≡ frame_words part) qs → AllByRecursion (LandsAs part) (groups_led all qs)
 groups_land part all [] some w = tt
@@ -153,12 +154,12 @@ groups_land part all (r ∷ qs) some w = by_test (is_first_of_group all r) (grou
     by_test false ih = ih
 
 here_of : (part : PartData) (rows : List PlanRow) → All (λ row. Contains (addresses_in part) row.far) rows → AreHere part rows
-here_of part rows a = rw (addresses_among_slots part.field_widths part.rows) (by_rows (λ row. Contains (addresses_in part) row.far) rows a)
+here_of part rows a = rw (among_slots part.field_widths part.rows) (by_rows (λ row. Contains (addresses_in part) row.far) rows a)
 
 -- the runs of a plan's other rows stand at slots that follow one another
 pub plan_placed : (part : PartData) (rows : List PlanRow) → IsPart part → All (λ row. Contains (addresses_in part) row.far) rows → AllByRecursion (IsPlaced part) (runs_of part (rows_not_shared rows rows))
 plan_placed part rows is h =
-    let rises : Rises 0 (addresses_among (slots_in part)) = rw (addresses_among_slots part.field_widths part.rows) (part_rises part.field_widths part.rows is.field_widths is.rows) in
+    let rises : Rises 0 (addresses_among (slots_in part)) = rw (among_slots part.field_widths part.rows) (part_rises part.field_widths part.rows is.field_widths is.rows) in
     runs_placed part (rows_not_shared rows rows) rises (not_shared_all (λ row. Contains (addresses_among (slots_in part)) row.far) rows rows (here_of part rows h))
 
 pub sections_land : (part : PartData) (rows : List PlanRow) → IsPart part → All (λ row. length row.words ≡ frame_words part) rows → All (λ row. Contains (addresses_in part) row.far) rows → AllByRecursion (LandsAs part) (sections_of part rows)

@@ -1,5 +1,6 @@
 -- Lemmas on specs/Rest: a device at rest stays so over bytes without a sync word.
 use Rattle.std.proofs.Common.{◌≡◌, ◌==◌, ◌&&◌, ◌+◌, ◌<◌, ◌≤◌, ◌⊎◌, inl, inr, ℕ, Bool, true, false, not, Option, None, List, [], ◌++◌, length, length-append, refl, ap, sym, subst, ◌∙◌, append_assoc, arith}
+use Rattle.std.proofs.lemmas.Bool.{and_left}
 use Rattle.std.specs.List.{flat_map}
 use Rattle.std.specs.Option.{option_or}
 use Rattle.x7_words.specs.Word.{AreBytes}
@@ -25,7 +26,6 @@ use Rattle.x7_regs.specs.Control.{forbids_reading}
 use Rattle.x7_engine.specs.Stop.{Stopped, first_stop_of_history, stop_at_firing}
 use Rattle.x7_engine.specs.Watching.{first_firing, timer_held, turns_on}
 use Rattle.x7_engine.proofs.ClockLemmas.{last_of, none_fires, phase_rises, startup_more, stop_more_bytes}
-use Rattle.x7_engine.proofs.SequenceLemmas.{and_false}
 use Rattle.x7_engine.proofs.TurnLemmas.{newest_within}
 
 -- ---- the reading and the history
@@ -63,7 +63,7 @@ never_on true true false off e = e
 pub never_fires : (part : PartData) (kept : Kept) (h : History) (n k : ℕ) → (turns_on (timer_held kept h) && not (is_fallback kept.kind)) ≡ false → first_firing part kept h n k ≡ None
 never_fires part kept h n k off =
     none_fires part kept h n k (λ i m.
-    and_false (is_on (is_fallback kept.kind) (timer_held kept h) (has_ended part h (n + i + 1))) _
+    and_left (is_on (is_fallback kept.kind) (timer_held kept h) (has_ended part h (n + i + 1))) _
     (never_on (cfg_mon_of (timer_held kept h) == 1) (not (timer_value_of (timer_held kept h) == 0)) (has_ended part h (n + i + 1)) (is_fallback kept.kind) off))
 
 pub stop_on : (part : PartData) (kept : Kept) (h : History) (n k : ℕ) → newest_place h ≤ n → (turns_on (timer_held kept h) && not (is_fallback kept.kind)) ≡ false → first_stop_of_history part kept h n ≡ None → first_stop_of_history part kept h (n + k) ≡ None

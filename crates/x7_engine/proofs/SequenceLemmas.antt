@@ -1,6 +1,7 @@
 -- Lemmas on specs/Sequence: what a device keeps of startup says the same as the guide's words.
 use Rattle.std.proofs.Common.{◌≡◌, ◌==◌, ◌&&◌, ◌||◌, inl, inr, ◌↔◌, IsTrue, ℕ, Bool, true, false, if◌then◌else◌, Option, None, Some, [], ◌∷◌, refl, arith}
 use Rattle.std.proofs.lemmas.Bool.Decides.{nat_tests}
+use Rattle.std.proofs.lemmas.Bool.{and_left, or_from}
 use Rattle.x7_packets.specs.History.{Access, Bad, History, Read, Write, command_held, executed_by, executes, is_command}
 use Rattle.x7_crc.specs.RunningCheck.{running_check}
 use Rattle.x7_engine.specs.Registers.{has_ghigh, clears_check, is_pending, takes_shutdown}
@@ -8,14 +9,6 @@ use Rattle.x7_engine.specs.Sequence.{Executes, HasGhigh, IsPending, lowers_ghigh
 use Rattle.x7_engine.proofs.SinceLemmas.{since_here, since_more, since_none, since_parts}
 
 -- ---- an access executes one command, and a write to CRC none
-
-or_false : (a b : Bool) → a ≡ false → b ≡ false → (a || b) ≡ false
-or_false true b e f = absurd (cc)
-or_false false b e f = f
-
-pub and_false : (a b : Bool) → a ≡ false → (a && b) ≡ false
-and_false true b e = absurd (cc)
-and_false false b e = refl
 
 pub other_command : (o : Option ℕ) (c d : ℕ) → (c == d) ≡ false → is_command c o ≡ true → is_command d o ≡ false
 other_command None c d n e = absurd (cc)
@@ -27,7 +20,7 @@ no_clearance h (Bad w) c d e = absurd (cc)
 no_clearance h (Write register w) c d e = by (register == 0) refl
   where
     by : (b : Bool) → (register == 0) ≡ b → clears_check h (Write register w) ≡ false
-    by false z = or_false (executes 7 h (Write register w)) (register == 0 && w == running_check h) (other_command (executed_by (command_held h) (Write register w)) c 7 d e) (and_false (register == 0) (w == running_check h) z)
+    by false z = or_from (executes 7 h (Write register w)) (register == 0 && w == running_check h) (other_command (executed_by (command_held h) (Write register w)) c 7 d e) (and_left (register == 0) (w == running_check h) z)
     by true z =
         let cmd : (register == 4) ≡ false = grind (arith, nat_tests, z) in
         let far : (register == 1) ≡ false = grind (arith, nat_tests, z) in
@@ -35,7 +28,7 @@ no_clearance h (Write register w) c d e = by (register == 0) refl
         absurd (cc)
 
 pub no_taking : (h : History) (access : Access) (c : ℕ) → (c == 7) ≡ false → executes c h access ≡ true → takes_shutdown h access ≡ false
-no_taking h access c d e = and_false (clears_check h access) (is_pending h) (no_clearance h access c d e)
+no_taking h access c d e = and_left (clears_check h access) (is_pending h) (no_clearance h access c d e)
 
 -- ---- a pending shutdown
 

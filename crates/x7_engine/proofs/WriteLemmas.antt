@@ -42,7 +42,7 @@ written_one c n bytes rest register w cutter one =
     let word : List ℕ = bytes_of_word w in
     let first : AfterRun c one.middle (bytes ++ head) cutter.sessions cutter.place (run.Head (type1_write_header register 1) (step.Open register 1)) = one.head bytes cutter.sessions cutter.place cutter.stands in
     let next : AfterRun one.middle n ((bytes ++ head) ++ word) first.new_sessions first.new_place (run.Word register w) = one.word (bytes ++ head) first.new_sessions first.new_place first.stands in
-    let joined : (bytes ++ head) ++ word ≡ bytes ++ take 8 rest = append_assoc bytes head word ∙ ap (λ (t : List ℕ). bytes ++ t) (sym one.bytes) in
+    let joined : (bytes ++ head) ++ word ≡ bytes ++ take 8 rest = append_assoc bytes head word ∙ ap (λ (t : List ℕ). bytes ++ t) (sym one.begins.are) in
     let quiet : history_of (bytes ++ head) ≡ history_of bytes =
     cut_enters c one.middle bytes head cutter.sessions cutter.place (run.Head (type1_write_header register 1) (step.Open register 1)) (next_word cutter.sessions cutter.place) cutter.stands first (next_word_is bytes cutter.sessions cutter.place cutter.stands.reading) in
     let from : ℕ = next_word first.new_sessions first.new_place in
@@ -80,7 +80,7 @@ write_taken part kept wrapped d e bytes rest register w s going begun limit one 
     let before : RegistersStandFor part kept d.registers h (length bytes) = subst (λ (x : History). RegistersStandFor part kept d.registers x (length bytes)) old s.registers_are in
     let all : List ℕ = bytes ++ take 8 rest in
     let m : ℕ = length bytes + 8 in
-    let eight : length (take 8 rest) ≡ 8 = length-take-le 8 rest one.whole in
+    let eight : length (take 8 rest) ≡ 8 = length-take-le 8 rest one.begins.whole in
     let count : length all ≡ m = omega (arith, length-append bytes (take 8 rest), eight) in
     let is : Written e.cutter bytes (take 8 rest) register w = written_one d.cutter e.cutter bytes rest register w (s.cutter_is going) one in
     let longer : History = entry (Write register w) m ∷ h in

@@ -12,6 +12,8 @@ use Rattle.x7_part.specs.Part.{PartData, frame_words}
 use Rattle.x7_part.specs.Slot.{addresses_among, from_address, slots_in, slots_from}
 use Rattle.x7_part.specs.declared.slot.Slot.{Slot}
 use Rattle.x7_part.specs.declared.slot.Slot.TheVariants.{Frame, Pad, End}
+use Rattle.x7_part.proofs.SlotLemmas.{among_slots}
+use Rattle.x7_part.proofs.RowLemmas.{rises_lower}
 use Rattle.x7_memory.specs.FrameMap.{HaveSameFrames, override}
 use Rattle.x7_memory.specs.Plan.{PlanRow, planned, planned_addresses}
 use Rattle.x7_memory.proofs.MapLemmas.{override_same, planned_joined}
@@ -20,7 +22,6 @@ use Rattle.x7_pipeline.specs.RunsInWords.{pair_of}
 use Rattle.x7_pipeline.specs.Runs.{frames_of, onto}
 use Rattle.x7_pipeline.specs.Copies.{newest_of}
 use Rattle.x7_pipeline.specs.FarAsRead.{loaded_base}
-use Rattle.x7_pipeline.proofs.SlotLemmas.{addresses_among_slots}
 use Rattle.x7_flow.specs.Settings.{settings_of, takes_copies, takes_frames}
 use Rattle.x7_flow.specs.Asking.{CopiesSource, NothingAsked}
 use Rattle.x7_flow.specs.HistoryFlow.{Flow, flow_by, flow_of, run_of, source_of}
@@ -32,10 +33,6 @@ use Rattle.x7_flow.proofs.StreamLemmas.{whole_cut, write_puts}
 
 -- ---- addresses that rise
 
-lower : (a b : ℕ) (ys : List ℕ) → a ≤ b → Rises b ys → Rises a ys
-lower a b [] h r = risen a
-lower a b (y ∷ ys) h (rise least x xs l r) = rise a y ys (omega arith) r
-
 after_first : (least x : ℕ) (xs : List ℕ) → Rises least (x ∷ xs) → (least ≤ x) × Rises (x + 1) xs
 after_first least x xs (rise a y ys l r) = (l, r)
 
@@ -44,7 +41,7 @@ rises_from least base [] r = r
 rises_from least base (Frame a ∷ places) r =
     elim (cases_eq a base) [
       | inl y ↦ rw (eq-eqb a base y) r
-      | inr n ↦ rw (ne_eqb a base n) (let p = after_first least a (addresses_among places) r in rises_from least base places (lower least (a + 1) (addresses_among places) (let l = p.0 in omega arith) p.1))
+      | inr n ↦ rw (ne_eqb a base n) (let p = after_first least a (addresses_among places) r in rises_from least base places (rises_lower least (a + 1) (addresses_among places) (let l = p.0 in omega arith) p.1))
     ]
 rises_from least base (Pad ∷ places) r = rises_from least base places r
 rises_from least base (End ∷ places) r = rises_from least base places r
@@ -95,7 +92,7 @@ pub write_plans : (part : PartData) (earlier : History) (w place n : ℕ) (frame
 write_plans part earlier w place n frames last some rises t all far =
     let rows : List PlanRow = filter_map pair_of (zip (slots_from part (loaded_base part w)) frames) in
     let up : Rises 0 (planned_addresses rows) =
-    rows_rise 0 (slots_from part (loaded_base part w)) frames (rises_from 0 (loaded_base part w) (slots_in part) (rw (addresses_among_slots part.field_widths part.rows) rises)) in
+    rows_rise 0 (slots_from part (loaded_base part w)) frames (rises_from 0 (loaded_base part w) (slots_in part) (rw (among_slots part.field_widths part.rows) rises)) in
     write_puts part earlier w place n frames last some t all far
     ∙ override_same (memory_of part earlier) (memory_of part earlier) (planned (reverse rows)) (planned rows) (λ a. refl) (planned_reversed 0 rows up) far
 

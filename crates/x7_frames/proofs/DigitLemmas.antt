@@ -13,20 +13,6 @@ use Rattle.x7_words.specs.Characters.{number_of_digit}
 use Rattle.x7_text.specs.EitherCase.{byte_of, byte_before, bytes_of_pairs}
 use Rattle.x7_text.proofs.CaseLemmas.{pairs_back}
 
--- two digits a byte
-pub pairs_long : (ds bytes : List ℕ) → bytes_of_pairs ds ≡ Some bytes → length ds ≡ 2 * length bytes
-pairs_long [] bytes e = let same : [] ≡ bytes = same_Some [] bytes e in ap (λ (t : List ℕ). 2 * length t) same
-pairs_long (a ∷ []) bytes e = absurd (none-some bytes e)
-pairs_long (a ∷ b ∷ cs) bytes e = by (λ xs f. pairs_long cs xs f) (byte_of (number_of_digit a) (number_of_digit b)) (bytes_of_pairs cs) refl e
-  where
-    by : ((xs : List ℕ) → bytes_of_pairs cs ≡ Some xs → length cs ≡ 2 * length xs) → (o : Option ℕ) (more : Option (List ℕ)) → bytes_of_pairs cs ≡ more → byte_before o more ≡ Some bytes → length (a ∷ b ∷ cs) ≡ 2 * length bytes
-    by back None more f g = absurd (none-some bytes g)
-    by back (Some x) None f g = absurd (none-some bytes g)
-    by back (Some x) (Some xs) f g =
-        let same : x ∷ xs ≡ bytes = same_Some (x ∷ xs) bytes g in
-        let rest = back xs f in
-        (let l : length (a ∷ b ∷ cs) ≡ 2 * length (x ∷ xs) = omega (arith, rest) in l) ∙ ap (λ (t : List ℕ). 2 * length t) same
-
 -- ---- digits in two parts
 
 -- bytes before others that may be none
@@ -99,3 +85,9 @@ block_read ds old new read blocks k d e h n at fits was now =
     let prefix : take (64 * (k + 1)) ds ≡ take (64 * k) ds ++ take 64 (drop (64 * k) ds) = ap (λ (j : ℕ). take j ds) (let j : 64 * (k + 1) ≡ 64 * k + 64 = omega arith in j) ∙ take-add (64 * k) 64 ds in
     ap bytes_of_pairs (prefix ∙ ap (λ (t : List ℕ). take (64 * k) ds ++ t) here) ∙ pairs_on (take (64 * k) ds) (flat_map hex_byte read) (take (32 * k) old) was ∙ ap (after (take (32 * k) old)) (pairs_back read fits)
     ∙ ap Some (sym now ∙ ap (λ (j : ℕ). take j new) (let j : 32 * k + 32 ≡ 32 * (k + 1) = omega arith in j))
+
+-- a block that is none of upper-case digits, and the digits from it on
+pub no_block_read : (ds : List ℕ) (blocks : List (List ℕ)) (k n : ℕ) → blocks ≡ first_chunks 64 (length ds / 64) ds → k < length blocks → length blocks ≡ length ds / 64 → n ≡ 64 * k
+    → ((bs : List ℕ) → AreBytes bs → get_or blocks k [] ≡ flat_map hex_byte bs → ⊥) → (bs : List ℕ) → AreBytes bs → take 64 (drop n ds) ≡ flat_map hex_byte bs → ⊥
+no_block_read ds blocks k n e h long at none bs fits is =
+    none bs fits (ap (λ (t : List (List ℕ)). get_or t k []) e ∙ chunk_at 64 (length ds / 64) k ds [] (omega (arith, h, long)) ∙ ap (λ (j : ℕ). take 64 (drop j ds)) (sym at) ∙ is)

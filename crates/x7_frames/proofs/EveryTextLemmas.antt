@@ -2,16 +2,16 @@
 use Rattle.std.proofs.Common.{◌≡◌, ◌⊎◌, inl, inr, ℕ, zero, suc, ◌+◌, ◌*◌, ◌^◌, ◌<◌, Bool, true, false, List, [], ◌∷◌, ◌++◌, length, take, drop, Option, Some, None, refl, sym, subst, ap, ap₂, ◌∙◌, arith, append_assoc, append-nil}
 use Rattle.std.specs.Prelude.{All, Contains, Ok, Err}
 use Rattle.std.proofs.lemmas.Bool.{cases_order}
-use Rattle.std.proofs.lemmas.Bool.Decides.{eqb_tells, nat_tests}
+use Rattle.std.proofs.lemmas.Bool.Decides.{eqb_tells}
 use Rattle.std.proofs.lemmas.List.Elements.{All-cons, All-nil}
 use Rattle.std.proofs.lemmas.Option.{none-some, same_Some}
-use Rattle.x7_words.specs.Word.{AreBytes, AreWords, words_of_bytes}
+use Rattle.x7_words.specs.Word.{AreWords, words_of_bytes}
 use Rattle.x7_words.proofs.WordLemmas.{words_fit}
 use Rattle.x7_text.specs.DigitValue.{word_value}
-use Rattle.x7_words.specs.Characters.{number_of_digit}
-use Rattle.x7_text.specs.EitherCase.{byte_of, byte_before, bytes_of_pairs}
+use Rattle.x7_text.specs.EitherCase.{bytes_of_pairs}
 use Rattle.x7_text.specs.Lines.{means_nothing, split}
 use Rattle.x7_text.proofs.ValueLemmas.{word_back}
+use Rattle.x7_text.proofs.CaseLemmas.{pairs_fit}
 use Rattle.x7_part.specs.AddressOrder.{addresses_in}
 use Rattle.x7_part.specs.Part.{PartData, frame_words}
 use Rattle.x7_memory.specs.Plan.{IsPlanRow, PlanRow, planned_addresses}
@@ -122,27 +122,6 @@ line_or part rows n line = by (means_nothing line) refl
     by false e = by_frame e (frame_or (frame_words part) line)
 
 -- ---- the plan of good lines
-
-digit_low : (c x : ℕ) → number_of_digit c ≡ Some x → x < 16
-digit_low c x e = grind (arith, nat_tests, e)
-
-byte_fits : (a b x : ℕ) → byte_of (number_of_digit a) (number_of_digit b) ≡ Some x → x < 256
-byte_fits a b x e = by (number_of_digit a) (number_of_digit b) refl refl e
-  where
-    by : (h l : Option ℕ) → number_of_digit a ≡ h → number_of_digit b ≡ l → byte_of h l ≡ Some x → x < 256
-    by None l p q f = absurd (none-some x f)
-    by (Some h) None p q f = absurd (none-some x f)
-    by (Some h) (Some l) p q f = omega (arith, digit_low a h p, digit_low b l q, same_Some (16 * h + l) x f)
-
-pairs_fit : (ds bytes : List ℕ) → bytes_of_pairs ds ≡ Some bytes → AreBytes bytes
-pairs_fit [] bytes e = subst AreBytes (same_Some [] bytes e) tt
-pairs_fit (a ∷ []) bytes e = absurd (none-some bytes e)
-pairs_fit (a ∷ b ∷ cs) bytes e = by (λ xs f. pairs_fit cs xs f) (byte_of (number_of_digit a) (number_of_digit b)) (bytes_of_pairs cs) refl refl e
-  where
-    by : ((xs : List ℕ) → bytes_of_pairs cs ≡ Some xs → AreBytes xs) → (o : Option ℕ) (more : Option (List ℕ)) → byte_of (number_of_digit a) (number_of_digit b) ≡ o → bytes_of_pairs cs ≡ more → byte_before o more ≡ Some bytes → AreBytes bytes
-    by back None more p f g = absurd (none-some bytes g)
-    by back (Some x) None p f g = absurd (none-some bytes g)
-    by back (Some x) (Some xs) p f g = subst AreBytes (same_Some (x ∷ xs) bytes g) (byte_fits a b x p, back xs f)
 
 row_fits : (width : ℕ) (line : List ℕ) (row : PlanRow) → IsFrameLine width line row → IsPlanRow row
 row_fits width line row is = record { far = is.far; words = subst AreWords (sym is.words) (words_fit is.bytes (pairs_fit is.digits is.bytes is.read)) }

@@ -10,11 +10,6 @@ use Rattle.x7_frames.specs.declared.fault.FramesFault.{FramesFault}
 use Rattle.x7_frames.specs.declared.fault.FramesFault.TheVariants as fault
 use Rattle.x7_frames.proofs.GoodLemmas.{fault_of, good_next}
 
--- what holds of each error holds of that of a result
-pub all_err : {A E : Type 0} (r : Result A E) (P : E → Type 0) → ((e : E) → P e) → IfErr r P
-all_err (Ok a) P f = tt
-all_err (Err e) P f = f e
-
 -- a line after good ones is taken, or is at fault
 module _ (part : PartData) (a : RowsRead) (lines : List (List ℕ)) (line : List ℕ) (n : ℕ) (m : n ≡ length lines + 1) (t : HasRows part a lines) where
   pub line_good : (b : RowsRead) → b.part ≡ a.part → TakesLine a.part line a.rows b.rows → HasRows part b (lines ++ line ∷ [])

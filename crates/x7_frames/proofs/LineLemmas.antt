@@ -3,7 +3,7 @@ use Rattle.std.proofs.Common.{◌≡◌, ℕ, ◌*◌, ◌^◌, ◌<◌, List, �
 use Rattle.x7_words.proofs.WordLemmas.{length_words}
 use Rattle.x7_memory.specs.Plan.{PlanRow}
 use Rattle.x7_frames.specs.FramesText.{frame_head, IsFrameLine}
-use Rattle.x7_frames.proofs.DigitLemmas.{pairs_long}
+use Rattle.x7_text.proofs.CaseLemmas.{pairs_long}
 
 -- how many digits a frame's line has
 digits_long : (width : ℕ) (line : List ℕ) (row : PlanRow) (is : IsFrameLine width line row) → length is.digits ≡ 2 * (4 * width)

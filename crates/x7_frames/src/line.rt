@@ -1,5 +1,8 @@
 //! One line of a frames text.
-ghost use Rattle.std.specs.Prelude.{◌≡◌, ◌+◌, ◌*◌, ◌<◌, ◌≤◌, ◌++◌, length, take, Some, None, MatchBool, MatchOption, vec_capacity};
+ghost use Rattle.std.specs.Prelude.{◌≡◌, ◌≢◌, ℕ, List, ◌+◌, ◌*◌, ◌<◌, ◌≤◌, ◌++◌, length, take, drop, Some, None, MatchBool, MatchOption, vec_capacity};
+ghost use Rattle.std.specs.List.{flat_map};
+ghost use Rattle.x7_words.specs.Word.{AreBytes};
+ghost use Rattle.x7_text.specs.Digits.{hex_byte};
 ghost use Rattle.x7_text.specs.EitherCase.{bytes_of_pairs};
 ghost use Rattle.x7_memory.specs.Plan.{PlanRow};
 ghost use Rattle.x7_part.specs.Limits.{most_frame_words};
@@ -54,11 +57,12 @@ fn write_block(bytes: &mut [u8], at: usize, block: &[u8])
     bytes[at..at + 32].copy_from_slice(block);
 }
 
-/// Reads blocks of 64 upper-case digits that stand first, 32 bytes each; it may stop before one that could be read. The
-/// answer is the number of bytes read.
+/// Reads the blocks of 64 upper-case digits that stand first, 32 bytes each, up to the first 64 that are none. The answer
+/// is the number of bytes read.
 fn read_blocks(bytes: &mut [u8], digits: &[u8]) -> usize
     requires { length digits.now ≡ 2 * length bytes.old }
     ensures value { bytes_of_pairs (take (2 * result) digits.now) ≡ Some (take result bytes.new) }
+    ensures no_block_follows { result + 32 ≤ length bytes.old → (bs : List ℕ) → AreBytes bs → take 64 (drop (2 * result) digits.now) ≢ flat_map hex_byte bs }
     ensures within { result ≤ length bytes.old }
     ensures length { length bytes.new ≡ length bytes.old }
 {

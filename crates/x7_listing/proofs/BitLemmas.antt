@@ -1,9 +1,10 @@
 -- A header's line leads back to what the header holds, and is no other line.
-use Rattle.std.proofs.Common.{◌≡◌, ◌==◌, ◌&&◌, ℕ, ◌/◌, ◌%◌, ◌^◌, if◌then◌else◌, Bool, true, false, List, [], ◌∷◌, ◌++◌, ◌<◌, ◌≤◌, ◌+◌, length, drop, codes, Option, None, Some, MatchOption, Result, Ok, Err, IfOk, subst, append_assoc, length-append, refl, ap, ap₂, sym, ◌∙◌, arith}
+use Rattle.std.proofs.Common.{◌≡◌, ◌==◌, ℕ, ◌/◌, ◌%◌, ◌^◌, if◌then◌else◌, Bool, true, false, List, [], ◌∷◌, ◌++◌, ◌<◌, ◌≤◌, ◌+◌, length, drop, codes, Option, None, Some, MatchOption, Result, Ok, Err, IfOk, subst, append_assoc, length-append, refl, ap, ap₂, sym, ◌∙◌, arith}
 use Rattle.std.proofs.lemmas.Grind.{common_steps}
 use Rattle.std.specs.Fmt.{decimal}
 use Rattle.std.specs.List.{flat_map}
 use Rattle.std.specs.Str.{bytes_eq}
+use Rattle.std.proofs.Math.Bool.{and-false}
 use Rattle.x7_words.specs.Word.{AreBytes, bytes_of_word}
 use Rattle.x7_header.specs.Header.{HeaderContents, field_bytes, FitHeaderFields, header_bytes, FieldKind, longest_header}
 use Rattle.x7_text.specs.Digits.{hex_byte, hex_digit}
@@ -18,13 +19,9 @@ use Rattle.x7_text.proofs.WholeLineLemmas.{length_hex_bytes}
 abbrev field_guess : List ℕ → List ℕ
 field_guess t = if bytes_eq t (45 ∷ []) then [] else bytes_value t
 
-and_false : (b : Bool) → (b && false) ≡ false
-and_false true = refl
-and_false false = refl
-
 field_back : (bs : List ℕ) → AreBytes bs → field_guess (field_text bs) ≡ bs
 field_back [] h = refl
-field_back (x ∷ xs) h = ap (λ (b : Bool). if b then [] else bytes_value (flat_map hex_byte (x ∷ xs))) (and_false (hex_digit (x / 2 ^ 4 % 16) == 45)) ∙ bytes_back (x ∷ xs) h
+field_back (x ∷ xs) h = ap (λ (b : Bool). if b then [] else bytes_value (flat_map hex_byte (x ∷ xs))) (and-false (hex_digit (x / 2 ^ 4 % 16) == 45)) ∙ bytes_back (x ∷ xs) h
 
 more_free : (x : ℕ) (xs : List ℕ) → (x == 32) ≡ false → has_no_space xs ≡ true → has_no_space (x ∷ xs) ≡ true
 more_free x xs e h = rw e h

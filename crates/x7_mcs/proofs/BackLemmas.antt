@@ -1,7 +1,7 @@
 -- The text of bytes gives them back.
-use Rattle.std.proofs.Common.{◌≡◌, ◌==◌, ℕ, zero, suc, ◌+◌, ◌-◌, ◌*◌, ◌/◌, ◌%◌, ◌^◌, ◌<◌, ◌≤◌, ◌||◌, nat_lt, max, Bool, true, false, if◌then◌else◌, List, [], ◌∷◌, ◌++◌, None, Some, Ok, length, get_or, codes, refl, ap, ap₂, sym, subst, ◌∙◌, ◌⊎◌, inl, inr, arith, append_assoc, length-append}
+use Rattle.std.proofs.Common.{◌≡◌, ◌==◌, ℕ, zero, suc, ◌+◌, ◌-◌, ◌*◌, ◌/◌, ◌%◌, ◌^◌, ◌<◌, ◌≤◌, ◌||◌, nat_lt, max, Bool, true, false, if◌then◌else◌, List, [], ◌∷◌, ◌++◌, None, Some, Ok, length, get_or, codes, refl, ap, ap₂, sym, subst, ◌∙◌, ◌⊎◌, inl, inr, arith, append_assoc, length-append, append-nil}
 use Rattle.std.proofs.lemmas.Grind.{common_steps}
-use Rattle.std.proofs.lemmas.Bool.{cases_lt, cases_eq}
+use Rattle.std.proofs.lemmas.Bool.{cases_lt, cases_eq, le-ltb}
 use Rattle.std.proofs.lemmas.List.{get_or_append_left, get_or-append_right, get_or_past}
 use Rattle.std.proofs.lemmas.List.FromFn.{fill_by_all}
 use Rattle.std.specs.List.{flat_map}
@@ -23,12 +23,9 @@ pub record GiveJust (xs : List DataRecord) (done : List ℕ) : Type 0 where
   pub at : (p : ℕ) → byte_at xs p ≡ get_or done p 255
   pub marked : (p : ℕ) → covered xs p ≡ nat_lt p (length done)
 
-not_less : (a b : ℕ) → b ≤ a → nat_lt a b ≡ false
-not_less a b h = grind (arith, common_steps)
-
 no_overlap : (xs : List DataRecord) (done : List ℕ) → GiveJust xs done → (q n : ℕ) → length done ≤ q → overlap xs q n ≡ None
 no_overlap xs done f q zero h = refl
-no_overlap xs done f q (suc n) h = ap (λ (b : Bool). if b then Some q else overlap xs (q + 1) n) (f.marked q ∙ not_less q (length done) h) ∙ no_overlap xs done f (q + 1) n (omega arith)
+no_overlap xs done f q (suc n) h = ap (λ (b : Bool). if b then Some q else overlap xs (q + 1) n) (f.marked q ∙ le-ltb q (length done) h) ∙ no_overlap xs done f (q + 1) n (omega arith)
 
 pub free_piece : (n : ℕ) (xs : List DataRecord) (done r : List ℕ) (q : ℕ) → GiveJust xs done → q ≡ length done → 0 < length r → q + length r ≤ 2 ^ 27 → with_record n xs (record { place = q; bytes = r }) ≡ Ok (record { place = q; bytes = r } ∷ xs)
 free_piece n xs done r q f e h l = within n xs (record { place = q; bytes = r }) h l ∙ ap (λ o. unless_covered o (record { place = q; bytes = r } ∷ xs)) (no_overlap xs done f q (length r) (omega (arith, e)))
@@ -135,13 +132,9 @@ next_aligned : (place : ℕ) (r : List ℕ) (rs : List (List ℕ)) → AreFullBu
 next_aligned place r [] h a = tt
 next_aligned place r (s ∷ rs) h a = (omega (arith, h.0, a), subst (λ (k : ℕ). AtBase (place + k) (block_size * (place / block_size))) (sym h.0) (same_block place a))
 
-nil_after : (xs : List ℕ) → xs ≡ xs ++ []
-nil_after [] = refl
-nil_after (x ∷ xs) = ap (λ t. x ∷ t) (nil_after xs)
-
 pub rows_read : (rs : List (List ℕ)) (n base place : ℕ) (xs : List DataRecord) (done all : List ℕ) → GiveJust xs done → place ≡ length done → all ≡ done ++ flat_map (λ (r : List ℕ). r) rs → AreFullButLast 16 rs → Aligned place base rs
     → place + length (flat_map (λ (r : List ℕ). r) rs) ≤ 2 ^ 27 → AreBytes (flat_map (λ (r : List ℕ). r) rs) → Ends n base xs (row_lines place rs ++ codes ":00000001FF\n") all
-rows_read [] n base place xs done all f e is full a w b = subst (λ (t : List ℕ). Ends n base xs (codes ":00000001FF\n") t) (nil_after done ∙ sym is) (ends_end n base xs done f)
+rows_read [] n base place xs done all f e is full a w b = subst (λ (t : List ℕ). Ends n base xs (codes ":00000001FF\n") t) (sym (append-nil done) ∙ sym is) (ends_end n base xs done f)
 rows_read (r ∷ rs) n base place xs done all f e is full a w b =
     let long : length (r ++ flat_map (λ (s : List ℕ). s) rs) ≡ length r + length (flat_map (λ (s : List ℕ). s) rs) = length-append r (flat_map (λ (s : List ℕ). s) rs) in
     let size = first_size r rs full in
@@ -160,7 +153,7 @@ aligned_none [] = tt
 aligned_none (r ∷ rs) = (refl, inr refl)
 
 prefix_none : GiveJust [] []
-prefix_none = record { long = refl; at = λ p. refl; marked = λ p. sym (not_less p 0 (omega arith)) }
+prefix_none = record { long = refl; at = λ p. refl; marked = λ p. sym (le-ltb p 0 (omega arith)) }
 
 pub text_gives : (bytes : List ℕ) → AreBytes bytes → length bytes ≤ 2 ^ 27 → mcs_of (mcs_text bytes) ≡ Ok bytes
 text_gives bytes h l =

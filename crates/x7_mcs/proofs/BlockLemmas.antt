@@ -1,9 +1,9 @@
 -- The lines of a flash's rows, block by block.
-use Rattle.std.proofs.Common.{◌≡◌, ℕ, ◌+◌, ◌%◌, min, ◌<◌, ◌≤◌, List, [], ◌∷◌, ◌++◌, length, take, drop, Option, refl, ap, sym, ◌∙◌, ◌⊎◌, inl, inr, append-nil, append_assoc, arith, codes, subst}
+use Rattle.std.proofs.Common.{◌≡◌, ℕ, ◌+◌, ◌%◌, min, ◌<◌, ◌≤◌, List, [], ◌++◌, length, take, drop, Option, ap, sym, ◌∙◌, ◌⊎◌, inl, inr, append-nil, append_assoc, arith, codes, subst}
 use Rattle.std.specs.Prelude.{OnOk, Result}
 use Rattle.std.proofs.lemmas.Result.{on_ok_weaker}
 use Rattle.std.proofs.lemmas.Grind.{common_steps}
-use Rattle.std.proofs.lemmas.List.{take-append-drop}
+use Rattle.std.proofs.lemmas.List.{take-append-drop, nil_from_length}
 use Rattle.x7_mcs.specs.Record.{block_size}
 use Rattle.x7_words.specs.Sink.{appended, PutsPrefix}
 use Rattle.x7_words.proofs.SinkLemmas.{appended_appended, appended_nil, prefix_more}
@@ -37,15 +37,11 @@ begins_more place n k m e f h g = elim (by_min n k e) [
 nothing : (place : ℕ) (xs : List ℕ) → length xs ≡ 0 → row_lines place (rows 16 xs) ≡ []
 nothing place xs e = ap (row_lines place) (none_of_16 xs e)
 
-none_left : (xs : List ℕ) → length xs ≡ 0 → xs ≡ []
-none_left [] e = refl
-none_left (x ∷ xs) e = absurd (omega arith)
-
 -- the lines of one block and of what is left
 in_two : (place : ℕ) (rest bytes more : List ℕ) → rest ≡ bytes ++ more → (length bytes % 16 ≡ 0) ⊎ (length more ≡ 0) → row_lines place (rows 16 rest) ≡ row_lines place (rows 16 bytes) ++ row_lines (place + length bytes) (rows 16 more)
 in_two place rest bytes more e (inl w) = ap (λ t. row_lines place (rows 16 t)) e ∙ rows_in_parts place bytes more w
 in_two place rest bytes more e (inr z) =
-    ap (λ t. row_lines place (rows 16 t)) (e ∙ ap (λ t. bytes ++ t) (none_left more z) ∙ append-nil bytes)
+    ap (λ t. row_lines place (rows 16 t)) (e ∙ ap (λ t. bytes ++ t) (nil_from_length more z) ∙ append-nil bytes)
     ∙ sym (append-nil (row_lines place (rows 16 bytes)))
     ∙ ap (λ t. row_lines place (rows 16 bytes) ++ t) (sym (nothing (place + length bytes) more z))
 

@@ -1,8 +1,9 @@
 -- Laws of what a flash text gives.
 use Rattle.std.proofs.Common.{◌≡◌, ℕ, zero, suc, ◌+◌, ◌-◌, ◌*◌, ◌/◌, ◌%◌, ◌^◌, ◌==◌, ◌&&◌, ◌||◌, nat_le, nat_lt, ◌<◌, ◌≤◌, Bool, true, false, not, if◌then◌else◌, List, [], ◌∷◌, ◌++◌, Option, None, Some, Result, Ok, Err, length, take, drop, get_or, refl, ap, ap₂, sym, subst, ◌∙◌, arith, append_assoc, length-append, length-drop}
 use Rattle.std.proofs.lemmas.Grind.{common_steps}
-use Rattle.std.proofs.lemmas.List.{take-append-le}
+use Rattle.std.proofs.lemmas.List.{take-append-le, nil_from_length}
 use Rattle.std.proofs.lemmas.List.FromFn.{get_or-map-range_with_len, length-map-range_with_len}
+use Rattle.std.proofs.lemmas.Bool.{or_left, or_parts, or_right}
 use Rattle.x7_text.specs.Row.{rows}
 use Rattle.x7_mcs.specs.Lines.{lines_of}
 use Rattle.x7_mcs.specs.Record.{block_size, record_address, record_count, record_data, sum_found, meaning_by_type, meaning_of, bytes_of_pairs, record_type, base_value, sum_wanted}
@@ -41,21 +42,9 @@ image_long xs = length-map-range_with_len (byte_at xs) 0 (extent xs)
 pub image_at : (xs : List DataRecord) (p : ℕ) → p < extent xs → get_or (records_image xs) p 255 ≡ byte_at xs p
 image_at xs p h = get_or-map-range_with_len (byte_at xs) 0 (extent xs) p p 255 h (omega arith)
 
-or_true : (a b : Bool) → b ≡ true → (a || b) ≡ true
-or_true true b e = refl
-or_true false b e = e
-
-or_false : (a b : Bool) → (a || b) ≡ false → (a ≡ false) × (b ≡ false)
-or_false true b e = absurd cc
-or_false false b e = (refl, e)
-
-left_true : (a b : Bool) → a ≡ true → (a || b) ≡ true
-left_true true b e = refl
-left_true false b e = absurd cc
-
 covered_there : (before after : List DataRecord) (x : DataRecord) (p : ℕ) → covers x p ≡ true → covered (before ++ x ∷ after) p ≡ true
-covered_there [] after x p c = left_true (covers x p) (covered after p) c
-covered_there (y ∷ ys) after x p c = or_true (covers y p) (covered (ys ++ x ∷ after) p) (covered_there ys after x p c)
+covered_there [] after x p c = or_left (covers x p) (covered after p) c
+covered_there (y ∷ ys) after x p c = or_right (covers y p) (covered (ys ++ x ∷ after) p) (covered_there ys after x p c)
 
 pub byte_there : (before after : List DataRecord) (x : DataRecord) (p : ℕ) → HaveNoOverlap (before ++ x ∷ after) → covers x p ≡ true → byte_at (before ++ x ∷ after) p ≡ get_or x.bytes (p - x.place) 255
 byte_there [] after x p a c = ap (λ (b : Bool). if b then get_or x.bytes (p - x.place) 255 else byte_at after p) c
@@ -67,7 +56,7 @@ byte_there (y ∷ ys) after x p a c = by (covers y p) refl (byte_there ys after 
 
 pub byte_free : (xs : List DataRecord) (p : ℕ) → covered xs p ≡ false → byte_at xs p ≡ 255
 byte_free [] p c = refl
-byte_free (x ∷ xs) p c = let b = or_false (covers x p) (covered xs p) c in ap (λ (d : Bool). if d then get_or x.bytes (p - x.place) 255 else byte_at xs p) b.0 ∙ byte_free xs p b.1
+byte_free (x ∷ xs) p c = let b = or_parts (covers x p) (covered xs p) c in ap (λ (d : Bool). if d then get_or x.bytes (p - x.place) 255 else byte_at xs p) b.0 ∙ byte_free xs p b.1
 
 -- ---- records are apart
 
@@ -132,10 +121,6 @@ records_apart text r e = apart_lines (lines_of text) 1 of_no_line r (apart_end (
 
 -- ---- rows in parts
 
-nil_of : (xs : List ℕ) → length xs ≡ 0 → xs ≡ []
-nil_of [] e = refl
-nil_of (x ∷ xs) e = absurd (omega (arith, e))
-
 drop_append : (n : ℕ) (xs ys : List ℕ) → n ≤ length xs → drop n (xs ++ ys) ≡ drop n xs ++ ys
 drop_append zero xs ys h = refl
 drop_append (suc n) [] ys h = absurd (omega arith)
@@ -143,7 +128,7 @@ drop_append (suc n) (x ∷ xs) ys h = drop_append n xs ys (omega arith)
 
 pub in_parts : (k place : ℕ) (xs ys : List ℕ) → length xs ≡ 16 * k → row_lines place (rows 16 (xs ++ ys)) ≡ row_lines place (rows 16 xs) ++ row_lines (place + length xs) (rows 16 ys)
 in_parts zero place xs ys e =
-    let none : xs ≡ [] = nil_of xs (omega (arith, e)) in
+    let none : xs ≡ [] = nil_from_length xs (omega (arith, e)) in
     let here : place ≡ place + length xs = omega (arith, e) in
     ap (λ (t : List ℕ). row_lines place (rows 16 (t ++ ys))) none ∙ ap (λ (p : ℕ). row_lines p (rows 16 ys)) here ∙ ap (λ (t : List ℕ). row_lines place (rows 16 t) ++ row_lines (place + length xs) (rows 16 ys)) (sym none)
 in_parts (suc k) place xs ys e =

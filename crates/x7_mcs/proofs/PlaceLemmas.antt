@@ -1,6 +1,6 @@
 -- Marked places, and one record more.
 use Rattle.std.proofs.Common.{◌≡◌, ℕ, suc, zero, ◌+◌, ◌*◌, ◌/◌, ◌%◌, ◌^◌, ◌&&◌, ◌||◌, ◌==◌, nat_le, nat_lt, ◌<◌, ◌≤◌, Bool, true, false, if◌then◌else◌, List, [], ◌∷◌, Option, None, Some, MatchOption, Err, length, get_or, set, refl, ap, ap₂, sym, subst, ◌∙◌, ◌⊎◌, inl, inr, arith, get_or-set_other, get_or-set_same}
-use Rattle.std.proofs.lemmas.Bool.{cases_eq, cases_lt}
+use Rattle.std.proofs.lemmas.Bool.{cases_eq, cases_lt, le-ltb}
 use Rattle.std.proofs.lemmas.Grind.{common_steps}
 use Rattle.std.proofs.lemmas.Nat.Bits.{bit_at_ones, bit_at_set_other, bit_at_set_same}
 use Rattle.std.specs.Int.{bit_at}
@@ -101,11 +101,8 @@ least_is_first xs bytes marks seen h e p n (Some q) f = sym (first_is_least xs b
 no_zero : (a : ℕ) → 0 < a → (a == 0) ≡ false
 no_zero a h = grind (arith, common_steps)
 
-not_less : (a b : ℕ) → b ≤ a → nat_lt a b ≡ false
-not_less a b h = grind (arith, common_steps)
-
 pub end_is : (x : DataRecord) → 0 < length x.bytes → record_end x ≡ x.place + length x.bytes
 end_is x h = ap (λ (b : Bool). if b then 0 else x.place + length x.bytes) (no_zero (length x.bytes) h)
 
 pub within : (n : ℕ) (xs : List DataRecord) (x : DataRecord) → 0 < length x.bytes → x.place + length x.bytes ≤ 2 ^ 27 → with_record n xs x ≡ unless_covered (overlap xs x.place (length x.bytes)) (x ∷ xs)
-within n xs x h l = ap (λ (b : Bool). if b then Err (fault.TooLarge n) else unless_covered (overlap xs x.place (length x.bytes)) (x ∷ xs)) (not_less (2 ^ 27) (record_end x) (omega (arith, l, end_is x h)))
+within n xs x h l = ap (λ (b : Bool). if b then Err (fault.TooLarge n) else unless_covered (overlap xs x.place (length x.bytes)) (x ∷ xs)) (le-ltb (2 ^ 27) (record_end x) (omega (arith, l, end_is x h)))

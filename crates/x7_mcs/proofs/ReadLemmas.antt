@@ -1,7 +1,8 @@
 -- Lines that were written are read.
-use Rattle.std.proofs.Common.{◌≡◌, ℕ, ◌+◌, ◌-◌, ◌*◌, ◌/◌, ◌%◌, ◌<◌, ◌≤◌, nat_le, Bool, true, false, if◌then◌else◌, List, [], ◌∷◌, ◌++◌, Option, Ok, Err, length, refl, ap, ap₂, ◌∙◌, arith, length-append}
-use Rattle.std.proofs.lemmas.Grind.{common_steps}
+use Rattle.std.proofs.Common.{◌≡◌, ℕ, ◌+◌, ◌-◌, ◌*◌, ◌/◌, ◌%◌, ◌<◌, ◌≤◌, Bool, false, if◌then◌else◌, List, [], ◌∷◌, ◌++◌, Option, Ok, Err, length, refl, ap, ap₂, ◌∙◌, arith, length-append}
+use Rattle.x7_text.proofs.CaseLemmas.{pairs_back}
 use Rattle.std.proofs.lemmas.List.{take_at}
+use Rattle.std.proofs.lemmas.Bool.{le-leb}
 use Rattle.x7_words.specs.Word.{AreBytes}
 use Rattle.x7_mcs.specs.Lines.{lines_of}
 use Rattle.x7_mcs.specs.Record.{block_size, meaning_of, sum_byte}
@@ -11,7 +12,7 @@ use Rattle.x7_mcs.specs.Flash.{mcs_reading}
 use Rattle.x7_mcs.specs.Text.{base_line, data_line, record_line}
 use Rattle.x7_mcs.specs.declared.fault.McsFault.TheVariants as fault
 use Rattle.x7_mcs.specs.declared.record.Meaning.TheVariants as meaning
-use Rattle.x7_mcs.proofs.RoundLemmas.{pairs_back, record_first, meaning_written}
+use Rattle.x7_mcs.proofs.RoundLemmas.{record_first, meaning_written}
 
 -- a record's line is read
 pub read_record : (n : ℕ) (g : FlashReading) (bs rest : List ℕ) → AreBytes (bs ++ sum_byte bs ∷ [])
@@ -39,9 +40,6 @@ no_more : (bs : List ℕ) (s : ℕ) → AreBytes bs → s < 256 → AreBytes (bs
 no_more [] s h k = (k, tt)
 no_more (b ∷ bs) s h k = (h.0, no_more bs s h.1 k)
 
-is_le : (a b : ℕ) → a ≤ b → nat_le a b ≡ true
-is_le a b h = grind (arith, common_steps)
-
 pub read_data : (n base a : ℕ) (xs : List DataRecord) (r rest : List ℕ) → AreBytes r → length r < 256 → a + length r ≤ block_size → a < block_size
     → after_lines n (mcs_reading base false xs) (lines_of (data_line a r ++ rest)) ≡ and_then (with_records (mcs_reading base false xs) (with_record n xs (record { place = base + a; bytes = r }))) (λ g. after_lines (n + 1) g (lines_of rest))
 read_data n base a xs r rest h small fits low =
@@ -55,7 +53,7 @@ read_data n base a xs r rest h small fits low =
     ∙ ap (λ (b : Bool). and_then
     (after_meaning n (mcs_reading base false xs) ((length r ∷ a / 256 ∷ a % 256 ∷ 0 ∷ r) ++ sum_byte (length r ∷ a / 256 ∷ a % 256 ∷ 0 ∷ r) ∷ []) (if b then Ok (meaning.Data (256 * (a / 256) + a % 256)) else Err (fault.Line n)))
     (λ g. after_lines (n + 1) g (lines_of rest)))
-    (is_le (256 * (a / 256) + a % 256 + length r) block_size (omega arith))
+    (le-leb (256 * (a / 256) + a % 256 + length r) block_size (omega arith))
     ∙ ap₂ (λ (d : ℕ) (t : List ℕ). and_then (with_records (mcs_reading base false xs) (with_record n xs (record { place = base + d; bytes = t }))) (λ g. after_lines (n + 1) g (lines_of rest)))
     (whole a) (take_at r (sum_byte (length r ∷ a / 256 ∷ a % 256 ∷ 0 ∷ r) ∷ []) (length r) refl)
 

@@ -1,27 +1,14 @@
 -- The text of bytes gives them back: its records.
-use Rattle.std.proofs.Common.{◌≡◌, ◌==◌, ℕ, zero, suc, ◌+◌, ◌-◌, ◌*◌, ◌/◌, ◌%◌, ◌^◌, ◌<◌, ◌≤◌, not, Bool, true, false, if◌then◌else◌, List, [], ◌∷◌, ◌++◌, Option, Some, Err, length, take, get_or, refl, ap, ap₂, sym, ◌∙◌, arith, append_assoc, length-append}
+use Rattle.std.proofs.Common.{◌≡◌, ◌==◌, ℕ, zero, suc, ◌+◌, ◌-◌, ◌/◌, ◌%◌, ◌^◌, ◌<◌, ◌≤◌, not, Bool, false, if◌then◌else◌, List, [], ◌∷◌, ◌++◌, Err, length, take, get_or, refl, ap, ap₂, sym, ◌∙◌, arith, append_assoc, length-append, eq-eqb}
 use Rattle.std.proofs.lemmas.Grind.{common_steps}
 use Rattle.std.proofs.lemmas.List.{get_or_at, take_at}
 use Rattle.std.specs.List.{flat_map}
-use Rattle.x7_words.specs.Word.{AreBytes}
 use Rattle.x7_text.specs.Digits.{hex_byte, hex_digit}
 use Rattle.x7_mcs.specs.Lines.{lines_of, on_first, split, without_return}
-use Rattle.x7_mcs.specs.Record.{byte_of, record_count, number_of_digit, sum_found, byte_before, meaning_by_type, meaning_of, bytes_of_pairs, sum_byte, sum_wanted}
+use Rattle.x7_mcs.specs.Record.{record_count, sum_found, meaning_by_type, meaning_of, sum_byte, sum_wanted}
 use Rattle.x7_mcs.specs.Text.{record_line}
 use Rattle.x7_mcs.specs.declared.fault.McsFault.TheVariants as fault
 use Rattle.x7_mcs.proofs.LineLemmas.{line_ends}
-
-pub digit_back : (n : ℕ) → n < 16 → number_of_digit (hex_digit n) ≡ Some n
-digit_back n h = grind (arith, common_steps)
-
-byte_whole : (b : ℕ) → b < 256 → 16 * (b / 2 ^ 4 % 16) + b % 16 ≡ b
-byte_whole b h = omega arith
-
-pub pairs_back : (bs : List ℕ) → AreBytes bs → bytes_of_pairs (flat_map hex_byte bs) ≡ Some bs
-pairs_back [] h = refl
-pairs_back (b ∷ bs) h =
-    ap₂ (λ (x : Option ℕ) (y : Option ℕ). byte_before (byte_of x y) (bytes_of_pairs (flat_map hex_byte bs))) (digit_back (b / 2 ^ 4 % 16) (omega arith)) (digit_back (b % 16) (omega arith))
-    ∙ ap₂ (λ (v : ℕ) (o : Option (List ℕ)). byte_before (Some v) o) (byte_whole b h.0) (pairs_back bs h.1)
 
 -- no character is a line end or a 0D
 abbrev pub Plain : List ℕ → Type 0
@@ -63,9 +50,6 @@ record_first bs rest =
     ∙ line_ends (58 ∷ (flat_map hex_byte (bs ++ sum_byte bs ∷ []) ++ 10 ∷ rest)) (58 ∷ flat_map hex_byte (bs ++ sum_byte bs ∷ [])) rest (split_plain (58 ∷ flat_map hex_byte (bs ++ sum_byte bs ∷ [])) rest p)
     ∙ ap (λ (t : List ℕ). t ∷ lines_of rest) (plain_stays 58 (flat_map hex_byte (bs ++ sum_byte bs ∷ [])) p)
 
-eq_true : (a b : ℕ) → a ≡ b → (a == b) ≡ true
-eq_true a b e = grind (arith, common_steps)
-
 -- the sum of a record that was written is the one that it wants
 sum_is : (bs : List ℕ) → sum_wanted (bs ++ sum_byte bs ∷ []) ≡ sum_found (bs ++ sum_byte bs ∷ [])
 sum_is bs =
@@ -77,4 +61,4 @@ pub meaning_written : (n : ℕ) (bs : List ℕ) → record_count (bs ++ sum_byte
 meaning_written n bs e =
     let all : List ℕ = bs ++ sum_byte bs ∷ [] in
     ap₂ (λ (b : Bool) (d : Bool). if not b then Err (fault.Line n) else if not d then Err (fault.Sum n (sum_wanted (bs ++ sum_byte bs ∷ [])) (sum_found (bs ++ sum_byte bs ∷ []))) else meaning_by_type n (bs ++ sum_byte bs ∷ []))
-    (eq_true _ _ e) (eq_true _ _ (sum_is bs))
+    (eq-eqb _ _ e) (eq-eqb _ _ (sum_is bs))

@@ -5,11 +5,10 @@ use Rattle.std.proofs.lemmas.List.{take_all}
 use Rattle.std.proofs.lemmas.List.Sums.{sum_by-cons}
 use Rattle.std.proofs.lemmas.Simd.{pick_l_whole}
 use lib.Lanes.{chunk, fold_l, pick_l}
-use Rattle.std.proofs.lemmas.Bool.Decides.{Decides-eqb}
-use Rattle.std.proofs.lemmas.Slice.Eq.{slice_eq-Decides}
 use Rattle.std.specs.Cmp.Lexicographic.{pointwise}
 use Rattle.std.specs.List.{flat_map, range_with_len, sum}
 use Rattle.x7_text.specs.Digits.{hex_byte}
+use Rattle.x7_text.proofs.DigitLemmas.{same_yes}
 use Rattle.x7_mcs.specs.Record.{sum_byte}
 use Rattle.x7_mcs.specs.Text.{data_line, record_line}
 
@@ -38,12 +37,9 @@ row_written address v content fields first second last l s f c d =
 pub whole_row : (row whole : List ℕ) → whole ≡ take 16 row → length row ≤ 16 → whole ≡ row
 whole_row row whole e h = e ∙ take_all 16 row h
 
--- two pieces compared
-pub same_piece : (a b : List ℕ) (r : Bool) → r ≡ pointwise eqb a b → r ≡ true → a ≡ b
-same_piece a b r e h = (slice_eq-Decides Decides-eqb a b (pointwise eqb a b) refl).0 (sym e ∙ h)
-
+-- two pieces that do not differ
 pub not_other : (a b : List ℕ) (r : Bool) → r ≡ not (pointwise eqb a b) → r ≡ false → a ≡ b
-not_other a b r e h = same_piece a b (pointwise eqb a b) refl (by (pointwise eqb a b) (sym e ∙ h))
+not_other a b r e h = same_yes a b (pointwise eqb a b) refl (by (pointwise eqb a b) (sym e ∙ h))
   where
     by : (b : Bool) → not b ≡ false → b ≡ true
     by true e = refl

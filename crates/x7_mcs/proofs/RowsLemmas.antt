@@ -1,29 +1,19 @@
 -- The first row of elements.
-use Rattle.std.proofs.Common.{◌≡◌, ℕ, suc, zero, ◌+◌, ◌*◌, ◌%◌, min, ◌<◌, ◌≤◌, ◌==◌, Bool, true, false, if◌then◌else◌, List, [], ◌∷◌, ◌++◌, length, take, drop, refl, ap, ap₂, sym, ◌∙◌, ◌⊎◌, inl, inr, append_assoc, arith, length-append}
+use Rattle.std.proofs.Common.{◌≡◌, ℕ, suc, zero, ◌+◌, ◌*◌, ◌%◌, min, ◌<◌, ◌≤◌, Bool, if◌then◌else◌, List, [], ◌∷◌, ◌++◌, length, take, drop, refl, ap, ap₂, sym, ◌∙◌, ◌⊎◌, inl, inr, append-nil, append_assoc, arith, length-append, eq-eqb, ne_eqb}
 use Rattle.std.proofs.lemmas.Grind.{common_steps}
 use Rattle.std.proofs.lemmas.List.{take_all, drop_all}
 use Rattle.x7_mcs.specs.Record.{block_size}
 use Rattle.x7_text.specs.Row.{rows, rows_from}
 use Rattle.x7_mcs.specs.Text.{block_start, data_line, row_lines}
 
-eq_true : (a b : ℕ) → a ≡ b → (a == b) ≡ true
-eq_true a b e = grind (arith, common_steps)
-
-eq_false : (a b : ℕ) → (a ≡ b → ⊥) → (a == b) ≡ false
-eq_false a b e = grind (arith, common_steps)
-
-nil_after : (xs : List ℕ) → xs ≡ xs ++ []
-nil_after [] = refl
-nil_after (x ∷ xs) = ap (λ t. x ∷ t) (nil_after xs)
-
 -- an open row and k more, of n in all
 first_row : (n k y : ℕ) (part xs : List ℕ) → length (y ∷ part) + k ≡ n → 0 < k → rows_from n (y ∷ part) xs ≡ ((y ∷ part) ++ take k xs) ∷ rows n (drop k xs)
 first_row n zero y part xs e h = absurd (omega arith)
-first_row n (suc k) y part [] e h = ap (λ t. (y ∷ t) ∷ []) (nil_after part)
+first_row n (suc k) y part [] e h = ap (λ t. (y ∷ t) ∷ []) (sym (append-nil part))
 first_row n (suc zero) y part (x ∷ xs) e h =
-    ap (λ (b : Bool). if b then ((y ∷ part) ++ x ∷ []) ∷ rows_from n [] xs else rows_from n ((y ∷ part) ++ x ∷ []) xs) (eq_true (length (y ∷ part) + 1) n e)
+    ap (λ (b : Bool). if b then ((y ∷ part) ++ x ∷ []) ∷ rows_from n [] xs else rows_from n ((y ∷ part) ++ x ∷ []) xs) (eq-eqb (length (y ∷ part) + 1) n e)
 first_row n (suc (suc k)) y part (x ∷ xs) e h =
-    ap (λ (b : Bool). if b then ((y ∷ part) ++ x ∷ []) ∷ rows_from n [] xs else rows_from n ((y ∷ part) ++ x ∷ []) xs) (eq_false (length (y ∷ part) + 1) n (λ f. omega (arith, e, f)))
+    ap (λ (b : Bool). if b then ((y ∷ part) ++ x ∷ []) ∷ rows_from n [] xs else rows_from n ((y ∷ part) ++ x ∷ []) xs) (ne_eqb (length (y ∷ part) + 1) n (λ f. omega (arith, e, f)))
     ∙ first_row n (suc k) y (part ++ x ∷ []) xs (omega (arith, e, length-append part (x ∷ []))) (omega arith)
     ∙ ap (λ t. (y ∷ t) ∷ rows n (drop (suc k) xs)) (append_assoc part (x ∷ []) (take (suc k) xs))
 

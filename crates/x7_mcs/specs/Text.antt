@@ -18,6 +18,10 @@ base_line_size = 16
 abbrev pub row_line_size : ℕ
 row_line_size = 44
 
+-- where the digits of a row's count begin in its line, after `:`; those of its address and of its type follow
+abbrev pub fields_place : ℕ
+fields_place = 1
+
 -- room for the lines of rows that have n bytes: four bytes of text for each, which is more than whole rows and the
 -- records 04 of whole blocks take, and a record 04 and a row's line more, for the block and the row that are begun
 abbrev pub rows_room : ℕ → ℕ

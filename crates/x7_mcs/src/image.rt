@@ -53,10 +53,10 @@ fn grow_bytes(bytes: &mut Vec<u8>, size: usize) -> Result<(), AllocError>
 }
 
 /// Writes a content over the bytes from a place on, as many as it has.
-fn set_bytes(bytes: &mut Vec<u8>, place: usize, content: &[u8])
-    requires { place + length content.now ≤ length bytes.old.items }
-    ensures length { length bytes.new.items ≡ length bytes.old.items }
-    ensures at { (p : ℕ) → get_or bytes.new.items p erased_byte ≡ written_byte place content.now bytes.old.items p }
+fn set_bytes(bytes: &mut [u8], place: usize, content: &[u8])
+    requires { place + length content.now ≤ length bytes.old }
+    ensures length { length bytes.new ≡ length bytes.old }
+    ensures at { (p : ℕ) → get_or bytes.new p erased_byte ≡ written_byte place content.now bytes.old p }
 {
     bytes[place..place + content.len()].copy_from_slice(content);
 }

@@ -6,7 +6,7 @@ ghost use Rattle.std.specs.Simd.Lanes.{chunk};
 ghost use Rattle.x7_text.specs.Digits.{hex_byte};
 ghost use Rattle.x7_words.specs.Word.{AreBytes};
 ghost use Rattle.x7_mcs.specs.Record.{sum_byte, byte_values};
-ghost use Rattle.x7_mcs.specs.Text.{data_line, row_fields, row_line_size, row_size};
+ghost use Rattle.x7_mcs.specs.Text.{data_line, fields_place, row_fields, row_line_size, row_size};
 
 use crate::record::{DATA_TYPE, sum_of};
 use std::simd::prelude::*;
@@ -18,6 +18,24 @@ pub(crate) const ROW_SIZE: usize = 16;
 
 /// How many bytes of text the data record of a whole row has, with its line end.
 pub(crate) const ROW_LINE_SIZE: usize = 44;
+
+/// Where the digits of a row's count begin in its line, after `:`; those of its address and of its type follow.
+const FIELDS_PLACE: usize = 1;
+
+/// Where the four digits of a row's address begin in its line.
+const ADDRESS_PLACE: usize = 3;
+
+/// Where the digits of a row's first eight bytes begin in its line.
+const FIRST_HALF_PLACE: usize = 9;
+
+/// Where the digits of a row's last eight bytes begin in its line.
+const SECOND_HALF_PLACE: usize = 25;
+
+/// Where the digits of a row's sum byte begin in its line.
+const SUM_PLACE: usize = 41;
+
+/// Where the line end of a row stands in its line.
+const LINE_END_PLACE: usize = 43;
 
 /// The sum of sixteen bytes, without its carries.
 #[inline(always)]
@@ -58,20 +76,21 @@ pub(crate) fn row_line(address: u16, content: &[u8; 16]) -> [u8; ROW_LINE_SIZE]
 {
     let (first, second) = hex_of_sixteen(content);
     let mut line = [b'\n'; ROW_LINE_SIZE];
-    line[41..43].copy_from_slice(&hex_of_byte(sum_byte_of_row(address, content)));
-    line[25..41].copy_from_slice(&second);
-    line[9..25].copy_from_slice(&first);
-    line[1..9].copy_from_slice(&hex_of_fields(address));
+    let sum = sum_byte_of_row(address, content);
+    line[SUM_PLACE..LINE_END_PLACE].copy_from_slice(&hex_of_byte(sum));
+    line[SECOND_HALF_PLACE..SUM_PLACE].copy_from_slice(&second);
+    line[FIRST_HALF_PLACE..SECOND_HALF_PLACE].copy_from_slice(&first);
+    line[FIELDS_PLACE..FIRST_HALF_PLACE].copy_from_slice(&hex_of_fields(address));
     line[0] = b':';
     line
 }
 
-/// The eight digits of a line's fields, which stand after its first byte.
+/// The eight digits of the fields of a row's line: its count, its address and its type.
 #[inline(always)]
 fn fields_in(line: &[u8; ROW_LINE_SIZE]) -> [u8; 8]
-    ensures { result ≡ chunk 1 8 line.now }
+    ensures { result ≡ chunk fields_place 8 line.now }
 {
-    u8x8::from_slice(&line[1..]).to_array()
+    u8x8::from_slice(&line[FIELDS_PLACE..]).to_array()
 }
 
 /// Sixteen bytes of a line from a place on.
@@ -123,13 +142,15 @@ fn guess_number(digit: u8) -> u16
 /// The row that the places of a row's line give, of any bytes there: `is_row_line` says whether the line is that row's.
 #[inline(always)]
 fn guess_row(line: &[u8; ROW_LINE_SIZE]) -> RowRecord {
-    let address = 4096 * guess_number(line[3])
-        + 256 * guess_number(line[4])
-        + 16 * guess_number(line[5])
-        + guess_number(line[6]);
+    let address = 4096 * guess_number(line[ADDRESS_PLACE])
+        + 256 * guess_number(line[ADDRESS_PLACE + 1])
+        + 16 * guess_number(line[ADDRESS_PLACE + 2])
+        + guess_number(line[ADDRESS_PLACE + 3]);
+    let first = sixteen_in(line, FIRST_HALF_PLACE);
+    let second = sixteen_in(line, SECOND_HALF_PLACE);
     RowRecord {
         address,
-        content: guess_bytes(sixteen_in(line, 9), sixteen_in(line, 25)),
+        content: guess_bytes(first, second),
     }
 }
 
@@ -138,20 +159,20 @@ fn guess_row(line: &[u8; ROW_LINE_SIZE]) -> RowRecord {
 fn is_row_line(line: &[u8; ROW_LINE_SIZE], address: u16, content: &[u8; 16]) -> bool
     ensures { IsTrue result → line.now ≡ data_line address content.now }
 {
-    if line[0] != b':' || line[43] != b'\n' {
+    if line[0] != b':' || line[LINE_END_PLACE] != b'\n' {
         return false;
     }
     let (first, second) = hex_of_sixteen(content);
-    if sixteen_in(line, 9) != first {
+    if sixteen_in(line, FIRST_HALF_PLACE) != first {
         return false;
     }
-    if sixteen_in(line, 25) != second {
+    if sixteen_in(line, SECOND_HALF_PLACE) != second {
         return false;
     }
     if fields_in(line) != hex_of_fields(address) {
         return false;
     }
-    [line[41], line[42]] == hex_of_byte(sum_byte_of_row(address, content))
+    [line[SUM_PLACE], line[SUM_PLACE + 1]] == hex_of_byte(sum_byte_of_row(address, content))
 }
 
 /// The row whose line a text begins with, in the form in which one is written here, and the text after that line. None

@@ -33,8 +33,8 @@ rows_after width number [] = []
 rows_after width number (far ∷ fars) = row_by width far (next_number number) ++ rows_after width (next_number number) fars
 
 -- the plan of a seed
-abbrev pub generated : PartData → ℕ → PlanData
-generated part seed = record { width = frame_words part; rows = rows_after (frame_words part) seed (addresses_in part) }
+abbrev pub plan_of_seed : PartData → ℕ → PlanData
+plan_of_seed part seed = record { width = frame_words part; rows = rows_after (frame_words part) seed (addresses_in part) }
 
 -- the words of the frames at these addresses, added up
 abbrev pub words_sum : FrameMap → List ℕ → ℕ
@@ -78,15 +78,15 @@ played_summary part seed planned stream =
 
 -- the text of `gen`
 unfoldable pub gen_text : PartData → ℕ → List ℕ
-gen_text part seed = played_summary part seed (length (generated part seed).rows) (full_stream part (generated part seed))
+gen_text part seed = played_summary part seed (length (plan_of_seed part seed).rows) (full_stream part (plan_of_seed part seed))
 
 -- the summary by what was planned: the bytes of the plan's full stream, phase 7, and the sum modulo 2^32 of the words
 -- of the plan over zeros
 abbrev pub planned_summary : PartData → ℕ → List ℕ
 planned_summary part seed =
     summary_text part.name seed (record {
-      planned = length (generated part seed).rows;
-      size = length (full_stream part (generated part seed));
+      planned = length (plan_of_seed part seed).rows;
+      size = length (full_stream part (plan_of_seed part seed));
       phase = 7;
-      sum = words_sum (total part (generated part seed)) (addresses_in part) % 2 ^ 32;
+      sum = words_sum (total part (plan_of_seed part seed)) (addresses_in part) % 2 ^ 32;
     })

@@ -12,14 +12,10 @@ use Rattle.x7_packets.specs.Gap.{NoneBegins}
 use Rattle.x7_packets.specs.Reading.{Place, Searching, Synced, EndedSession, IsPlace, IsReading, IsEndedSession, session_bytes, place_bytes, packet_bytes, is_synced, tail_of}
 use Rattle.x7_packets.specs.ByHand.{Reading, reading_of}
 use Rattle.x7_packets.specs.History.{History, Read, Write, Bad, entry, entered, entered_all, entered_sessions, entered_place, history, history_of}
-use Rattle.x7_packets.proofs.ByHandLemmas.{reading_is, reading_is_found}
+use Rattle.x7_packets.proofs.ByHandLemmas.{reading_is, reading_is_found, Reads}
 use Rattle.x7_packets.proofs.HistoryLemmas.{history_is}
 use Rattle.x7_packets.specs.Appended.{BeginsWithDummy, MayFollow, moved, after_gap, gap_of, after}
 use Rattle.x7_packets.proofs.SeamLemmas.{first_after, none_before_dummy, none_before_prefix, none_after}
-
--- a reading is one of these bytes
-abbrev Reads : List ℕ → Reading → Type 0
-Reads bytes r = IsReading bytes r.sessions r.place
 
 -- bytes after a gap in which no sync word begins are read as they are alone
 joined : (a b gap : List ℕ) (ss ts : List EndedSession) (q : Place) → AreBytes (a ++ b) → IsReading a ss (Searching gap) → IsReading b ts q → NoneBegins gap b → Reads (a ++ b) (after_gap ss gap ts q)

@@ -120,9 +120,7 @@ writes_one old new bs register w is to matcher none none2 begins opens ends =
     let middle : CutterState = record { mode = Mode.Synced; matcher = old.matcher; machine = in_write register 1; kept = [] } in
     record {
       middle = middle;
-      range = begins.range;
-      whole = begins.whole;
-      bytes = begins.are;
+      begins = begins;
       head = takes_head old middle (type1_write_header register 1) (Open register 1) is refl none refl refl opens;
       word = λ bytes sessions place s. word_more middle new bytes (bytes_of_word w) sessions place register w s refl ends (fits_word w) refl none2 to matcher;
       none_kept = none2;

@@ -113,7 +113,7 @@ ends_not : (bytes : List ℕ) → is_sync (last_four bytes) ≡ false → EndsWi
 ends_not bytes e w = let t : last_four bytes ≡ sync_bytes = ap last_four w.1 ∙ last_are w.0 in let u : is_sync (last_four bytes) ≡ true = ap is_sync t in cc
 
 -- a reading is one of these bytes
-abbrev Reads : List ℕ → Reading → Type 0
+abbrev pub Reads : List ℕ → Reading → Type 0
 Reads bytes r = IsReading bytes r.sessions r.place
 
 -- a gap with a byte more, by whether it ends with the sync word

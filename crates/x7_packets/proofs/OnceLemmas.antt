@@ -6,15 +6,12 @@ use Rattle.x7_words.proofs.ListLemmas.{all_prefix}
 use Rattle.x7_packets.specs.Packet.{Packet, ended}
 use Rattle.x7_packets.specs.Reading.{Place, Searching, Synced, EndedSession, tail_of}
 use Rattle.x7_packets.specs.ByHand.{Reading, before_last_four, is_sync, last_four, reading_of, with_byte, with_byte_at, packets_with_word}
-use Rattle.x7_packets.specs.History.{Entry, History, entry, history, history_of}
+use Rattle.x7_packets.specs.History.{Entry, History, entry, history_of, history_in}
 use Rattle.x7_packets.proofs.GrowthLemmas.{byte_enters}
 
 -- the bytes of no whole word after these bytes
 abbrev left_of : Reading → ℕ
 left_of r = length (tail_of r.place)
-
-abbrev history_in : Reading → History
-history_in r = history r.sessions r.place
 
 -- a byte more either enters nothing and is kept, or it ends a word, of which three bytes were kept
 abbrev CutsNext : Reading → Reading → Type 0

@@ -56,16 +56,16 @@ ended_more [] p = refl
 ended_more (q ∷ []) p = refl
 ended_more (q ∷ r ∷ ps) p = ended_more (r ∷ ps) p
 
-firsts_payload : (register : ℕ) (ws : List ℕ) → map (λ (s : ℕ × Step). s.0) (payload_steps register ws) ≡ ws
-firsts_payload register [] = refl
-firsts_payload register (w ∷ ws) = ap (λ t. w ∷ t) (firsts_payload register ws)
+pub words_of_payload : (register : ℕ) (ws : List ℕ) → map (λ (s : ℕ × Step). s.0) (payload_steps register ws) ≡ ws
+words_of_payload register [] = refl
+words_of_payload register (w ∷ ws) = ap (λ t. w ∷ t) (words_of_payload register ws)
 
 -- the words of packets are those of their stepped words
 pub words_stepped : (ps : List Packet) → map (λ (s : ℕ × Step). s.0) (flat_map stepped ps) ≡ flat_map words ps
 words_stepped [] = refl
 words_stepped (p ∷ ps) =
     map_append (λ (s : ℕ × Step). s.0) (stepped p) (flat_map stepped ps)
-    ∙ ap (λ t. p.head ∷ t ++ map (λ (s : ℕ × Step). s.0) (flat_map stepped ps)) (firsts_payload (register_named_by p.step) p.payload)
+    ∙ ap (λ t. p.head ∷ t ++ map (λ (s : ℕ × Step). s.0) (flat_map stepped ps)) (words_of_payload (register_named_by p.step) p.payload)
     ∙ ap (λ t. words p ++ t) (words_stepped ps)
 
 -- the words of packets that grew
@@ -73,9 +73,6 @@ pub words_grown : (ps qs : List Packet) (more : List (ℕ × Step)) → flat_map
 words_grown ps qs more e =
     sym (words_stepped qs) ∙ ap (map (λ (s : ℕ × Step). s.0)) e ∙ map_append (λ (s : ℕ × Step). s.0) (flat_map stepped ps) more
     ∙ ap (λ t. t ++ map (λ (s : ℕ × Step). s.0) more) (words_stepped ps)
-
-pub words_of_payload : (register : ℕ) (ws : List ℕ) → map (λ (s : ℕ × Step). s.0) (payload_steps register ws) ≡ ws
-words_of_payload = firsts_payload
 
 same_fields : (p q : Packet) → p.head ≡ q.head → p.step ≡ q.step → p.payload ≡ q.payload → p ≡ q
 same_fields p q a b c =

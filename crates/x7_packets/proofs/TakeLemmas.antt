@@ -10,6 +10,7 @@ use Rattle.x7_packets.specs.declared.header.Step.TheVariants.{Filler, Nop, Open,
 use Rattle.x7_packets.specs.Packet.{Packet, IsPacket, IsWhole, NoneEnds, latest_of, latest_after, count_of, register_named_by, words, payload_steps, stepped, meaning, ends_session, last_ends}
 use Rattle.x7_packets.specs.Machine.{MachineState, MachineStandsFor, AtHeader, InPayload, HasTakenWords, is_end, ends_by}
 use Rattle.x7_packets.proofs.PacketLemmas.{whole_more, each_more, latest_more, none_more, only_more, header_ends, last_ends_more, ended_more}
+use Rattle.x7_packets.specs.ByHand.{with_payload_word}
 
 -- a header whose packet is whole at once
 pub header_whole : (m n : MachineState) (ps : List Packet) (w : ℕ) (s : Step) → w < 2 ^ 32 → AtHeader m ps → s ≡ meaning m.latest w → count_of s ≡ 0 → n.latest ≡ latest_after m.latest s → n.due ≡ 0 → HasTakenWords ps ((w, s) ∷ []) n
@@ -40,31 +41,27 @@ header_opens m n ps w register count f a e z l d r =
       stands = inr (record { prefix = ps; last = p; split = refl; whole = a.whole; fits = (f, tt); means = means; count = count; opens = ap (λ x. Open x count) (sym r); latest = l ∙ ap (λ x. Some x) (sym r); due = omega arith; more = omega arith; none_ends = tt });
     }
 
--- a packet with one payload word more
-abbrev pub extended : Packet → ℕ → Packet
-extended p w = record { head = p.head; step = p.step; payload = p.payload ++ w ∷ [] }
-
 -- the stepped words of packets whose last has one payload word more
-pub stepped_more : (prefix : List Packet) (p : Packet) (w : ℕ) → flat_map stepped (prefix ++ extended p w ∷ []) ≡ flat_map stepped (prefix ++ p ∷ []) ++ (w, Payload (register_named_by p.step) w) ∷ []
+pub stepped_more : (prefix : List Packet) (p : Packet) (w : ℕ) → flat_map stepped (prefix ++ with_payload_word p w ∷ []) ≡ flat_map stepped (prefix ++ p ∷ []) ++ (w, Payload (register_named_by p.step) w) ∷ []
 stepped_more prefix p w =
-    flat_map_last stepped prefix (extended p w)
+    flat_map_last stepped prefix (with_payload_word p w)
     ∙ ap (λ t. flat_map stepped prefix ++ (p.head, p.step) ∷ t) (map_append (λ x. (x, Payload (register_named_by p.step) x)) p.payload (w ∷ []))
     ∙ sym (append_assoc (flat_map stepped prefix) (stepped p) ((w, Payload (register_named_by p.step) w) ∷ []))
     ∙ ap (λ t. t ++ (w, Payload (register_named_by p.step) w) ∷ []) (sym (flat_map_last stepped prefix p))
 
 -- the stepped words of an open payload with one word more
-open_more : (m : MachineState) (ps : List Packet) (w : ℕ) (a : InPayload m ps) → flat_map stepped (a.prefix ++ extended a.last w ∷ []) ≡ flat_map stepped ps ++ (w, Payload m.register w) ∷ []
+open_more : (m : MachineState) (ps : List Packet) (w : ℕ) (a : InPayload m ps) → flat_map stepped (a.prefix ++ with_payload_word a.last w ∷ []) ≡ flat_map stepped ps ++ (w, Payload m.register w) ∷ []
 open_more m ps w a =
     let same_register : register_named_by a.last.step ≡ m.register = ap register_named_by a.opens in
     stepped_more a.prefix a.last w ∙ ap (λ x. flat_map stepped (a.prefix ++ a.last ∷ []) ++ (w, Payload x w) ∷ []) same_register ∙ ap (λ x. flat_map stepped x ++ (w, Payload m.register w) ∷ []) (sym a.split)
 
-fits_more : (p : Packet) (w : ℕ) → AreWords (words p) → w < 2 ^ 32 → AreWords (words (extended p w))
+fits_more : (p : Packet) (w : ℕ) → AreWords (words p) → w < 2 ^ 32 → AreWords (words (with_payload_word p w))
 fits_more p w a f = all_append (λ x. x < 2 ^ 32) (words p) (w ∷ []) a (f, tt)
 
 -- a payload word that goes on
 pub payload_goes : (m n : MachineState) (ps : List Packet) (w : ℕ) → w < 2 ^ 32 → InPayload m ps → ends_session m.register w ≡ false → n.register ≡ m.register → n.latest ≡ m.latest → n.due + 1 ≡ m.due → HasTakenWords ps ((w, Payload m.register w) ∷ []) n
 payload_goes m n ps w f a e r l d =
-    let p : Packet = extended a.last w in
+    let p : Packet = with_payload_word a.last w in
     let same_register : register_named_by a.last.step ≡ m.register = ap register_named_by a.opens in
     let same_count : count_of a.last.step ≡ a.count = ap count_of a.opens in
     let none : NoneEnds m.register p.payload = none_more m.register a.last.payload w a.none_ends e in
@@ -98,7 +95,7 @@ payload_goes m n ps w f a e r l d =
 -- a payload word that ends the session
 pub payload_ends : (m n : MachineState) (ps : List Packet) (w : ℕ) → w < 2 ^ 32 → InPayload m ps → ends_session m.register w ≡ true → MachineStandsFor n [] → HasTakenWords ps ((w, Payload m.register w) ∷ []) n
 payload_ends m n ps w f a e s =
-    let p : Packet = extended a.last w in
+    let p : Packet = with_payload_word a.last w in
     let same_register : register_named_by a.last.step ≡ m.register = ap register_named_by a.opens in
     let same_count : count_of a.last.step ≡ a.count = ap count_of a.opens in
     let more : length p.payload ≡ length a.last.payload + 1 = length-append a.last.payload (w ∷ []) in

@@ -44,9 +44,7 @@ in_write register count = record { due = count; register = register; latest = So
 -- the bytes begin with a write of one word, and the new cutter is the old one after the header and then the word
 pub record WritesOne (old new : CutterState) (rest : List ℕ) (register w : ℕ) : Type 0 where
   pub middle : CutterState
-  pub range : register < reg_number_count
-  pub whole : 8 ≤ length rest
-  pub bytes : take 8 rest ≡ bytes_of_word (type1_write_header register 1) ++ bytes_of_word w
+  pub begins : BeginsWrite rest register w
   pub head : TakesAsOneRun old middle (bytes_of_word (type1_write_header register 1)) (Head (type1_write_header register 1) (Open register 1))
   pub word : TakesAsOneRun middle new (bytes_of_word w) (Word register w)
   pub none_kept : new.kept ≡ []

@@ -159,15 +159,6 @@ impl Cutter {
         &self.kept[..self.count]
     }
 
-    /// The bytes that the cutter keeps are the tail of the bytes taken. The call is for proofs alone, and does nothing.
-    #[inline(always)]
-    pub(crate) fn keeps_the_tail(&self)
-        ensures { (bytes : List ℕ) (sessions : List EndedSession) (place : Place) → CutterStandsFor self.now bytes sessions place
-            → self.now.kept ≡ tail_of place }
-    {
-        let _ = &self.stage;
-    }
-
     /// Whether the bytes taken end in a session. A session begins just after its sync word, before the sync word is
     /// given.
     pub fn is_synced(&self) -> bool

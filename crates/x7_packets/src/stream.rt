@@ -115,7 +115,8 @@ impl Packets {
     {
         let buffer = buffer_of(alloc, first)?;
         let cutter = Cutter::new();
-        cutter.keeps_the_tail();
+        // for the proof alone: the bytes that a cutter keeps are the tail of those taken
+        let _tail = cutter.kept();
         Ok(Packets {
             cutter,
             buffer,
@@ -207,7 +208,8 @@ impl Packets {
     {
         let mut count = 0;
         let found = last_run_of(self.cutter.cut(&self.buffer[self.at..self.end], &mut count));
-        self.cutter.keeps_the_tail();
+        // for the proof alone: the bytes that a cutter keeps are the tail of those taken
+        let _tail = self.cutter.kept();
         self.start = self.at;
         self.at += count;
         match found {

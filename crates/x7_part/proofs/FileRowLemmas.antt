@@ -13,7 +13,7 @@ use Rattle.x7_part.specs.Part.{FieldWidths, PartData, RowData}
 use Rattle.x7_part.specs.PartFile.{first_fault, part_from, part_in, part_of_table, part_unless}
 use Rattle.x7_part.specs.Ranges.{IsPart}
 use Rattle.x7_part.specs.Row.{IsBefore, RowsRise}
-use Rattle.x7_part.specs.Values.{settings_of, rows_in_file}
+use Rattle.x7_part.specs.Values.{settings_in, rows_in_file}
 use Rattle.x7_part.proofs.PassLemmas.{made_is}
 use Rattle.x7_part.proofs.SortLemmas.{from_least, ordered_same}
 use Rattle.x7_part.proofs.WidthLemmas.{before_of, some_weight}
@@ -75,4 +75,4 @@ unfolding GivesPart part_from
 text_rows text table part p e =
     let (other, q, f, same) = gives text part e in
     let one : other ≡ table = same_Some other table (sym q ∙ p) in
-    subst (λ x. IsPermutation (rows_in_file x) part.rows) one (subst (λ x. IsPermutation (rows_in_file other) x) (ap (λ x. x.rows) same) (ordered_same (settings_of other).field_widths (rows_in_file other)))
+    subst (λ x. IsPermutation (rows_in_file x) part.rows) one (subst (λ x. IsPermutation (rows_in_file other) x) (ap (λ x. x.rows) same) (ordered_same (settings_in other).field_widths (rows_in_file other)))

@@ -1,9 +1,9 @@
 -- Rows in range, no two of them the same, in number order.
-use Rattle.std.proofs.Common.{◌≡◌, ℕ, zero, suc, ◌+◌, ◌^◌, ◌<◌, ◌≤◌, ◌||◌, inl, inr, List, [], ◌∷◌, ◌++◌, length, get_or, Bool, true, false, not, eqb, eq-eqb, ne_eqb, Option, Some, None, refl, sym, ap, ◌∙◌, arith, append_assoc}
+use Rattle.std.proofs.Common.{◌≡◌, ℕ, zero, suc, ◌+◌, ◌^◌, ◌<◌, ◌≤◌, inl, inr, List, [], ◌∷◌, ◌++◌, length, get_or, Bool, true, false, not, eqb, eq-eqb, ne_eqb, Option, Some, None, refl, sym, ap, ◌∙◌, arith, append_assoc}
 use Rattle.std.specs.Prelude.{All, sum, cond}
 use Rattle.std.specs.List.{sum_by}
 use Rattle.std.specs.List.Sorted.{IsPermutation, IsNonDecreasingBy}
-use Rattle.std.proofs.lemmas.Bool.{false≢true}
+use Rattle.std.proofs.lemmas.Bool.{false≢true, or_parts}
 use Rattle.std.proofs.lemmas.Bool.Decides.{eqb_tells}
 use Rattle.std.proofs.lemmas.Option.{none-some}
 use Rattle.std.proofs.lemmas.List.{append-nil}
@@ -67,10 +67,6 @@ many_push : (widths : FieldWidths) (a : ℕ) (r : RowData) (rows : List RowData)
 unfolding many
 many_push widths a r rows = sum_by-append (at widths a) rows (r ∷ []) ∙ ap (λ n. sum_by (at widths a) rows + n) (sum_by-cons (at widths a) r [] ∙ (omega arith))
 
-or_false : (a b : Bool) → (a || b) ≡ false → (a ≡ false) × (b ≡ false)
-or_false false b e = (refl, e)
-or_false true b e = absurd (false≢true (sym e))
-
 not_true : (b : Bool) → not b ≡ true → b ≡ false
 not_true false e = refl
 not_true true e = absurd (false≢true e)
@@ -79,7 +75,7 @@ not_there : (widths : FieldWidths) (r : RowData) (rows : List RowData) → AreWi
 unfolding many
 not_there widths r [] w is all e = refl
 not_there widths r (s ∷ rows) w is all e =
-    let p = or_false (is_same_row r s) (has_same_row r rows) e in
+    let p = or_parts (is_same_row r s) (has_same_row r rows) e in
     let no = at_no widths (row_address widths r) s (λ same. false≢true (sym p.0 ∙ same_from widths r s w is (All-head IsRow s rows all) same)) in
     let ih = not_there widths r rows w is (All-tail IsRow s rows all) p.1 in
     let c = many_cons widths (row_address widths r) s rows in

@@ -18,7 +18,7 @@ use Rattle.x7_part.specs.Part.{RowData, PartData}
 use Rattle.x7_part.specs.Ranges.{IsPart}
 use Rattle.x7_part.specs.Address.{IsRow}
 use Rattle.x7_part.specs.AddressOrder.{addresses}
-use Rattle.x7_part.specs.Values.{text, row_tables, row_of, settings_of, rows_in_file, part_data, part_with}
+use Rattle.x7_part.specs.Values.{text, row_tables, row_of, settings_in, rows_in_file, part_data, part_with}
 use Rattle.x7_part.specs.declared.settings.PartSettings.{PartSettings}
 use Rattle.x7_part.specs.PartChecks.{AnswersDue, unless, first_of, rows_fault, row_range_fault, type_fault, other_fault, top_range_fault, range_fault}
 use Rattle.x7_part.specs.Row.{same_row_fault, has_few_frames, frames_fault, sorted_rows}
@@ -39,7 +39,7 @@ made : (t : Members) → type_fault t ≡ None → other_fault t ≡ None → ra
     frames_fault (part_with t (rows_in_file t)) ≡ None → IsPart (part_from t)
 unfolding range_fault part_from
 made t types others ranges apart frames =
-    let s = settings_of t in
+    let s = settings_in t in
     let name = text key.Name t in
     let tables = row_tables t in
     let rows = rows_in_file t in
@@ -152,7 +152,7 @@ pub rest_is : (t : Members) → Passed t → first_fault t ≡ first_of (same_ro
 unfolding first_fault range_fault
 rest_is t h = rw (← h.types, ← h.others, ← h.before, h.each) refl
 
-pub same_part : (t : Members) (name : List ℕ) (s : PartSettings) (rows : List RowData) → name ≡ text key.Name t → s ≡ settings_of t → rows ≡ rows_in_file t →
+pub same_part : (t : Members) (name : List ℕ) (s : PartSettings) (rows : List RowData) → name ≡ text key.Name t → s ≡ settings_in t → rows ≡ rows_in_file t →
     part_data name s (sorted_rows s.field_widths rows) ≡ part_from t
 unfolding part_from
 same_part t name s rows named set same = rw (named, set, same) refl

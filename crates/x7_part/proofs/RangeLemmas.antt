@@ -10,12 +10,12 @@ use Rattle.x7_part.specs.declared.fault.PartFault.{PartFault}
 use Rattle.x7_part.specs.declared.fault.PartFault.TheVariants.{Range}
 use Rattle.x7_part.specs.declared.fault.PartKey.TheVariants as key
 use Rattle.x7_part.specs.Keys.{in_row, top}
-use Rattle.x7_part.specs.Limits.{first_printed, greatest_block, greatest_bus_width, greatest_half, greatest_idcode, greatest_mode, greatest_row, greatest_start_unit, half_width, last_printed, least_block_width, least_column_width, least_frame_words, least_minor_width, least_row_width, most_address_width, most_block_width, most_column_width, most_columns, most_frame_words, most_minor_width, most_minors, most_name_size, most_row_width, most_rows, most_wait_ticks, usual_frame_words, IsStartUnit}
+use Rattle.x7_part.specs.Limits.{first_printed, greatest_block, greatest_bus_width, greatest_half, greatest_idcode, greatest_mode, greatest_row, large_start_unit, half_width, last_printed, least_block_width, least_column_width, least_frame_words, least_minor_width, least_row_width, most_address_width, most_block_width, most_column_width, most_columns, most_frame_words, most_minor_width, most_minors, most_name_size, most_row_width, most_rows, most_wait_ticks, usual_frame_words, usual_start_unit, IsStartUnit}
 use Rattle.x7_part.specs.Address.{IsRow, AreWidths}
 use Rattle.x7_part.specs.Values.{under, items_under, number_or, row_tables, text, wholes, natural, row_of, widths_of}
 use Rattle.x7_part.specs.Part.{usual_widths}
 use Rattle.toml.specs.Data.{Data, Members, no_items, as_array}
-use Rattle.x7_part.specs.PartChecks.{unless, first_of, rows_fault, next_row_number, is_in, is_length_in, are_printed, is_name, is_idcode, is_start_unit, are_in, are_minors, are_widths, has_widths, is_up_to, ranges_fault, row_range_fault, top_range_fault}
+use Rattle.x7_part.specs.PartChecks.{unless, first_of, rows_fault, next_row_number, is_in, is_length_in, are_printed, is_name, is_idcode, is_start_unit, are_in, are_minors, are_widths, are_widths_in_range, is_up_to, ranges_fault, row_range_fault, top_range_fault}
 use Rattle.x7_part.proofs.OrderLemmas.{unless_none, first_none}
 
 -- where no check finds a fault, none of them does
@@ -97,8 +97,8 @@ far_by None h = usual_are
 far_by (Some d) h = widths_are (wholes (unwrap_or (as_array d) no_items)) h
 
 -- widths in range, or the usual ones
-pub far_is : (t : Members) → has_widths t ≡ true → AreWidths (widths_of (wholes (items_under key.Far t)))
-unfolding has_widths
+pub far_is : (t : Members) → are_widths_in_range t ≡ true → AreWidths (widths_of (wholes (items_under key.Far t)))
+unfolding are_widths_in_range
 far_is t h = far_by (under key.Far t) h
 
 minors_in : (zs : List ℤ) → are_in 1 most_minors zs ≡ true → All (λ n. (1 ≤ n) × (n ≤ most_minors)) (map natural zs)
@@ -166,8 +166,8 @@ pub record TopRanges (t : Members) : Type 0 where
   pub lock : natural (number_or 0 key.Lock t) ≤ most_wait_ticks
   pub matched : natural (number_or 0 key.Match t) ≤ most_wait_ticks
   pub words : (least_frame_words ≤ natural (number_or usual_frame_words key.FrameWords t)) × (natural (number_or usual_frame_words key.FrameWords t) ≤ most_frame_words)
-  pub widths : has_widths t ≡ true
-  pub start_unit : IsStartUnit (natural (number_or 1 key.StartUnit t))
+  pub widths : are_widths_in_range t ≡ true
+  pub start_unit : IsStartUnit (natural (number_or usual_start_unit key.StartUnit t))
   pub rows : (1 ≤ length (row_tables t)) × (length (row_tables t) ≤ most_rows)
 
 pub top_ranges : (t : Members) → top_range_fault t ≡ None → TopRanges t
@@ -181,8 +181,8 @@ top_ranges t e =
     ∷ unless (is_up_to most_wait_ticks key.Lock t) (Range (top key.Lock))
     ∷ unless (is_up_to most_wait_ticks key.Match t) (Range (top key.Match))
     ∷ unless (is_in least_frame_words most_frame_words (number_or usual_frame_words key.FrameWords t)) (Range (top key.FrameWords))
-    ∷ unless (has_widths t) (Range (top key.Far))
-    ∷ unless (is_start_unit (number_or 1 key.StartUnit t)) (Range (top key.StartUnit))
+    ∷ unless (are_widths_in_range t) (Range (top key.Far))
+    ∷ unless (is_start_unit (number_or usual_start_unit key.StartUnit t)) (Range (top key.StartUnit))
     ∷ unless (is_length_in 1 most_rows (length (row_tables t))) (Range (top key.Row))
     ∷ []) e in
     record {
@@ -193,12 +193,12 @@ top_ranges t e =
       lock = (in_range 0 most_wait_ticks _ (unless_none (is_up_to most_wait_ticks key.Lock t) (Range (top key.Lock)) h.1.1.1.1.0)).1;
       matched = (in_range 0 most_wait_ticks _ (unless_none (is_up_to most_wait_ticks key.Match t) (Range (top key.Match)) h.1.1.1.1.1.0)).1;
       words = in_range least_frame_words most_frame_words _ (unless_none (is_in least_frame_words most_frame_words (number_or usual_frame_words key.FrameWords t)) (Range (top key.FrameWords)) h.1.1.1.1.1.1.0);
-      widths = unless_none (has_widths t) (Range (top key.Far)) h.1.1.1.1.1.1.1.0;
-      start_unit = unit_in _ (unless_none (is_start_unit (number_or 1 key.StartUnit t)) (Range (top key.StartUnit)) h.1.1.1.1.1.1.1.1.0);
+      widths = unless_none (are_widths_in_range t) (Range (top key.Far)) h.1.1.1.1.1.1.1.0;
+      start_unit = unit_in _ (unless_none (is_start_unit (number_or usual_start_unit key.StartUnit t)) (Range (top key.StartUnit)) h.1.1.1.1.1.1.1.1.0);
       rows = long_in 1 most_rows (length (row_tables t)) (unless_none (is_length_in 1 most_rows (length (row_tables t))) (Range (top key.Row)) h.1.1.1.1.1.1.1.1.1.0);
     }
 
-pub unit_most : (unit : ℕ) → IsStartUnit unit → unit ≤ greatest_start_unit
+pub unit_most : (unit : ℕ) → IsStartUnit unit → unit ≤ large_start_unit
 unit_most unit is = elim is [ inl e ↦ omega (arith, e) | inr e ↦ omega (arith, e) ]
 
 -- what each test of a top table says
@@ -210,8 +210,8 @@ pub record AreTopTests (t : Members) (name idcode mode bus_width lock matched wo
   pub lock_is : lock ≡ is_up_to most_wait_ticks key.Lock t
   pub matched_is : matched ≡ is_up_to most_wait_ticks key.Match t
   pub words_is : words ≡ is_in least_frame_words most_frame_words (number_or usual_frame_words key.FrameWords t)
-  pub widths_is : widths ≡ has_widths t
-  pub start_unit_is : start_unit ≡ is_start_unit (number_or 1 key.StartUnit t)
+  pub widths_is : widths ≡ are_widths_in_range t
+  pub start_unit_is : start_unit ≡ is_start_unit (number_or usual_start_unit key.StartUnit t)
   pub rows_is : rows ≡ is_length_in 1 most_rows (length (row_tables t))
 
 pub top_tests : (t : Members) (name idcode mode bus_width lock matched words widths start_unit rows : Bool) → AreTopTests t name idcode mode bus_width lock matched words widths start_unit rows →

@@ -98,9 +98,14 @@ most_address_width = 32
 abbrev pub greatest_byte : ℕ
 greatest_byte = 255
 
--- the greatest start unit, in bytes of a flash (UG470, warm boot start address)
-abbrev pub greatest_start_unit : ℕ
-greatest_start_unit = 256
+-- the bytes of the flash that one step of WBSTAR's start address stands for where a part file doesn't say
+abbrev pub usual_start_unit : ℕ
+usual_start_unit = 1
+
+-- the bytes of the flash that one step of WBSTAR's start address stands for where the flash's addresses have 32 bits
+-- (UG470, warm boot start address)
+abbrev pub large_start_unit : ℕ
+large_start_unit = 256
 
 -- the most ticks that startup waits for lock or for match: the last number of 16 bits
 abbrev pub most_wait_ticks : ℕ
@@ -127,7 +132,6 @@ usual_frame_words = 101
 abbrev pub most_words : ℕ
 most_words = 13277056
 
--- the bytes of the flash that one step of WBSTAR's start address may stand for: 256 where the flash's addresses have 32
--- bits (UG470, warm boot start address)
+-- the bytes of the flash that one step of WBSTAR's start address may stand for
 abbrev pub IsStartUnit : ℕ → Type 0
-IsStartUnit bytes = (bytes ≡ 1) ⊎ (bytes ≡ 256)
+IsStartUnit bytes = (bytes ≡ usual_start_unit) ⊎ (bytes ≡ large_start_unit)

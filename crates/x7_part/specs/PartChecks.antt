@@ -11,7 +11,7 @@ use Rattle.x7_part.specs.declared.keys.Kind.TheVariants.{Text, Whole, Table}
 use Rattle.x7_part.specs.declared.ranges.RangeTest.{RangeTest}
 use Rattle.x7_part.specs.declared.fault.PartFault.{PartFault}
 use Rattle.x7_part.specs.declared.fault.PartFault.TheVariants.{Key, Range, NoMemory}
-use Rattle.x7_part.specs.Limits.{first_printed, greatest_block, greatest_bus_width, greatest_half, greatest_idcode, greatest_mode, greatest_row, half_width, last_printed, least_block_width, least_column_width, least_frame_words, least_minor_width, least_row_width, most_address_width, most_block_width, most_column_width, most_columns, most_frame_words, most_minor_width, most_minors, most_name_size, most_row_width, most_rows, most_wait_ticks, usual_frame_words}
+use Rattle.x7_part.specs.Limits.{first_printed, greatest_block, greatest_bus_width, greatest_half, greatest_idcode, greatest_mode, greatest_row, half_width, large_start_unit, last_printed, least_block_width, least_column_width, least_frame_words, least_minor_width, least_row_width, most_address_width, most_block_width, most_column_width, most_columns, most_frame_words, most_minor_width, most_minors, most_name_size, most_row_width, most_rows, most_wait_ticks, usual_frame_words, usual_start_unit}
 use Rattle.x7_part.specs.Keys.{top, in_row, top_keys, row_keys, has_only}
 use Rattle.x7_part.specs.Address.{address_width}
 use Rattle.x7_part.specs.Values.{under, text, number_or, items_under, wholes, row_tables, natural, widths_of}
@@ -126,7 +126,7 @@ is_idcode z = is_in 1 greatest_idcode z && (natural z % 2 == 1)
 
 -- the number is 1 or 256: the bytes that one step of a start address may stand for
 unfoldable pub is_start_unit : ℤ → Bool
-is_start_unit z = is_in 1 1 z || is_in 256 256 z
+is_start_unit z = is_in usual_start_unit usual_start_unit z || is_in large_start_unit large_start_unit z
 
 -- the widths of the five fields of an address, each in range, of no more than 32 bits together
 abbrev pub are_widths : List ℤ → Bool
@@ -138,8 +138,8 @@ are_widths (minor ∷ column ∷ row ∷ half ∷ block ∷ []) =
 are_widths _ = false
 
 -- the widths of the five fields are in range, or left out
-unfoldable pub has_widths : Members → Bool
-has_widths t = not (is_some (under key.Far t)) || are_widths (wholes (items_under key.Far t))
+unfoldable pub are_widths_in_range : Members → Bool
+are_widths_in_range t = not (is_some (under key.Far t)) || are_widths (wholes (items_under key.Far t))
 
 -- each number is in a range
 abbrev pub are_in : ℕ → ℕ → List ℤ → Bool
@@ -173,8 +173,8 @@ top_range_fault t = first_of (
     ∷ unless (is_up_to most_wait_ticks key.Lock t) (Range (top key.Lock))
     ∷ unless (is_up_to most_wait_ticks key.Match t) (Range (top key.Match))
     ∷ unless (is_in least_frame_words most_frame_words (number_or usual_frame_words key.FrameWords t)) (Range (top key.FrameWords))
-    ∷ unless (has_widths t) (Range (top key.Far))
-    ∷ unless (is_start_unit (number_or 1 key.StartUnit t)) (Range (top key.StartUnit))
+    ∷ unless (are_widths_in_range t) (Range (top key.Far))
+    ∷ unless (is_start_unit (number_or usual_start_unit key.StartUnit t)) (Range (top key.StartUnit))
     ∷ unless (is_length_in 1 most_rows (length (row_tables t))) (Range (top key.Row))
     ∷ [])
 

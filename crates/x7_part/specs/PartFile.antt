@@ -7,7 +7,7 @@ use Rattle.toml.specs.Errors.{IsBlank}
 use Rattle.x7_part.specs.declared.fault.PartFault.{PartFault}
 use Rattle.x7_part.specs.declared.fault.PartFault.TheVariants.{Toml}
 use Rattle.x7_part.specs.Part.{PartData}
-use Rattle.x7_part.specs.Values.{settings_of, part_with, rows_in_file}
+use Rattle.x7_part.specs.Values.{settings_in, part_with, rows_in_file}
 use Rattle.x7_part.specs.PartChecks.{first_of, type_fault, other_fault, range_fault}
 use Rattle.x7_part.specs.Row.{same_row_fault, frames_fault, sorted_rows}
 
@@ -17,7 +17,7 @@ first_fault t = first_of (type_fault t ∷ other_fault t ∷ range_fault t ∷ s
 
 -- the part of a table: its rows stand in number order
 unfoldable pub part_from : Members → PartData
-part_from t = part_with t (sorted_rows (settings_of t).field_widths (rows_in_file t))
+part_from t = part_with t (sorted_rows (settings_in t).field_widths (rows_in_file t))
 
 -- the part of a table in which the checks found this fault or none
 abbrev pub part_unless : Members → Option PartFault → Result PartData PartFault

@@ -5,7 +5,7 @@ use Rattle.x7_part.specs.declared.fault.PartKey.{PartKey}
 use Rattle.x7_part.specs.declared.fault.PartKey.TheVariants as key
 use Rattle.x7_part.specs.declared.settings.PartSettings.{PartSettings}
 use Rattle.x7_part.specs.Keys.{name_of}
-use Rattle.x7_part.specs.Limits.{usual_frame_words}
+use Rattle.x7_part.specs.Limits.{usual_frame_words, usual_start_unit}
 use Rattle.x7_part.specs.Part.{FieldWidths, RowData, PartData, usual_widths}
 
 -- ---- one value
@@ -67,8 +67,8 @@ row_of t = record {
 }
 
 -- the settings of a top table
-abbrev pub settings_of : Members → PartSettings
-settings_of t = record {
+abbrev pub settings_in : Members → PartSettings
+settings_in t = record {
   idcode = natural (number_or 0 key.Idcode t);
   mode = natural (number_or 0 key.Mode t);
   bus_width = natural (number_or 0 key.BusWidth t);
@@ -76,7 +76,7 @@ settings_of t = record {
   matched = natural (number_or 0 key.Match t);
   frame_words = natural (number_or usual_frame_words key.FrameWords t);
   field_widths = widths_of (wholes (items_under key.Far t));
-  start_unit = natural (number_or 1 key.StartUnit t);
+  start_unit = natural (number_or usual_start_unit key.StartUnit t);
 }
 
 -- a part of this name, with these settings and rows
@@ -96,7 +96,7 @@ part_data name s rows = record {
 
 -- the part of a top table with these rows
 abbrev pub part_with : Members → List RowData → PartData
-part_with t rows = part_data (text key.Name t) (settings_of t) rows
+part_with t rows = part_data (text key.Name t) (settings_in t) rows
 
 -- the rows in the file's order
 abbrev pub rows_in_file : Members → List RowData

@@ -19,7 +19,7 @@ mod values;
 
 pub use fault::{PartFault, PartKey, Which};
 pub use laws::{rows_are_in_order, slots_follow_the_addresses};
-pub use limits::MOST_FRAME_WORDS;
+pub use limits::{LARGE_START_UNIT, MOST_FRAME_WORDS};
 pub use part::Part;
 pub use part_file::part_of;
 pub use slot::Slot;

@@ -66,8 +66,12 @@ pub(crate) const MOST_BLOCK_WIDTH: u8 = 3;
 /// The most bits of an address.
 pub(crate) const MOST_ADDRESS_WIDTH: u8 = 32;
 
-/// The greatest start unit, in bytes of a flash.
-pub(crate) const GREATEST_START_UNIT: u32 = 256;
+/// The bytes of the flash that one step of WBSTAR's start address stands for where a part file doesn't say.
+pub(crate) const USUAL_START_UNIT: u32 = 1;
+
+/// The bytes of the flash that one step of WBSTAR's start address stands for where the flash's addresses have 32 bits
+/// (UG470, warm boot start address).
+pub const LARGE_START_UNIT: u32 = 256;
 
 /// The most ticks that startup waits for lock or for match.
 pub(crate) const MOST_WAIT_TICKS: u32 = 65_535;

@@ -20,7 +20,7 @@ use crate::limits::{MOST_FRAMES, MOST_WORDS};
 use crate::part::Part;
 use crate::ranges::require;
 use crate::row::{Row, check_same_rows, frame_count, rows_in};
-use crate::settings::{check_top_ranges, settings_of};
+use crate::settings::{check_top_ranges, settings_in};
 use crate::slot::PADS_AFTER_ROW;
 use crate::values::text;
 use std::alloc::Global;
@@ -82,7 +82,7 @@ fn part_from(alloc: Global, table: &Table) -> Result<Part, PartFault>
     check_tables(Check::Types, table)?;
     check_tables(Check::Names, table)?;
     check_top_ranges(table)?;
-    let settings = settings_of(table);
+    let settings = settings_in(table);
     let rows = rows_in(alloc, table)?;
     check_rows(u32::from(settings.frame_words), &rows)?;
     let name = String::from_str(alloc, text(table, PartKey::Name))?;

@@ -3,17 +3,17 @@ ghost use Rattle.std.specs.Prelude.{◌≡◌, ◌≤◌, [], ◌∷◌, is_some
 ghost use Rattle.std.specs.Result.{result_err};
 ghost use Rattle.toml.specs.View.{view, table_view, items_view};
 ghost use Rattle.x7_part.specs.Values.{items_under, natural, number_or, whole, wholes, widths_of};
-ghost use Rattle.x7_part.specs.PartChecks.{unless, ranges_fault, is_in, is_up_to, is_length_in, are_printed, is_name, is_idcode, is_start_unit, has_widths, are_widths, are_in, are_minors};
-ghost use Rattle.x7_part.specs.Limits.{least_frame_words, most_frame_words, most_minors, usual_frame_words};
+ghost use Rattle.x7_part.specs.PartChecks.{unless, ranges_fault, is_in, is_up_to, is_length_in, are_printed, is_name, is_idcode, is_start_unit, are_widths_in_range, are_widths, are_in, are_minors};
+ghost use Rattle.x7_part.specs.Limits.{least_frame_words, most_frame_words, most_minors, usual_frame_words, usual_start_unit};
 ghost use Rattle.x7_part.specs.declared.fault.PartKey.TheVariants as key;
 
 use crate::address::Widths;
 use crate::fault::{PartFault, PartKey, Which};
 use crate::limits::{
-    FIRST_PRINTED, GREATEST_IDCODE, HALF_WIDTH, LAST_PRINTED, LEAST_BLOCK_WIDTH,
+    FIRST_PRINTED, GREATEST_IDCODE, HALF_WIDTH, LARGE_START_UNIT, LAST_PRINTED, LEAST_BLOCK_WIDTH,
     LEAST_COLUMN_WIDTH, LEAST_FRAME_WORDS, LEAST_MINOR_WIDTH, LEAST_ROW_WIDTH, MOST_BLOCK_WIDTH,
     MOST_COLUMN_WIDTH, MOST_COLUMNS, MOST_FRAME_WORDS, MOST_MINOR_WIDTH, MOST_MINORS,
-    MOST_NAME_SIZE, MOST_ROW_WIDTH, USUAL_FRAME_WORDS,
+    MOST_NAME_SIZE, MOST_ROW_WIDTH, USUAL_FRAME_WORDS, USUAL_START_UNIT,
 };
 use crate::values::{items_under, number_or, value_under, whole};
 use toml::{Table, Value};
@@ -99,7 +99,7 @@ pub(crate) fn is_up_to(high: u32, table: &Table, key: PartKey) -> bool
 
 /// Whether the IDCODE of a top table is odd, positive and below 2^32.
 #[tactic(auto, unfolding(crate::specs::PartChecks::is_idcode))]
-pub(crate) fn has_idcode(table: &Table) -> bool
+pub(crate) fn is_idcode_in_range(table: &Table) -> bool
     ensures { result ≡ is_idcode (number_or 0 key.Idcode (table_view table.now)) }
 {
     let idcode = number_or(0, table, PartKey::Idcode);
@@ -107,7 +107,7 @@ pub(crate) fn has_idcode(table: &Table) -> bool
 }
 
 /// Whether the words of a frame of a top table, 101 where it doesn't say, are from 2 to 255.
-pub(crate) fn has_frame_words(table: &Table) -> bool
+pub(crate) fn are_frame_words_in_range(table: &Table) -> bool
     ensures { result ≡ is_in least_frame_words most_frame_words (number_or usual_frame_words key.FrameWords (table_view table.now)) }
 {
     let frame_words = number_or(USUAL_FRAME_WORDS, table, PartKey::FrameWords);
@@ -116,11 +116,12 @@ pub(crate) fn has_frame_words(table: &Table) -> bool
 
 /// Whether the start unit of a top table, 1 where it doesn't say, is 1 or 256.
 #[tactic(auto, unfolding(crate::specs::PartChecks::is_start_unit))]
-pub(crate) fn has_start_unit(table: &Table) -> bool
-    ensures { result ≡ is_start_unit (number_or 1 key.StartUnit (table_view table.now)) }
+pub(crate) fn is_start_unit_in_range(table: &Table) -> bool
+    ensures { result ≡ is_start_unit (number_or usual_start_unit key.StartUnit (table_view table.now)) }
 {
-    let unit = number_or(1, table, PartKey::StartUnit);
-    is_in(unit, 1, 1) || is_in(unit, 256, 256)
+    let unit = number_or(USUAL_START_UNIT, table, PartKey::StartUnit);
+    is_in(unit, USUAL_START_UNIT, USUAL_START_UNIT)
+        || is_in(unit, LARGE_START_UNIT, LARGE_START_UNIT)
 }
 
 /// A width in bits from `low` to `high`, none where the number that an item gives lies outside.
@@ -170,9 +171,9 @@ fn widths_given(items: &[Value]) -> Option<Widths>
 
 /// The widths of the fields of an address, those of the 7 series where they are left out; none where they aren't in
 /// their ranges.
-#[tactic(auto, unfolding(crate::specs::PartChecks::has_widths))]
+#[tactic(auto, unfolding(crate::specs::PartChecks::are_widths_in_range))]
 pub(crate) fn widths_in(table: &Table) -> Option<Widths>
-    ensures exactly_where { is_some result ≡ has_widths (table_view table.now) }
+    ensures exactly_where { is_some result ≡ are_widths_in_range (table_view table.now) }
     ensures value { IfSome result (λ widths. widths ≡ widths_of (wholes (items_under key.Far (table_view table.now)))) }
 {
     if value_under(table, PartKey::Far).is_none() {

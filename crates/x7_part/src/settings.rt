@@ -2,18 +2,18 @@
 ghost use Rattle.std.specs.Prelude.{◌≡◌, None};
 ghost use Rattle.std.specs.Result.{result_err};
 ghost use Rattle.toml.specs.View.{table_view};
-ghost use Rattle.x7_part.specs.Values.{settings_of};
+ghost use Rattle.x7_part.specs.Values.{settings_in};
 ghost use Rattle.x7_part.specs.PartChecks.{top_range_fault, type_fault};
 
 use crate::address::Widths;
 use crate::fault::{PartFault, PartKey};
 use crate::limits::{
-    GREATEST_BUS_WIDTH, GREATEST_IDCODE, GREATEST_MODE, GREATEST_START_UNIT, MOST_FRAME_WORDS,
-    MOST_ROWS, MOST_WAIT_TICKS, USUAL_FRAME_WORDS,
+    GREATEST_BUS_WIDTH, GREATEST_IDCODE, GREATEST_MODE, LARGE_START_UNIT, MOST_FRAME_WORDS,
+    MOST_ROWS, MOST_WAIT_TICKS, USUAL_FRAME_WORDS, USUAL_START_UNIT,
 };
 use crate::ranges::{
-    RangeTest, check_ranges, has_frame_words, has_idcode, has_start_unit, is_length_in, is_name,
-    is_up_to, range_test, widths_in,
+    RangeTest, are_frame_words_in_range, check_ranges, is_idcode_in_range, is_length_in, is_name,
+    is_start_unit_in_range, is_up_to, range_test, widths_in,
 };
 use crate::values::{items_under, number_up_to, text};
 use toml::Table;
@@ -43,7 +43,7 @@ pub(crate) fn check_top_ranges(table: &Table) -> Result<(), PartFault>
     let row_count = items_under(table, PartKey::Row).len();
     let tests = [
         range_test!(Name, is_name(text(table, PartKey::Name))),
-        range_test!(Idcode, has_idcode(table)),
+        range_test!(Idcode, is_idcode_in_range(table)),
         range_test!(Mode, is_up_to(GREATEST_MODE, table, PartKey::Mode)),
         range_test!(
             BusWidth,
@@ -51,18 +51,18 @@ pub(crate) fn check_top_ranges(table: &Table) -> Result<(), PartFault>
         ),
         range_test!(Lock, is_up_to(MOST_WAIT_TICKS, table, PartKey::Lock)),
         range_test!(Match, is_up_to(MOST_WAIT_TICKS, table, PartKey::Match)),
-        range_test!(FrameWords, has_frame_words(table)),
+        range_test!(FrameWords, are_frame_words_in_range(table)),
         range_test!(Far, widths_in(table).is_some()),
-        range_test!(StartUnit, has_start_unit(table)),
+        range_test!(StartUnit, is_start_unit_in_range(table)),
         range_test!(Row, is_length_in(row_count, 1, MOST_ROWS)),
     ];
     check_ranges(None, &tests)
 }
 
 /// The settings of a top table whose values are in their ranges.
-pub(crate) fn settings_of(table: &Table) -> PartSettings
+pub(crate) fn settings_in(table: &Table) -> PartSettings
     requires { top_range_fault (table_view table.now) ≡ None }
-    ensures { result ≡ settings_of (table_view table.now) }
+    ensures { result ≡ settings_in (table_view table.now) }
 {
     let Some(field_widths) = widths_in(table) else {
         unreachable!()
@@ -80,6 +80,11 @@ pub(crate) fn settings_of(table: &Table) -> PartSettings
             PartKey::FrameWords,
         ) as u8,
         field_widths,
-        start_unit: number_up_to(GREATEST_START_UNIT, 1, table, PartKey::StartUnit) as u16,
+        start_unit: number_up_to(
+            LARGE_START_UNIT,
+            USUAL_START_UNIT,
+            table,
+            PartKey::StartUnit,
+        ) as u16,
     }
 }

@@ -1,7 +1,7 @@
 -- The laws of runs, FAR, readback and faults.
 use Rattle.std.proofs.Common.{◌↔◌, ◌≡◌, ℕ, zero, suc, ◌+◌, ◌-◌, ◌*◌, ◌/◌, ◌%◌, ◌<◌, ◌≤◌, ◌==◌, ◌&&◌, nat_le, inl, inr, Bool, true, false, List, [], ◌∷◌, ◌++◌, length, get_or, drop, map, min, max, reverse, Option, Some, None, unwrap_or, is_some, refl, sym, ap, ◌∙◌, arith, length-append, append_assoc, append-nil, if◌then◌else◌, eq-eqb, ne_eqb}
 use Rattle.std.specs.List.{flat_map, zip, filter_map}
-use Rattle.std.proofs.lemmas.Bool.{cases_eq, cases_lt, ltb-true, leb-true, eqb-true, and_parts, le-leb}
+use Rattle.std.proofs.lemmas.Bool.{cases_eq, cases_lt, ltb-true, leb-true, eqb-true, and_parts, le-leb, and_right}
 use Rattle.std.proofs.lemmas.Grind.{reverse_onto}
 use Rattle.std.proofs.lemmas.Option.{none-some, same_Some}
 use Rattle.std.proofs.lemmas.List.{length-reverse, drop_all, drop_more, get_or_past}
@@ -20,7 +20,7 @@ use Rattle.x7_memory.proofs.MapLemmas.{override_twice, override_same, planned_jo
 use Rattle.x7_regs.specs.declared.command.Command.{Command}
 use Rattle.x7_pipeline.specs.declared.fault.RunFault.{RunFault}
 use Rattle.x7_pipeline.specs.declared.fault.RunFault.TheVariants.{Address, Overrun, Multi}
-use Rattle.x7_pipeline.specs.Runs.{rest_of, frames_of, at_slot, in_slots, without_newest, written_frames, put_over, Lands}
+use Rattle.x7_pipeline.specs.Runs.{rest_of, frames_of, at_slot, in_slots, older_frames, written_frames, put_over, Lands}
 use Rattle.x7_pipeline.specs.RunsInWords.{AreCutFrom, FarStandsAt, pair_of, place_in}
 use Rattle.x7_pipeline.specs.FarAsRead.{has_frame_at, first_address, last_address, far_at, far_of}
 use Rattle.x7_regs.specs.declared.command.Command.TheVariants.{Wcfg, Mfw}
@@ -92,9 +92,9 @@ in_order places (frame ∷ older) =
     ∙ ap (λ t. filter_map pair_of (zip places t)) (sym (reverse_cons frame older))
 
 pub landed_in_order : (part : PartData) (base : ℕ) (run : List ℕ) →
-    reverse (written_frames part base run) ≡ filter_map pair_of (zip (slots_from part base) (reverse (without_newest (frames_of (frame_words part) run))))
+    reverse (written_frames part base run) ≡ filter_map pair_of (zip (slots_from part base) (reverse (older_frames (frames_of (frame_words part) run))))
 unfolding written_frames
-landed_in_order part base run = in_order (slots_from part base) (without_newest (frames_of (frame_words part) run))
+landed_in_order part base run = in_order (slots_from part base) (older_frames (frames_of (frame_words part) run))
 
 pub landed_empty : (part : PartData) (base : ℕ) → written_frames part base [] ≡ []
 unfolding written_frames frames_of in_slots
@@ -108,7 +108,7 @@ nothing_lands places (frame ∷ older) none =
 
 pub landed_nowhere : (part : PartData) (base : ℕ) (run : List ℕ) → has_frame_at part base ≡ false → written_frames part base run ≡ []
 unfolding written_frames
-landed_nowhere part base run f = nothing_lands (slots_from part base) (without_newest (frames_of (frame_words part) run)) (no_slots part base f)
+landed_nowhere part base run f = nothing_lands (slots_from part base) (older_frames (frames_of (frame_words part) run)) (no_slots part base f)
 
 -- ---- what a memory gets
 
@@ -308,7 +308,7 @@ past_slots part base v run fault e = by (length (rest_of (frame_words part) (v �
     by : (a b m n : ℕ) → (if (a == b) && nat_le m n then Some Overrun else None) ≡ Some fault → (a ≡ b) × (m ≤ n) × (fault ≡ Overrun)
     by a b m n e = let t = test ((a == b) && nat_le m n) e in let parts = and_parts (a == b) (nat_le m n) t.0 in (eqb-true a b parts.0, leb-true m n parts.1, t.1)
 
-at_newest : (places : List Slot) (frames : List (List ℕ)) → length places ≤ length frames → ((i far : ℕ) → length places ≤ i + 1 → get_or places i End ≡ Frame far → ⊥) → in_slots places frames ≡ in_slots places (without_newest frames)
+at_newest : (places : List Slot) (frames : List (List ℕ)) → length places ≤ length frames → ((i far : ℕ) → length places ≤ i + 1 → get_or places i End ≡ Frame far → ⊥) → in_slots places frames ≡ in_slots places (older_frames frames)
 unfolding in_slots
 at_newest places [] h ends = refl
 at_newest places (frame ∷ older) h ends = at_no_frame (get_or places (length older) End) frame (in_slots places older) (λ far. ends (length older) far (omega arith))
@@ -320,7 +320,7 @@ refused_landed part base [] word fault e =
     let f = (no_address part base fault e).0 in landed_nowhere part base (word ∷ []) f ∙ sym (landed_nowhere part base [] f)
 refused_landed part base (v ∷ run) word fault e =
     let p = past_slots part base v run fault e in
-    ap (λ frames. in_slots (slots_from part base) (without_newest frames)) (frames_completes (frame_words part) word (v ∷ run) p.0)
+    ap (λ frames. in_slots (slots_from part base) (older_frames frames)) (frames_completes (frame_words part) word (v ∷ run) p.0)
     ∙ at_newest (slots_from part base) (frames_of (frame_words part) (v ∷ run)) p.1 (last_slot part base)
 
 none_after : (places : List Slot) (i : ℕ) → length places ≤ i + 1 → ((i far : ℕ) → length places ≤ i + 1 → get_or places i End ≡ Frame far → ⊥) → first_address (drop i places) ≡ None
@@ -403,14 +403,10 @@ read_address part base given fault e = by (given == 0) e
 
 -- ---- the source of copies
 
-and_false : (b c : Bool) → c ≡ false → (b && c) ≡ false
-and_false true c e = e
-and_false false c e = refl
-
 -- only MFW leaves a source
 pub no_source : (part : PartData) (old new : Command) (run : List ℕ) → is_mfw new ≡ false → source_after part old new run ≡ None
 unfolding source_after
-no_source part old new run f = rw (and_false (is_wcfg old) (is_mfw new) f) refl
+no_source part old new run f = rw (and_right (is_wcfg old) (is_mfw new) f) refl
 
 pub taken_source : (part : PartData) (run : List ℕ) → source_after part Wcfg Mfw run ≡ newest_of (frames_of (frame_words part) run)
 unfolding source_after

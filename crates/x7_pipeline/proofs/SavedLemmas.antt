@@ -13,7 +13,7 @@ use Rattle.x7_memory.specs.FrameMap.{FrameMap, HaveSameFrames}
 use Rattle.x7_memory.specs.PartFrames.{AreFramesOf, frame_among, frame_at}
 use Rattle.x7_memory.specs.Plan.{PlanRow, planned}
 use Rattle.x7_memory.proofs.MapLemmas.{override_one}
-use Rattle.x7_pipeline.specs.Runs.{at_slot, without_newest, frames_of, in_slots, written_frames, put_over, rest_of, Lands}
+use Rattle.x7_pipeline.specs.Runs.{at_slot, older_frames, frames_of, in_slots, written_frames, put_over, rest_of, Lands}
 use Rattle.x7_regs.specs.declared.command.Command.{Command}
 use Rattle.x7_pipeline.specs.declared.fault.RunFault.TheVariants.{Address, Multi}
 use Rattle.x7_pipeline.specs.FarAsRead.{has_frame_at}
@@ -123,11 +123,11 @@ lands_newest : (part : PartData) (base : ℕ) (run longer : List ℕ) (frames : 
     → written_frames part base longer ≡ in_slots (slots_from part base) frames → Lands part base run longer old new → ChangesAt (address_at_slot (if n == 0 then Pad else get_or (slots_from part base) (n - 1) End)) old new
 unfolding written_frames in_slots
 lands_newest part base run longer [] n old new e count now l =
-    let same : written_frames part base longer ≡ written_frames part base run = now ∙ ap (λ (fs : List (List ℕ)). in_slots (slots_from part base) (without_newest fs)) (sym e) in
+    let same : written_frames part base longer ≡ written_frames part base run = now ∙ ap (λ (fs : List (List ℕ)). in_slots (slots_from part base) (older_frames fs)) (sym e) in
     rw count (changes_none None old new (lands_none part base run longer old new same l))
 lands_newest part base run longer (frame ∷ older) n old new e count now l =
     let slot : Slot = get_or (slots_from part base) (length older) End in
-    let before : written_frames part base run ≡ in_slots (slots_from part base) older = ap (λ (fs : List (List ℕ)). in_slots (slots_from part base) (without_newest fs)) e in
+    let before : written_frames part base run ≡ in_slots (slots_from part base) older = ap (λ (fs : List (List ℕ)). in_slots (slots_from part base) (older_frames fs)) e in
     let added : l.added ≡ at_slot slot frame [] =
     append_cancel_right l.added (at_slot slot frame []) (written_frames part base run)
     (sym l.grows ∙ now ∙ at_slot_more slot frame (in_slots (slots_from part base) older) ∙ ap (λ (ps : List PlanRow). at_slot slot frame [] ++ ps) (sym before)) in
@@ -148,10 +148,10 @@ word_changes part p command base run source given word old new s words l =
           let full : length (rest_of (frame_words part) run) + 1 ≡ frame_words part = sym rest ∙ e ∙ s.width_is in
           rw (copies, eq-eqb (length p.rest + 1) p.width e, s.base_is)
           (lands_newest part base run (word ∷ run) (frames_of (frame_words part) run) p.frame_count old new refl s.count_is
-          (ap (λ (fs : List (List ℕ)). in_slots (slots_from part base) (without_newest fs)) (frames_completes (frame_words part) word run full)) l)
+          (ap (λ (fs : List (List ℕ)). in_slots (slots_from part base) (older_frames fs)) (frames_completes (frame_words part) word run full)) l)
       | inr n ↦
           let inside : length (rest_of (frame_words part) run) + 1 ≡ frame_words part → ⊥ = λ e. n (rest ∙ e ∙ sym s.width_is) in
           rw (copies, ne_eqb (length p.rest + 1) p.width n)
           (changes_none None old new
-          (lands_none part base run (word ∷ run) old new (ap (λ (fs : List (List ℕ)). in_slots (slots_from part base) (without_newest fs)) (frames_goes_on (frame_words part) word run inside)) l))
+          (lands_none part base run (word ∷ run) old new (ap (λ (fs : List (List ℕ)). in_slots (slots_from part base) (older_frames fs)) (frames_goes_on (frame_words part) word run inside)) l))
     ]

@@ -1,46 +1,18 @@
 -- The slots of a part, by the addresses among them.
-use Rattle.std.proofs.Common.{◌≡◌, ℕ, zero, suc, ◌^◌, ◌<◌, ◌≤◌, ◌⊎◌, ◌↔◌, inl, inr, Bool, true, false, List, [], ◌∷◌, ◌++◌, length, get_or, map, refl, sym, ap, ◌∙◌, arith, eq-eqb, ne_eqb, append_assoc}
+use Rattle.std.proofs.Common.{◌≡◌, ℕ, zero, suc, ◌^◌, ◌<◌, ◌≤◌, ◌⊎◌, ◌↔◌, inl, inr, Bool, true, false, List, [], ◌∷◌, length, get_or, refl, sym, arith, eq-eqb, ne_eqb}
 use Rattle.std.specs.Prelude.{Contains}
 use Rattle.std.proofs.lemmas.Bool.{cases_eq, false≢true, ltb-true, lt-ltb}
 use Rattle.std.proofs.lemmas.Bool.Decides.{nat_tests}
 use Rattle.std.proofs.lemmas.List.{get_or_past}
-use Rattle.x7_part.specs.Part.{FieldWidths, RowData, PartData}
+use Rattle.x7_part.specs.Part.{PartData}
 use Rattle.x7_part.specs.Ranges.{IsPart}
-use Rattle.x7_part.specs.AddressOrder.{addresses_of, addresses, addresses_in}
-use Rattle.x7_part.specs.Slot.{slots, slots_in, from_address, slots_from}
+use Rattle.x7_part.specs.AddressOrder.{addresses_in}
+use Rattle.x7_part.specs.Slot.{slots_in, from_address, slots_from, addresses_among}
 use Rattle.x7_part.specs.declared.slot.Slot.{Slot}
 use Rattle.x7_part.specs.declared.slot.Slot.TheVariants.{Frame, Pad, End}
 use Rattle.x7_part.proofs.PartLemmas.{slots_count}
+use Rattle.x7_part.proofs.SlotLemmas.{among_slots}
 use Rattle.x7_pipeline.specs.FarAsRead.{has_frame_at}
-
--- ---- the addresses among slots
-
-abbrev pub addresses_among : List Slot → List ℕ
-addresses_among [] = []
-addresses_among (Frame far ∷ places) = far ∷ addresses_among places
-addresses_among (Pad ∷ places) = addresses_among places
-addresses_among (End ∷ places) = addresses_among places
-
-addresses_among_append : (first second : List Slot) → addresses_among (first ++ second) ≡ addresses_among first ++ addresses_among second
-addresses_among_append [] second = refl
-addresses_among_append (Frame far ∷ first) second = ap (λ rest. far ∷ rest) (addresses_among_append first second)
-addresses_among_append (Pad ∷ first) second = addresses_among_append first second
-addresses_among_append (End ∷ first) second = addresses_among_append first second
-
-addresses_among_map : (fars : List ℕ) → addresses_among (map Frame fars) ≡ fars
-addresses_among_map [] = refl
-addresses_among_map (far ∷ fars) = ap (λ rest. far ∷ rest) (addresses_among_map fars)
-
--- the slots of rows have just the rows' addresses
-pub addresses_among_slots : (far : FieldWidths) (rows : List RowData) → addresses_among (slots far rows) ≡ addresses far rows
-unfolding slots addresses
-addresses_among_slots far [] = refl
-addresses_among_slots far (r ∷ rows) =
-    addresses_among_append (map Frame (addresses_of far r) ++ Pad ∷ Pad ∷ []) (slots far rows)
-    ∙ ap (λ rest. rest ++ addresses_among (slots far rows)) (addresses_among_append (map Frame (addresses_of far r)) (Pad ∷ Pad ∷ []))
-    ∙ append_assoc (addresses_among (map Frame (addresses_of far r))) [] (addresses_among (slots far rows))
-    ∙ ap (λ rest. rest ++ addresses_among (slots far rows)) (addresses_among_map (addresses_of far r))
-    ∙ ap (λ rest. addresses_of far r ++ rest) (addresses_among_slots far rows)
 
 -- ---- the slots from an address on
 
@@ -109,11 +81,11 @@ length_from far (End ∷ places) = let ih = length_from far places in omega arit
 -- an address has slots from it on
 pub address_has : (part : PartData) (far : ℕ) → Contains (addresses_in part) far → has_frame_at part far ≡ true
 address_has part far has =
-    lt-ltb 0 (length (slots_from part far)) (from_some far (slots_in part) (rw (addresses_among_slots part.field_widths part.rows) has))
+    lt-ltb 0 (length (slots_from part far)) (from_some far (slots_in part) (rw (among_slots part.field_widths part.rows) has))
 
 pub has_address : (part : PartData) (far : ℕ) → has_frame_at part far ≡ true → Contains (addresses_in part) far
 has_address part far t =
-    rw (addresses_among_slots part.field_widths part.rows) at (some_from far (slots_in part) (ltb-true 0 (length (slots_from part far)) t))
+    rw (among_slots part.field_widths part.rows) at (some_from far (slots_in part) (ltb-true 0 (length (slots_from part far)) t))
 
 -- the test for an address
 pub is_base_so : (part : PartData) (far : ℕ) (b : Bool) → (b ≡ true) ↔ Contains (addresses_in part) far → b ≡ has_frame_at part far
@@ -137,7 +109,7 @@ no_slot part far n f = sym (get_or_past (slots_from part far) n End (let none = 
 
 -- a slot of a frame has an address of the part
 pub slot_address : (part : PartData) (base n far : ℕ) → Frame far ≡ get_or (slots_from part base) n End → Contains (addresses_in part) far
-slot_address part base n far e = rw (addresses_among_slots part.field_widths part.rows) at (slot_among base n far (slots_in part) (sym e))
+slot_address part base n far e = rw (among_slots part.field_widths part.rows) at (slot_among base n far (slots_in part) (sym e))
 
 -- a part has fewer than 2^31 slots
 pub few_slots : (part : PartData) (far : ℕ) → IsPart part → length (slots_from part far) < 2 ^ 31

@@ -15,7 +15,7 @@ use Rattle.x7_memory.specs.Plan.{PlanRow, planned}
 use Rattle.x7_memory.proofs.MapLemmas.{override_one}
 use Rattle.x7_regs.specs.declared.command.Command.{Command}
 use Rattle.x7_pipeline.specs.declared.fault.RunFault.TheVariants.{Address, Overrun, Multi}
-use Rattle.x7_pipeline.specs.Runs.{rest_of, frames_of, at_slot, in_slots, without_newest, written_frames, put_over, Lands}
+use Rattle.x7_pipeline.specs.Runs.{rest_of, frames_of, at_slot, in_slots, older_frames, written_frames, put_over, Lands}
 use Rattle.x7_pipeline.specs.FarAsRead.{has_frame_at, far_at, far_of}
 use Rattle.x7_pipeline.specs.Copies.{is_mfw, newest_of, source_with, source_after, copied_pairs}
 use Rattle.x7_pipeline.specs.Readback.{word_at, read_slot, readback_at, readback_end, given_stored}
@@ -124,7 +124,7 @@ unfolding written_frames
 lands_nothing part p w command base run source given old new s short same =
     let rest = s.rest_is in let width = s.width_is in
     let inside : length (rest_of (frame_words part) run) + 1 ≡ frame_words part → ⊥ = λ same. (let long = ap length rest in absurd (omega arith)) in
-    same_lands part base run (w ∷ run) old new (ap (λ frames. in_slots (slots_from part base) (without_newest frames)) (frames_goes_on (frame_words part) w run inside)) same
+    same_lands part base run (w ∷ run) old new (ap (λ frames. in_slots (slots_from part base) (older_frames frames)) (frames_goes_on (frame_words part) w run inside)) same
 
 pub at_slot_more : (slot : Slot) (words : List ℕ) (pairs : List PlanRow) → at_slot slot words pairs ≡ at_slot slot words [] ++ pairs
 at_slot_more (Frame far) words pairs = refl
@@ -137,9 +137,9 @@ lands_by : (part : PartData) (base : ℕ) (run longer : List ℕ) (frames : List
     ((frame : List ℕ) → newest_of frames ≡ Some frame → HaveSameFrames new (put_over (at_slot (get_or (slots_from part base) (length frames - 1) End) frame []) old)) → Lands part base run longer old new
 unfolding written_frames in_slots
 lands_by part base run longer [] old new e now none some =
-    same_lands part base run longer old new (now ∙ ap (λ frames. in_slots (slots_from part base) (without_newest frames)) (sym e)) (none refl)
+    same_lands part base run longer old new (now ∙ ap (λ frames. in_slots (slots_from part base) (older_frames frames)) (sym e)) (none refl)
 lands_by part base run longer (frame ∷ older) old new e now none some =
-    let before : written_frames part base run ≡ in_slots (slots_from part base) older = ap (λ frames. in_slots (slots_from part base) (without_newest frames)) e in
+    let before : written_frames part base run ≡ in_slots (slots_from part base) older = ap (λ frames. in_slots (slots_from part base) (older_frames frames)) e in
     let place : length (frame ∷ older) - 1 ≡ length older = omega arith in
     record {
       added = at_slot (get_or (slots_from part base) (length (frame ∷ older) - 1) End) frame [];
@@ -158,7 +158,7 @@ lands_frame part p w command base run source given old new s whole none some =
     let rest = s.rest_is in let width = s.width_is in
     let full : length (rest_of (frame_words part) run) + 1 ≡ frame_words part = (let long = ap length rest in omega arith) in
     lands_by part base run (w ∷ run) (frames_of (frame_words part) run) old new refl
-    (ap (λ frames. in_slots (slots_from part base) (without_newest frames)) (frames_completes (frame_words part) w run full))
+    (ap (λ frames. in_slots (slots_from part base) (older_frames frames)) (frames_completes (frame_words part) w run full))
     (λ e. none (s.newest_is ∙ e))
     (λ frame e. rw (← s.base_is, ← s.count_is) (some frame (s.newest_is ∙ e)))
 

@@ -40,15 +40,15 @@ unfoldable pub in_slots : List Slot → List (List ℕ) → List PlanRow
 in_slots slots [] = []
 in_slots slots (frame ∷ older) = at_slot (slice_index_or slots (length older) End) frame (in_slots slots older)
 
--- frames without the newest one, which stands first
-abbrev pub without_newest : List (List ℕ) → List (List ℕ)
-without_newest [] = []
-without_newest (frame ∷ older) = older
+-- the frames before the newest one, which stands first
+abbrev pub older_frames : List (List ℕ) → List (List ℕ)
+older_frames [] = []
+older_frames (frame ∷ older) = older
 
 -- what a run has put from its base, the address at which it begins, the newest pair of address and frame first: each
 -- whole frame but the newest, at its slot
 unfoldable pub written_frames : PartData → ℕ → List ℕ → List PlanRow
-written_frames part base run = in_slots (slots_from part base) (without_newest (frames_of (frame_words part) run))
+written_frames part base run = in_slots (slots_from part base) (older_frames (frames_of (frame_words part) run))
 
 -- ---- what a memory gets
 

@@ -8,7 +8,7 @@ ghost use Rattle.x7_memory.specs.PartFrames.{frame_at};
 ghost use Rattle.x7_memory.specs.Plan.{PlanRow};
 ghost use Rattle.x7_regs.specs.declared.command.Command.{Command};
 ghost use Rattle.x7_pipeline.specs.declared.fault.RunFault.{RunFault};
-ghost use Rattle.x7_pipeline.specs.Runs.{rest_of, frames_of, without_newest, written_frames, put_over, Lands};
+ghost use Rattle.x7_pipeline.specs.Runs.{rest_of, frames_of, older_frames, written_frames, put_over, Lands};
 ghost use Rattle.x7_pipeline.specs.RunsInWords.{AreCutFrom, FarStandsAt, HasRun, Overruns, all_written, place_in, placed_from};
 ghost use Rattle.x7_pipeline.specs.FarAsRead.{IsBase, has_frame_at, far_of, last_address};
 ghost use Rattle.x7_pipeline.specs.Copies.{is_wcfg, is_mfw, newest_of, source_after};
@@ -27,7 +27,7 @@ ghost use Rattle.x7_pipeline.specs.Flow.{HoldsFlow, LandsAt, ForEachFlow, pairs_
 pub fn runs_land_in_slot_order()
     ensures frames { (width : ℕ) (run : List ℕ) → 0 < width → AreCutFrom width run (frames_of width run) (rest_of width run) }
     ensures order { (part : PartData) (base : ℕ) (run : List ℕ) →
-        reverse (written_frames part base run) ≡ placed_from part base (reverse (without_newest (frames_of (frame_words part) run))) }
+        reverse (written_frames part base run) ≡ placed_from part base (reverse (older_frames (frames_of (frame_words part) run))) }
     ensures no_run_writes_nothing { (part : PartData) (base : ℕ) → written_frames part base [] ≡ [] }
     ensures no_base_writes_nothing { (part : PartData) (base : ℕ) (run : List ℕ) → has_frame_at part base ≡ false → written_frames part base run ≡ [] }
     ensures no_word_lands_nothing { (part : PartData) (base : ℕ) (run : List ℕ) (old new : FrameMap) → HaveSameFrames new old → Lands part base run run old new }

@@ -19,15 +19,15 @@ pub record FullStreamState : Type 0 where
   pub next_piece : NextPiece
   pub checker : PieceCheckerState
 
--- the frame data up to a slot, and what stands before them
+-- what a full stream has before slot n: its opening, and the frame data of the slots before that one
 abbrev pub pieces_to : PartData → PlanData → ℕ → List StreamPiece
 pieces_to part plan n = Words (full_opening part) ∷ Words (words_of_slots part plan (take n (slots_in part))) ∷ []
 
--- what stands before the check after the frame data
+-- what a full stream has before the check after its frame data
 abbrev pub frame_pieces : PartData → PlanData → List StreamPiece
 frame_pieces part plan = Words (full_opening part) ∷ Words (words_of_slots part plan (slots_in part)) ∷ []
 
--- what stands before what is next
+-- what a full stream has before what is next
 abbrev pub pieces_before : PartData → PlanData → NextPiece → List StreamPiece
 pieces_before part plan next.Opening = []
 pieces_before part plan (next.Slot n) = pieces_to part plan n
@@ -37,7 +37,7 @@ pieces_before part plan next.LastCheck = frame_pieces part plan ++ Check ∷ Wor
 pieces_before part plan next.Desync = frame_pieces part plan ++ Check ∷ Words start_words ∷ Check ∷ []
 pieces_before part plan next.Nothing = full_pieces part plan
 
--- the slot that is next, 0 at all else
+-- the slot that is next, 0 where something else is
 abbrev pub slot_next : NextPiece → ℕ
 slot_next (next.Slot n) = n
 slot_next _ = 0

@@ -1,7 +1,6 @@
 -- The names of the registers differ: each has its own place in the table, by a computed test.
 use Rattle.std.proofs.Common.{◌≤◌, length, map, get_or, nat_le, ◌≡◌, ℕ, zero, suc, ◌+◌, ◌<◌, ◌==◌, Bool, true, false, ◌&&◌, if◌then◌else◌, List, [], ◌∷◌, refl, ap, sym, ◌∙◌, arith, inl, inr, subst}
-use Rattle.std.proofs.lemmas.Bool.{cases_lt, leb-true}
-use Rattle.std.proofs.lemmas.Grind.{common_steps}
+use Rattle.std.proofs.lemmas.Bool.{cases_lt, leb-true, and_parts, eqb-true}
 use Rattle.std.proofs.lemmas.List.{get_or-map, length-map}
 use Rattle.std.specs.Borrow.{Bor}
 use Rattle.x7_regs.specs.Register.{reg_name, reg_name_limit, reg_names, reg_number_count}
@@ -26,22 +25,14 @@ all_stand : stand_in_place 32 ≡ true
 unfolding stand_in_place place_in same_text
 all_stand = refl
 
-both : (a b : Bool) → (a && b) ≡ true → (a ≡ true) × (b ≡ true)
-both true true e = (refl, refl)
-both true false e = absurd (cc)
-both false b e = absurd (cc)
-
-equal_numbers : (a b : ℕ) → (a == b) ≡ true → a ≡ b
-equal_numbers a b e = grind (arith, common_steps)
-
 place_is : (k n : ℕ) → n < k → stand_in_place k ≡ true → place_in reg_names (reg_name n) ≡ n
 unfolding stand_in_place
 place_is zero n h e = absurd (omega arith)
 place_is (suc k) n h e =
-    let parts = both (place_in reg_names (reg_name k) == k) (stand_in_place k) e in
+    let parts = and_parts (place_in reg_names (reg_name k) == k) (stand_in_place k) e in
     elim (cases_lt n k) [
       | inl below ↦ place_is k n below parts.1
-      | inr above ↦ let same : k ≡ n = omega arith in let P : ℕ → Type 0 = λ j. place_in reg_names (reg_name j) ≡ j in subst P same (equal_numbers (place_in reg_names (reg_name k)) k parts.0)
+      | inr above ↦ let same : k ≡ n = omega arith in let P : ℕ → Type 0 = λ j. place_in reg_names (reg_name j) ≡ j in subst P same (eqb-true (place_in reg_names (reg_name k)) k parts.0)
     ]
 
 pub reg_name_distinct : (m n : ℕ) → m < reg_number_count → n < reg_number_count → reg_name m ≡ reg_name n → m ≡ n
@@ -55,8 +46,8 @@ are_short most (x ∷ xs) = nat_le (length x) most && are_short most xs
 short_at : (most : ℕ) (xs : List (List ℕ)) (n : ℕ) → are_short most xs ≡ true → length (get_or xs n []) ≤ most
 unfolding are_short
 short_at most [] n e = omega arith
-short_at most (x ∷ xs) zero e = leb-true _ _ (both (nat_le (length x) most) (are_short most xs) e).0
-short_at most (x ∷ xs) (suc n) e = short_at most xs n (both (nat_le (length x) most) (are_short most xs) e).1
+short_at most (x ∷ xs) zero e = leb-true _ _ (and_parts (nat_le (length x) most) (are_short most xs) e).0
+short_at most (x ∷ xs) (suc n) e = short_at most xs n (and_parts (nat_le (length x) most) (are_short most xs) e).1
 
 pub reg_name_short : (n : ℕ) → length (reg_name n) ≤ reg_name_limit
 unfolding are_short

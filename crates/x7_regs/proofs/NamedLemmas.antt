@@ -1,7 +1,6 @@
 -- Each name stands at its own place in the tables, by a computed test.
-use Rattle.std.proofs.Common.{◌≡◌, ℕ, zero, suc, ◌<◌, ◌==◌, Bool, true, false, ◌&&◌, List, [], ◌∷◌, length, get_or, nat_lt, refl, ap, sym, ◌∙◌, arith, inl, inr, subst}
-use Rattle.std.proofs.lemmas.Bool.{cases_lt}
-use Rattle.std.proofs.lemmas.Grind.{common_steps}
+use Rattle.std.proofs.Common.{◌≡◌, ℕ, zero, suc, ◌<◌, ◌==◌, Bool, true, ◌&&◌, List, [], ◌∷◌, length, get_or, nat_lt, refl, ap, sym, ◌∙◌, arith, inl, inr, subst}
+use Rattle.std.proofs.lemmas.Bool.{cases_lt, and_parts, eqb-true, ltb-true}
 use Rattle.x7_regs.specs.Register.{reg_name, reg_number_count}
 use Rattle.x7_regs.specs.Command.{code_of, command_by, command_code_of, command_name_of}
 use Rattle.x7_regs.specs.Named.{place_of_name}
@@ -15,16 +14,11 @@ unfoldable each : (ℕ → Bool) → ℕ → Bool
 each test zero = true
 each test (suc n) = test n && each test n
 
-both : (a b : Bool) → (a && b) ≡ true → (a ≡ true) × (b ≡ true)
-both true true e = (refl, refl)
-both true false e = absurd (cc)
-both false b e = absurd (cc)
-
 each_holds : (test : ℕ → Bool) (k n : ℕ) → n < k → each test k ≡ true → test n ≡ true
 unfolding each
 each_holds test zero n h e = absurd (omega arith)
 each_holds test (suc k) n h e =
-    let parts = both (test k) (each test k) e in
+    let parts = and_parts (test k) (each test k) e in
     elim (cases_lt n k) [
       | inl below ↦ each_holds test k n below parts.1
       | inr above ↦ let same : k ≡ n = omega arith in let P : ℕ → Type 0 = λ j. test j ≡ true in subst P same parts.0
@@ -38,18 +32,12 @@ all_found : each is_found 32 ≡ true
 unfolding each is_found
 all_found = refl
 
-equal_numbers : (a b : ℕ) → (a == b) ≡ true → a ≡ b
-equal_numbers a b e = grind (arith, common_steps)
-
-less : (a b : ℕ) → nat_lt a b ≡ true → a < b
-less a b e = grind (arith, common_steps)
-
 pub register_place : (n : ℕ) → n < reg_number_count → (get_or REGISTERS (place_of_name (reg_name n)) 0 ≡ n) × (1 < length (reg_name n)) × (length (reg_name n) < 10)
 unfolding is_found
 register_place n h =
-    let parts = both (get_or REGISTERS (place_of_name (reg_name n)) 0 == n) (nat_lt 1 (length (reg_name n)) && nat_lt (length (reg_name n)) 10) (each_holds is_found 32 n h all_found) in
-    let lengths = both (nat_lt 1 (length (reg_name n))) (nat_lt (length (reg_name n)) 10) parts.1 in
-    (equal_numbers _ _ parts.0, less _ _ lengths.0, less _ _ lengths.1)
+    let parts = and_parts (get_or REGISTERS (place_of_name (reg_name n)) 0 == n) (nat_lt 1 (length (reg_name n)) && nat_lt (length (reg_name n)) 10) (each_holds is_found 32 n h all_found) in
+    let lengths = and_parts (nat_lt 1 (length (reg_name n))) (nat_lt (length (reg_name n)) 10) parts.1 in
+    (eqb-true _ _ parts.0, ltb-true _ _ lengths.0, ltb-true _ _ lengths.1)
 
 -- each number of the table is below 32
 unfoldable are_below : List ℕ → Bool
@@ -63,8 +51,8 @@ all_below = refl
 below_at : (xs : List ℕ) (k : ℕ) → are_below xs ≡ true → get_or xs k 0 < reg_number_count
 unfolding are_below
 below_at [] k e = omega arith
-below_at (x ∷ xs) zero e = less x 32 (both (nat_lt x 32) (are_below xs) e).0
-below_at (x ∷ xs) (suc k) e = below_at xs k (both (nat_lt x 32) (are_below xs) e).1
+below_at (x ∷ xs) zero e = ltb-true x 32 (and_parts (nat_lt x 32) (are_below xs) e).0
+below_at (x ∷ xs) (suc k) e = below_at xs k (and_parts (nat_lt x 32) (are_below xs) e).1
 
 pub register_below : (k : ℕ) → get_or REGISTERS k 0 < reg_number_count
 register_below k = below_at REGISTERS k all_below

@@ -1,9 +1,10 @@
 -- The words of a statement, one by one; no statement has more than four.
-use Rattle.std.proofs.Common.{◌≡◌, ℕ, ◌&&◌, ◌||◌, ◌≤◌, Bool, true, false, if◌then◌else◌, List, [], ◌∷◌, ◌++◌, length, take, Option, Some, None, codes, refl, ap, sym, ◌∙◌, append_assoc, append-nil, arith}
+use Rattle.std.proofs.Common.{◌≡◌, ℕ, ◌||◌, ◌≤◌, Bool, true, false, if◌then◌else◌, List, [], ◌∷◌, ◌++◌, length, take, Option, Some, None, codes, refl, ap, sym, ◌∙◌, append_assoc, append-nil, arith}
 use Rattle.std.specs.Char.{to_ascii_lowercase}
 use Rattle.std.specs.List.{list_all}
 use Rattle.std.specs.Prelude.{nat_eq}
 use Rattle.std.proofs.lemmas.Grind.{common_steps}
+use Rattle.std.proofs.lemmas.Bool.{and_left}
 use Rattle.x7_svf.specs.Token.{Token, TokenOnLine, token_of}
 use Rattle.x7_svf.specs.Source.{SourceState, left_after}
 use Rattle.x7_svf.specs.Span.{words_kept}
@@ -75,15 +76,11 @@ free_on m ms e = rw e refl
 other_value : (n : ℕ) → nat_eq n 114 ≡ true → nat_eq n 115 ≡ false
 other_value n h = grind (arith, common_steps)
 
-and_false : (a b : Bool) → a ≡ false → (a && b) ≡ false
-and_false true b e = absurd cc
-and_false false b e = refl
-
 not_state : (k : List ℕ) → is_keyword k (codes "RUNTEST") ≡ true → is_keyword k (codes "STATE") ≡ false
 not_state [] h = refl
 not_state (c ∷ cs) h =
     let parts = both (nat_eq (to_ascii_lowercase c) 114) _ h in
-    and_false (nat_eq (to_ascii_lowercase c) 115) _ (other_value (to_ascii_lowercase c) parts.0)
+    and_left (nat_eq (to_ascii_lowercase c) 115) _ (other_value (to_ascii_lowercase c) parts.0)
 
 second : (a b : Bool) (x y z : Option Statement) → a ≡ false → b ≡ true → (if a then x else (if b then y else z)) ≡ y
 second true b x y z e f = absurd cc

@@ -1,5 +1,5 @@
 -- How many of the first bytes of two blocks are the same, by the mask of those that differ.
-use Rattle.std.proofs.Common.{◌≡◌, ◌==◌, ℕ, zero, suc, ◌+◌, ◌*◌, ◌%◌, ◌^◌, ◌≤◌, ◌-◌, Bool, true, false, not, cond, w8, List, [], ◌∷◌, ◌++◌, drop, get_or, length, take, map, refl, ap, ap₂, sym, ◌∙◌, arith, inl, inr}
+use Rattle.std.proofs.Common.{◌≡◌, ◌==◌, ℕ, zero, suc, ◌+◌, ◌*◌, ◌%◌, ◌^◌, ◌≤◌, ◌-◌, Bool, true, false, not, cond, w8, List, [], ◌∷◌, ◌++◌, drop, get_or, length, take, map, refl, ap, sym, ◌∙◌, arith, inl, inr}
 use Rattle.std.specs.List.{flat_map, prefix_len}
 use Rattle.std.proofs.lemmas.Bool.{cases_eq, eq-eqb, eqb-true}
 use Rattle.std.proofs.lemmas.Grind.{flat_map-append}
@@ -12,7 +12,7 @@ use mir.Val.{bits, hbits}
 use Rattle.x7_words.specs.Word.{AreBytes}
 use Rattle.x7_text.specs.Digits.{hex_byte}
 use Rattle.x7_text.specs.DigitValue.{bytes_value}
-use Rattle.x7_text.proofs.ValueLemmas.{byte_back}
+use Rattle.x7_text.proofs.ValueLemmas.{bytes_value_on}
 use Rattle.x7_text.proofs.WholeLineLemmas.{length_hex_bytes}
 
 -- two bytes differ
@@ -77,15 +77,10 @@ same_most m n k a b p q e f h s =
 
 -- ---- digits that a block begins with
 
--- the bytes of digits, with others after them
-pub value_on : (bs rest : List ℕ) → AreBytes bs → bytes_value (flat_map hex_byte bs ++ rest) ≡ bs ++ bytes_value rest
-value_on [] rest h = refl
-value_on (b ∷ bs) rest h = ap₂ (λ (x : ℕ) (t : List ℕ). x ∷ t) (byte_back b h.0) (value_on bs rest h.1)
-
 pub prefix_back : (block bytes bs : List ℕ) → AreBytes bs → bytes ≡ bytes_value block → take (2 * length bs) block ≡ flat_map hex_byte bs → take (2 * length bs) (flat_map hex_byte bytes) ≡ take (2 * length bs) block
 prefix_back block bytes bs h e f =
     let rest : List ℕ = drop (2 * length bs) block in
     let whole : block ≡ flat_map hex_byte bs ++ drop (2 * length bs) block = sym (take-append-drop (2 * length bs) block) ∙ ap (λ t. t ++ drop (2 * length bs) block) f in
-    let value : bytes ≡ bs ++ bytes_value rest = e ∙ ap bytes_value whole ∙ value_on bs rest h in
+    let value : bytes ≡ bs ++ bytes_value rest = e ∙ ap bytes_value whole ∙ bytes_value_on bs rest h in
     ap (λ t. take (2 * length bs) (flat_map hex_byte t)) value ∙ ap (take (2 * length bs)) (flat_map-append hex_byte bs (bytes_value rest))
     ∙ take_at (flat_map hex_byte bs) (flat_map hex_byte (bytes_value rest)) (2 * length bs) (length_hex_bytes bs) ∙ sym f

@@ -16,8 +16,9 @@ use Rattle.x7_text.proofs.WholeLineLemmas.{length_hex_bytes}
 use Rattle.x7_text.specs.Row.{IsByteRow, IsWordRow}
 use Rattle.x7_text.specs.Reads.{AppendsIfRead}
 use Rattle.x7_text.specs.DigitValue.{bytes_value}
-use Rattle.x7_text.proofs.ValueLemmas.{word_digits}
+use Rattle.x7_text.proofs.ValueLemmas.{word_digits, bytes_value_on}
 use Rattle.x7_text.proofs.DigitLemmas.{refuted}
+use Rattle.x7_text.proofs.FewLemmas.{hex_prefix}
 
 pub length_spaced : (ws : List ℕ) → length (flat_map spaced ws) ≡ 9 * length ws
 length_spaced [] = refl
@@ -54,7 +55,7 @@ pub no_byte_row : (ds p r known : List ℕ) (b : Bool) → take (length ds) p �
 no_byte_row ds p r known b prefix value text off is bs row e =
     let T : List ℕ = drop (length ds) p in
     let whole : p ≡ flat_map hex_byte bs ++ drop (length ds) p = prefix_of ds p prefix ∙ ap (λ t. t ++ drop (length ds) p) e in
-    let read : r ≡ bs ++ bytes_value (drop (length ds) p) = value ∙ ap bytes_value whole ∙ value_on bs (drop (length ds) p) row.0 in
+    let read : r ≡ bs ++ bytes_value (drop (length ds) p) = value ∙ ap bytes_value whole ∙ bytes_value_on bs (drop (length ds) p) row.0 in
     let again : known ≡ ds ++ flat_map hex_byte (bytes_value (drop (length ds) p)) = text ∙ ap (flat_map hex_byte) read ∙ flat_map-append hex_byte bs (bytes_value (drop (length ds) p)) ∙ ap (λ t. t ++ flat_map hex_byte (bytes_value (drop (length ds) p))) (sym e) in
     refuted b off (is (ap (take (length ds)) again ∙ take-append_seam ds (flat_map hex_byte (bytes_value (drop (length ds) p)))))
 
@@ -78,7 +79,7 @@ no_word_row ds p r known m b same prefix long value text off is ws row e =
     let ds_of : flat_map (λ (word : List ℕ). drop 1 word) (first_chunks 9 (length ds / 9) ds) ≡ flat_map hex_byte (flat_map bytes_of_word ws) =
     ap₂ (λ (k : ℕ) (t : List ℕ). flat_map (λ (word : List ℕ). drop 1 word) (first_chunks 9 k t)) count e ∙ digits_of_spaced ws ∙ hex_words ws row.0 in
     let whole : p ≡ flat_map hex_byte (flat_map bytes_of_word ws) ++ T = sym (take-append-drop (8 * (length ds / 9)) p) ∙ ap (λ t. t ++ T) (prefix ∙ ds_of) in
-    let read : words_of_bytes r ≡ ws ++ words_of_bytes (bytes_value T) = ap words_of_bytes (value ∙ ap bytes_value whole ∙ value_on (flat_map bytes_of_word ws) T (bytes_fit ws)) ∙ words_back ws (bytes_value T) row.0 in
+    let read : words_of_bytes r ≡ ws ++ words_of_bytes (bytes_value T) = ap words_of_bytes (value ∙ ap bytes_value whole ∙ bytes_value_on (flat_map bytes_of_word ws) T (bytes_fit ws)) ∙ words_back ws (bytes_value T) row.0 in
     let again : known ≡ ds ++ (flat_map spaced (words_of_bytes (bytes_value T)) ++ 10 ∷ []) =
     text ∙ ap (λ t. flat_map spaced t ++ 10 ∷ []) read ∙ ap (λ t. t ++ 10 ∷ []) (flat_map-append spaced ws (words_of_bytes (bytes_value T)) ∙ ap (λ t. t ++ flat_map spaced (words_of_bytes (bytes_value T))) (sym e)) ∙ append_assoc ds (flat_map spaced (words_of_bytes (bytes_value T))) (10 ∷ []) in
     refuted b off (is (ap (λ (j : ℕ). take j known) same ∙ ap (take (length ds)) again ∙ take-append_seam ds (flat_map spaced (words_of_bytes (bytes_value T)) ++ 10 ∷ [])))

@@ -1,6 +1,6 @@
 -- Rows: all but the last are full, and joined they are the elements.
 use Rattle.std.proofs.Common.{◌≡◌, ℕ, ◌+◌, ◌<◌, ◌==◌, Bool, true, false, if◌then◌else◌, List, [], ◌∷◌, ◌++◌, length, refl, ap, ◌∙◌, append_assoc, arith, length-append, flat_map}
-use Rattle.std.proofs.lemmas.Bool.{eqb-false, eqb-true}
+use Rattle.std.proofs.lemmas.Bool.{eqb-true, eqb-false}
 use Rattle.x7_text.specs.Row.{AreFullButLast, rows_from}
 
 cons_full : (n : ℕ) (r : List ℕ) (rs : List (List ℕ)) → length r ≡ n → 0 < n → AreFullButLast n rs → AreFullButLast n (r ∷ rs)

@@ -1,5 +1,5 @@
 -- Digits lead back to what they are of.
-use Rattle.std.proofs.Common.{◌≡◌, ℕ, ◌+◌, ◌*◌, ◌/◌, ◌%◌, ◌^◌, ◌<◌, List, [], ◌∷◌, refl, ap, ap₂, ◌∙◌, arith}
+use Rattle.std.proofs.Common.{◌≡◌, ℕ, ◌+◌, ◌*◌, ◌/◌, ◌%◌, ◌^◌, ◌<◌, List, [], ◌∷◌, ◌++◌, refl, ap, ap₂, ◌∙◌, arith}
 use Rattle.std.proofs.lemmas.Grind.{common_steps}
 use Rattle.std.specs.List.{flat_map}
 use Rattle.x7_words.specs.Word.{AreBytes, bytes_of_word, word_of_bytes}
@@ -17,6 +17,11 @@ byte_back b h =
 pub bytes_back : (bs : List ℕ) → AreBytes bs → bytes_value (flat_map hex_byte bs) ≡ bs
 bytes_back [] h = refl
 bytes_back (b ∷ bs) h = ap₂ (λ (x : ℕ) (t : List ℕ). x ∷ t) (byte_back b h.0) (bytes_back bs h.1)
+
+-- the bytes of digits, with others after them
+pub bytes_value_on : (bs rest : List ℕ) → AreBytes bs → bytes_value (flat_map hex_byte bs ++ rest) ≡ bs ++ bytes_value rest
+bytes_value_on [] rest h = refl
+bytes_value_on (b ∷ bs) rest h = ap₂ (λ (x : ℕ) (t : List ℕ). x ∷ t) (byte_back b h.0) (bytes_value_on bs rest h.1)
 
 -- the digits of a word are those of its bytes
 pub word_digits : (w : ℕ) → w < 2 ^ 32 → hex_word w ≡ flat_map hex_byte (bytes_of_word w)

@@ -37,7 +37,7 @@ use Rattle.x7_forms.specs.Known.{Answer, Found, Held, Known, and_so, streams_kno
 use Rattle.x7_outcome.specs.Play.{report_of, reported}
 use Rattle.x7_outcome.specs.Outcome.{BootedAs, IsBootText, FlashBoots, FormGives, ImageStreams, PartAndText, PlannedFull, PlannedPartial, PlannedRead, PlayedSvf, gen_answer, has_failed, image_by, image_streams, part_and_text}
 use Rattle.x7_tool.specs.Promise.{BootsFromOpen, HoldsOpen, PromiseOf, PromisesFull, PromisesImage, PromisesImageFor, PromisesPartial, PromisesPlayed, PromisesPort, PromisesRead, PromisesStart, PromisesSummary, StartsChecked}
-use Rattle.x7_device_forms.proofs.GenerateLemmas.{generated_plays, planned_is}
+use Rattle.x7_device_forms.proofs.GenerateLemmas.{plan_of_seed_plays, planned_is}
 
 -- ---- the part that was read is a part
 
@@ -109,7 +109,7 @@ summary_promised known part seed (Err event) answer e p = absurd (cc)
 summary_promised known part seed (Ok device) answer e p = record {
   device = device;
   read = e;
-  plays = generated_plays device seed (part_is known part device e);
+  plays = plan_of_seed_plays device seed (part_is known part device e);
   played = planned_is device seed answer.text (part_is known part device e) (ap (λ (r : Result Answer Event). let a : Answer = value_or answer r in a.text) (sym p));
 }
 

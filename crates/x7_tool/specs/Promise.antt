@@ -22,7 +22,7 @@ use Rattle.x7_jtag.specs.Shown.{bytes_taken, state_shown}
 use Rattle.x7_svf.specs.Svf.{IsSvfOf}
 use Rattle.x7_effects.specs.Played.{PlaysFull, PlaysPartial, PlaysRead, device_after}
 use Rattle.x7_forms.specs.Event.{Event}
-use Rattle.x7_outcome.specs.Generate.{generated, planned_summary}
+use Rattle.x7_outcome.specs.Generate.{plan_of_seed, planned_summary}
 use Rattle.x7_forms.specs.Form.{AskedForm, Booting, Generating, Imaging, ImagingFor, PlanningFull, PlanningPartial, PlanningRead, Playing, PlayingSvf}
 use Rattle.x7_forms.specs.Known.{Answer, Held, Known, streams_known, part_known, stream_limit}
 use Rattle.x7_outcome.specs.Play.{report_of}
@@ -77,7 +77,7 @@ pub record PromisesRead (known : Known) (part : List ℕ) (far n : ℕ) (stream 
 pub record PromisesSummary (known : Known) (part : List ℕ) (seed : ℕ) (text : List ℕ) : Type 0 where
   pub device : PartData
   pub read : part_known known part ≡ Ok device
-  pub plays : PlaysFull (device_after device on_the_bench []) (full_stream device (generated device seed)) (generated device seed)
+  pub plays : PlaysFull (device_after device on_the_bench []) (full_stream device (plan_of_seed device seed)) (plan_of_seed device seed)
   pub played : text ≡ planned_summary device seed
 
 -- The bytes of `image GOLDEN UPDATE`: a flash that begins with them has both streams, for each part whose start address

@@ -1,7 +1,7 @@
 use Rattle.std.proofs.Common.{ap, length, refl, sym, subst}
 use Rattle.x7_memory.specs.Plan.{AreAddressed, PlanData}
 use Rattle.x7_planner.specs.FullStream.{full_stream}
-use Rattle.x7_device_forms.proofs.GenerateLemmas.{gen_is, generated_addressed, planned_is}
+use Rattle.x7_device_forms.proofs.GenerateLemmas.{gen_is, plan_of_seed_is_addressed, planned_is}
 use Rattle.x7_forms.proofs.ResultLemmas.{ok_weaker}
 use Rattle.x7_device_forms.proofs.generate.gen_text.Goals as goal
 
@@ -9,7 +9,7 @@ pub summary_of_plan-requires-clause-width : goal.summary_of_plan-requires-clause
 summary_of_plan-requires-clause-width c = ap (λ (p : PlanData). p.width) c.in_ok-plan.ensures
 
 pub summary_of_plan-requires-clause-addresses : goal.summary_of_plan-requires-clause-addresses
-summary_of_plan-requires-clause-addresses c = subst (λ (p : PlanData). AreAddressed c.args.part.now p.rows) (sym c.in_ok-plan.ensures) (generated_addressed c.args.part.now c.args.seed)
+summary_of_plan-requires-clause-addresses c = subst (λ (p : PlanData). AreAddressed c.args.part.now p.rows) (sym c.in_ok-plan.ensures) (plan_of_seed_is_addressed c.args.part.now c.args.seed)
 
 pub returns-clause-text : goal.returns-clause-text
 returns-clause-text c =

@@ -158,9 +158,9 @@ write_listed c d synced s2 line l2 from register w held h2 text text2 given befo
     took_run c x.middle (Head (type1_write_header register 1) (Open register 1)) synced true line 0 held [] text next given before bytes head s x.head tt
     (by_head (Head (type1_write_header register 1) (Open register 1)) synced true line 0 from held [] given text next (type1_write_header register 1) (Open register 1) refl same refl refl refl) in
     let two : HasListedJust (lister_of d s2 l2 h2 text2) given before ((bytes ++ head) ++ bytes_of_word w) =
-    took_run x.middle d (Word register w) true s2 0 l2 [] h2 next text2 given before (bytes ++ head) (bytes_of_word w) one x.word x.range
+    took_run x.middle d (Word register w) true s2 0 l2 [] h2 next text2 given before (bytes ++ head) (bytes_of_word w) one x.word x.begins.range
     (by_word (Word register w) true s2 0 l2 0 [] h2 given next text2 register w refl (λ k. refl) e f (t ∙ sym (append_assoc text (close from ++ H) D))) in
-    subst (HasListedJust (lister_of d s2 l2 h2 text2) given before) (append_assoc bytes head (bytes_of_word w) ∙ ap (λ k. bytes ++ k) (sym x.bytes)) two
+    subst (HasListedJust (lister_of d s2 l2 h2 text2) given before) (append_assoc bytes head (bytes_of_word w) ∙ ap (λ k. bytes ++ k) (sym x.begins.are)) two
 
 -- a write of a few words: `lent` is any slice
 pub short_listed : (c d : CutterState) (synced s2 : Bool) (line l2 from register count : ℕ) (held h2 text text2 given before bytes rest ws : List ℕ) (lent : Bor (List ℕ)) → WritesShort c d rest register count → ws ≡ words_of_bytes (take (4 * count) (drop 4 rest))

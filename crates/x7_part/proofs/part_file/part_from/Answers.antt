@@ -38,8 +38,8 @@ returns-in_err-rows-clause-fault c =
     (or_memory _ _ _ (λ e. sym (passes _ _ _ c.in_ok-check_tables.ensures (passes _ _ _ c.in_ok-check_tables-2.ensures
     (stops _ _ _ (passes _ _ _ c.in_ok-check_top_ranges.ensures (stops _ _ _ (sym e))))))) c.in_err-rows.ensures.fault)
 
-pub settings_of-settings-requires : goal.settings_of-settings-requires
-settings_of-settings-requires c = sym c.in_ok-check_top_ranges.ensures
+pub settings_in-settings-requires : goal.settings_in-settings-requires
+settings_in-settings-requires c = sym c.in_ok-check_top_ranges.ensures
 
 pub check_rows-requires-clause-rows : goal.check_rows-requires-clause-rows
 check_rows-requires-clause-rows c = rw (c.deref.ensures.value, c.in_ok-rows.ensures.value) (few_rows (table_view c.args.table.now) c.in_ok-check_top_ranges.ensures)
@@ -50,7 +50,7 @@ returns-in_err-check_rows-clause-fault c =
     let t = table_view c.args.table.now in
     let pass : Passed t = record { types = c.in_ok-check_tables.ensures; others = c.in_ok-check_tables-2.ensures; before = c.in_ok-check_top_ranges.ensures; each = c.in_ok-rows.ensures.fault } in
     let rows = c.deref.ensures.value ∙ c.in_ok-rows.ensures.value in
-    let wide = sym (c.from.ensures ∙ ap (λ s. s.frame_words) c.settings_of-settings.ensures) in
+    let wide = sym (c.from.ensures ∙ ap (λ s. s.frame_words) c.settings_in-settings.ensures) in
     let found = c.in_err-check_rows.ensures (part_with t (rows_in_file t)) wide (sym rows) ∙ ap (λ rs. first_of (same_row_fault [] rs ∷ frames_fault (part_with t (rows_in_file t)) ∷ [])) rows in
     due_from c.from_residual-in_err-check_rows.result c.in_err-check_rows.field-0.0 _ c.from_residual-in_err-check_rows.ensures (found ∙ sym (rest_is t pass))
 
@@ -60,7 +60,7 @@ whole c =
     let t = table_view c.args.table.now in
     let pass : Passed t = record { types = c.in_ok-check_tables.ensures; others = c.in_ok-check_tables-2.ensures; before = c.in_ok-check_top_ranges.ensures; each = c.in_ok-rows.ensures.fault } in
     let rows = c.deref.ensures.value ∙ c.in_ok-rows.ensures.value in
-    let wide = sym (c.from.ensures ∙ ap (λ s. s.frame_words) c.settings_of-settings.ensures) in
+    let wide = sym (c.from.ensures ∙ ap (λ s. s.frame_words) c.settings_in-settings.ensures) in
     let found = c.in_ok-check_rows.ensures (part_with t (rows_in_file t)) wide (sym rows) ∙ ap (λ rs. first_of (same_row_fault [] rs ∷ frames_fault (part_with t (rows_in_file t)) ∷ [])) rows in
     whole_is t pass found
 
@@ -71,7 +71,7 @@ pub of-requires-clause-apart : goal.of-requires-clause-apart
 of-requires-clause-apart c = rw c.in_ok-rows.ensures.value (whole c).apart
 
 pub of-requires-clause-part : goal.of-requires-clause-part
-of-requires-clause-part c = subst IsPart (sym (same_part _ _ _ _ (c.in_ok-name.ensures.ok ∙ c.text.ensures) c.settings_of-settings.ensures c.in_ok-rows.ensures.value)) (whole c).part
+of-requires-clause-part c = subst IsPart (sym (same_part _ _ _ _ (c.in_ok-name.ensures.ok ∙ c.text.ensures) c.settings_in-settings.ensures c.in_ok-rows.ensures.value)) (whole c).part
 
 pub returns-clause-fault : goal.returns-clause-fault
 unfolding type_fault other_fault
@@ -79,9 +79,9 @@ returns-clause-fault c =
     let t = table_view c.args.table.now in
     let pass : Passed t = record { types = c.in_ok-check_tables.ensures; others = c.in_ok-check_tables-2.ensures; before = c.in_ok-check_top_ranges.ensures; each = c.in_ok-rows.ensures.fault } in
     let rows = c.deref.ensures.value ∙ c.in_ok-rows.ensures.value in
-    let wide = sym (c.from.ensures ∙ ap (λ s. s.frame_words) c.settings_of-settings.ensures) in
+    let wide = sym (c.from.ensures ∙ ap (λ s. s.frame_words) c.settings_in-settings.ensures) in
     let found = c.in_ok-check_rows.ensures (part_with t (rows_in_file t)) wide (sym rows) ∙ ap (λ rs. first_of (same_row_fault [] rs ∷ frames_fault (part_with t (rows_in_file t)) ∷ [])) rows in
     (whole_is t pass found).none
 
 pub returns-clause-part : goal.returns-clause-part
-returns-clause-part c = c.in_ok-of.ensures ∙ same_part _ _ _ _ (c.in_ok-name.ensures.ok ∙ c.text.ensures) c.settings_of-settings.ensures c.in_ok-rows.ensures.value
+returns-clause-part c = c.in_ok-of.ensures ∙ same_part _ _ _ _ (c.in_ok-name.ensures.ok ∙ c.text.ensures) c.settings_in-settings.ensures c.in_ok-rows.ensures.value

@@ -19,13 +19,13 @@ returns c =
     c.check_ranges.ensures
     ∙ top_tests (table_view c.args.table.now) _ _ _ _ _ _ _ _ _ _ (record {
       name_is = c.is_name.ensures ∙ ap is_name c.text.ensures;
-      idcode_is = c.has_idcode.ensures;
+      idcode_is = c.is_idcode_in_range.ensures;
       mode_is = c.is_up_to.ensures;
       bus_width_is = c.is_up_to-2.ensures;
       lock_is = c.is_up_to-3.ensures;
       matched_is = c.is_up_to-4.ensures;
-      words_is = c.has_frame_words.ensures;
+      words_is = c.are_frame_words_in_range.ensures;
       widths_is = c.is_some.ensures ∙ c.widths_in.ensures.exactly_where;
-      start_unit_is = c.has_start_unit.ensures;
+      start_unit_is = c.is_start_unit_in_range.ensures;
       rows_is = c.is_length_in.ensures ∙ many (table_view c.args.table.now) c.items_under-row_count.result.now c.requires c.items_under-row_count.ensures;
     })

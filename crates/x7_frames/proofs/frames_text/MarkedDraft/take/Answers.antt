@@ -1,4 +1,5 @@
 use Rattle.std.proofs.Common.{◌≡◌, ◌∙◌, ◌++◌, [], ◌∷◌, ℕ, List, false, inr, refl, sym, subst, ap, length, arith}
+use Rattle.x7_text.proofs.LineReaderLemmas.{each_fault}
 use Rattle.std.specs.Prelude.{Contains}
 use Rattle.std.proofs.lemmas.Bool.{false≢true}
 use Rattle.std.proofs.lemmas.List.{get_or_default}
@@ -10,7 +11,6 @@ use Rattle.x7_frames.specs.declared.fault.FramesFault.{FramesFault}
 use Rattle.x7_frames.specs.declared.fault.FramesFault.TheVariants as fault
 use Rattle.x7_frames.proofs.LineLemmas.{frame_long}
 use Rattle.x7_frames.proofs.GoodLemmas.{marks_more}
-use Rattle.x7_frames.proofs.FrameLinesLemmas.{all_err}
 use Rattle.x7_frames.proofs.frames_text.MarkedDraft.take.Goals as goal
 
 pub returns-in_default-clause-fault : goal.returns-in_default-clause-fault
@@ -74,7 +74,7 @@ returns-in_err-push-clause-memory c =
     let at = c.in-Some-rank.ensures.found in
     let long = c.requires.marks.long in
     let row : PlanRow = record { far = c.in-Some.far; words = c.read_frame.new.frame.items } in
-    all_err c.from_residual.result (λ (f : FramesFault). f ≡ fault.NoMemory → IsGoodLine c.args.part.now rows c.args.line.now) (λ f e. (
+    each_fault c.from_residual.result (λ (f : FramesFault). f ≡ fault.NoMemory → IsGoodLine c.args.part.now rows c.args.line.now) (λ f e. (
       rows ++ row ∷ [],
       inr record {
         row = row;

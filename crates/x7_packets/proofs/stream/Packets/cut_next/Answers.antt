@@ -1,4 +1,4 @@
-use Rattle.std.proofs.Common.{refl, subst, ◌+◌, ◌≤◌}
+use Rattle.std.proofs.Common.{refl, subst, ◌+◌, ◌≤◌, sym, ◌∙◌}
 use Rattle.x7_packets.specs.Cutter.{CutsRun, between}
 use Rattle.x7_packets.proofs.StreamLemmas.{cuts_whole, left_after, taken_of, within_piece}
 use Rattle.x7_packets.proofs.stream.Packets.cut_next.Goals as goal
@@ -13,7 +13,7 @@ returns-in-Some c =
       run = c.cut.result;
       count = c.cut.new.at;
       cuts = subst (λ t. CutsRun i.cutter c.cut.new.self (between t i.at i.end) c.cut.new.at c.cut.result) c.deref.ensures.value (cuts_whole i.cutter c.cut.new.self piece c.cut.new.at c.cut.result e.nearer e.need e.joined e.run e.lent e.skips e.adds);
-      kept = c.keeps_the_tail.ensures;
+      kept = λ bytes sessions place stands. sym c.kept-tail.ensures.kept ∙ c.kept-tail.ensures.tail bytes sessions place stands;
       left = left_after i.buffer.items i.at i.end c.cut.new.at within;
       bytes = taken_of i.buffer.items i.at i.end c.cut.new.at within;
       is = c.in-Some.ensures.found;
@@ -32,7 +32,7 @@ returns-in-None c =
       run = c.cut.result;
       count = c.cut.new.at;
       cuts = subst (λ t. CutsRun i.cutter c.cut.new.self (between t i.at i.end) c.cut.new.at c.cut.result) c.deref.ensures.value (cuts_whole i.cutter c.cut.new.self piece c.cut.new.at c.cut.result e.nearer e.need e.joined e.run e.lent e.skips e.adds);
-      kept = c.keeps_the_tail.ensures;
+      kept = λ bytes sessions place stands. sym c.kept-tail.ensures.kept ∙ c.kept-tail.ensures.tail bytes sessions place stands;
       left = left_after i.buffer.items i.at i.end c.cut.new.at within;
       bytes = taken_of i.buffer.items i.at i.end c.cut.new.at within;
       is = c.in-None.ensures.need;

@@ -1,7 +1,7 @@
 use Rattle.std.proofs.Common.{◌≡◌, ◌^◌, ◌<◌, [], ◌++◌, ◌∙◌, MatchOption, MatchResult, append_assoc, length, arith, ap, sym, subst}
 use Rattle.x7_text.specs.LineReader.{FailsFrom, StandsFor, TakesPrefix}
-use Rattle.std.proofs.lemmas.List.{nil_from_length}
 use Rattle.std.proofs.lemmas.Result.{err_from_is_err_and}
+use Rattle.std.proofs.lemmas.List.{nil_from_length}
 use Rattle.x7_text.proofs.line_reader.LineReader.take.Goals as goal
 
 pub returns-then-is_empty-clause-read : goal.returns-then-is_empty-clause-read

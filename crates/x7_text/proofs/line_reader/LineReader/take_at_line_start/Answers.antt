@@ -1,8 +1,8 @@
 use Rattle.std.proofs.Common.{◌≡◌, ◌++◌, ◌∙◌, inl, inr, length, length-append, arith, ap, sym, subst}
 use Rattle.x7_text.specs.LineReader.{ReaderState, StandsFor, TakesWhole}
-use Rattle.std.proofs.lemmas.List.{nil_from_length}
 use Rattle.x7_text.proofs.LineReaderLemmas.{few_lines, lines_fail, lines_taken, view_count, view_took}
 use Rattle.std.proofs.lemmas.Result.{err_from_is_err_and}
+use Rattle.std.proofs.lemmas.List.{nil_from_length}
 use Rattle.x7_text.proofs.line_reader.LineReader.take_at_line_start.Goals as goal
 
 pub returns-in_err-rest-clause-read : goal.returns-in_err-rest-clause-read

@@ -8,7 +8,7 @@ pub returns-in-Some-clause-takes : goal.returns-in-Some-clause-takes
 returns-in-Some-clause-takes c =
     let w = c.in-Some.ensures.writes in
     let size = c.put_one_write.ensures.size in
-    put_within _ _ c.args.rest.now _ _ _ 42 (omega (arith, size)) (omega (arith, size, w.whole)) (omega (arith, ap length w.none_kept)) c.put_one_write.ensures.within (omega (arith, size)) (omega arith)
+    put_within _ _ c.args.rest.now _ _ _ 42 (omega (arith, size)) (omega (arith, size, w.begins.whole)) (omega (arith, ap length w.none_kept)) c.put_one_write.ensures.within (omega (arith, size)) (omega arith)
 
 pub returns-in-Some-clause-listed : goal.returns-in-Some-clause-listed
 returns-in-Some-clause-listed c =

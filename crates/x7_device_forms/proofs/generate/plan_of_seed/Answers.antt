@@ -2,9 +2,9 @@ use Rattle.std.proofs.Common.{◌≡◌, ◌≤◌, ◌++◌, ℕ, List, length,
 use Rattle.x7_part.specs.AddressOrder.{addresses_in}
 use Rattle.x7_part.specs.Part.{frame_words}
 use Rattle.x7_memory.specs.Plan.{AreApart, PlanRow}
-use Rattle.x7_outcome.specs.Generate.{generated, row_by, rows_after}
+use Rattle.x7_outcome.specs.Generate.{plan_of_seed, row_by, rows_after}
 use Rattle.x7_device_forms.proofs.GenerateLemmas.{plan_is, rows_all, rows_apart, rows_more}
-use Rattle.x7_device_forms.proofs.generate.generated.Goals as goal
+use Rattle.x7_device_forms.proofs.generate.plan_of_seed.Goals as goal
 
 pub loop-rank-preserved : goal.loop-rank-preserved
 loop-rank-preserved c =
@@ -19,7 +19,7 @@ loop-rank-preserved c =
       room = c.push_row.ensures.room ∙ v.room;
       width = c.push_row.ensures.width ∙ v.width;
       rows = ap (λ (n : ℕ). c.push_row.new.draft.rows ++ rows_after (frame_words part) n (drop (c.loop-rank.rank + 1) (addresses_in part))) c.next_number-number.ensures
-          ∙ rows_more (frame_words part) c.loop-rank.number c.loop-rank.rank c.in-Some.far (addresses_in part) prefix c.push_row.new.draft.rows (generated part c.args.seed).rows found.0 found.1 now v.rows;
+          ∙ rows_more (frame_words part) c.loop-rank.number c.loop-rank.rank c.in-Some.far (addresses_in part) prefix c.push_row.new.draft.rows (plan_of_seed part c.args.seed).rows found.0 found.1 now v.rows;
     }
 
 pub finish-requires : goal.finish-requires
@@ -27,7 +27,7 @@ finish-requires c =
     let part = c.args.part.now in
     let v = c.loop-rank.invariant in
     let long : length (addresses_in part) ≤ c.loop-rank.rank = omega (arith, c.loop-rank-test.false, c.frames-rank-end.ensures.value) in
-    let rows : c.loop-rank.draft.rows ≡ (generated part c.args.seed).rows = rows_all (frame_words part) c.loop-rank.number c.loop-rank.rank (addresses_in part) c.loop-rank.draft.rows (generated part c.args.seed).rows long v.rows in
+    let rows : c.loop-rank.draft.rows ≡ (plan_of_seed part c.args.seed).rows = rows_all (frame_words part) c.loop-rank.number c.loop-rank.rank (addresses_in part) c.loop-rank.draft.rows (plan_of_seed part c.args.seed).rows long v.rows in
     record { apart = subst (λ (t : List PlanRow). AreApart t) (sym rows) (rows_apart part c.args.seed c.frames-rank-end.ensures.order) }
 
 pub returns : goal.returns
@@ -35,5 +35,5 @@ returns c =
     let part = c.args.part.now in
     let v = c.loop-rank.invariant in
     let long : length (addresses_in part) ≤ c.loop-rank.rank = omega (arith, c.loop-rank-test.false, c.frames-rank-end.ensures.value) in
-    let rows : c.loop-rank.draft.rows ≡ (generated part c.args.seed).rows = rows_all (frame_words part) c.loop-rank.number c.loop-rank.rank (addresses_in part) c.loop-rank.draft.rows (generated part c.args.seed).rows long v.rows in
+    let rows : c.loop-rank.draft.rows ≡ (plan_of_seed part c.args.seed).rows = rows_all (frame_words part) c.loop-rank.number c.loop-rank.rank (addresses_in part) c.loop-rank.draft.rows (plan_of_seed part c.args.seed).rows long v.rows in
     plan_is part c.args.seed c.loop-rank.draft c.finish.result c.frames-rank-end.ensures.order rows v.width c.finish.ensures.width c.finish.ensures.same_rows c.finish.ensures.plan

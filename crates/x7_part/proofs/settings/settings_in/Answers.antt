@@ -2,7 +2,7 @@ use Rattle.std.proofs.Common.{◌∙◌}
 use Rattle.std.proofs.lemmas.Bool.{false≢true}
 use Rattle.toml.specs.View.{table_view}
 use Rattle.x7_part.proofs.RangeLemmas.{top_ranges, unit_most}
-use Rattle.x7_part.proofs.settings.settings_of.Goals as goal
+use Rattle.x7_part.proofs.settings.settings_in.Goals as goal
 
 pub unreachable-requires : goal.unreachable-requires
 unreachable-requires c = false≢true (c.in_default.ensures.exactly_where ∙ (top_ranges (table_view c.args.table.now) c.requires).widths)
