@@ -1,7 +1,7 @@
 -- What the steps of a play come to. A player is over once its device has read out more words than a play may (this
 -- project's choice).
 use Rattle.std.specs.Prelude.{◌≡◌, ◌+◌, ◌<◌, ◌≤◌, ◌⊎◌, ◌++◌, ℕ, List, [], Some, Bool, true, false, IsSome, length, Result, Ok}
-use Rattle.x7_words.specs.Input.{InputsState, taken_bytes_limit}
+use Rattle.x7_words.specs.Input.{AsksAtMost, InputsState, InputsStay, taken_bytes_limit}
 use Rattle.x7_words.specs.Word.{AreBytes}
 use Rattle.x7_part.specs.Part.{PartData}
 use Rattle.x7_engine.specs.Kept.{on_the_bench}
@@ -11,6 +11,7 @@ use Rattle.x7_engine.specs.State.{reads_of, first_stop_of_bytes}
 use Rattle.x7_forms.specs.Event.{Event}
 use Rattle.x7_forms.specs.Known.{reads_limit, StreamRead}
 use Rattle.x7_forms.specs.Step.{ReadsStreams}
+use Rattle.x7_forms.specs.Turn.{GivesWithinLimit, IsLastAsked}
 use Rattle.x7_playing.specs.declared.player.Player.{Player}
 
 -- A device was given these bytes, and took all of them, or those up to its stop; `reads` are the words read out,
@@ -104,3 +105,16 @@ pub record PlaysStream (limit left : ℕ) (WerePlayed : List ℕ → Type 0) (Is
   pub within : length bytes + left ≤ limit
   pub plays : WerePlayed bytes
   pub reads : IsRead (Ok (record { bytes = bytes; room = left }))
+
+-- the input of a name was asked for once, as the last one, and at most `limit` bytes of it and one more were given
+pub record AsksForStream (old : InputsState) (name : List ℕ) (limit : ℕ) (new : InputsState) : Type 0 where
+  pub last : IsLastAsked name limit new
+  pub once : AsksAtMost old 1 new
+  pub inputs : InputsStay old new
+
+-- at most `limit` bytes of the rest of the open input and one more were given, and no end was read where `last` says that
+-- there is no rest
+pub record TakesRest (old : InputsState) (limit : ℕ) (last : Bool) (new : InputsState) : Type 0 where
+  pub gives_few : GivesWithinLimit old limit new
+  pub no_end_read : last ≡ true → new.ends ≤ old.ends
+  pub inputs : InputsStay old new

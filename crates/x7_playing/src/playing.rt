@@ -3,8 +3,8 @@ ghost use Rattle.std.specs.Prelude.{◌≡◌, ℕ, List, [], ◌∷◌, ◌+◌
 ghost use Rattle.x7_words.specs.Input.{AsksAtMost, AtEnd, InputsStay};
 ghost use Rattle.x7_forms.specs.Event.{event_of, no_memory};
 ghost use Rattle.x7_forms.specs.Known.{stream_limit};
-ghost use Rattle.x7_playing.specs.Playing.{MayPlay, PlaysOn, PlaysRest, PlaysStream, PlaysStreams};
-ghost use Rattle.x7_forms.specs.Turn.{GivesWithinLimit, IsLastAsked, ReadsRest, UnreadRest, play_turn_size};
+ghost use Rattle.x7_playing.specs.Playing.{AsksForStream, MayPlay, PlaysOn, PlaysRest, PlaysStream, PlaysStreams, TakesRest};
+ghost use Rattle.x7_forms.specs.Turn.{ReadsRest, UnreadRest, play_turn_size};
 ghost use Rattle.x7_forms.specs.ReadingStops.{StopsAmong, limited_together};
 ghost use Rattle.x7_forms.specs.Step.{IsOneUnplayed, IsUnplayed, ReadsStream, ReadsStreams};
 
@@ -34,10 +34,8 @@ fn play_rest<'w, I: Inputs>(
     requires may_play { MayPlay player.old limit }
     ensures played { IfOk result (λ left. PlaysRest limit left (PlaysOn player.old player.new) (ReadsRest (I.state inputs.old) (I.state inputs.new))) }
     ensures refused { IfErr result (λ r. (event_of r ≡ no_memory) ⊎ UnreadRest (I.state inputs.old) name.now (I.state inputs.new) limit (event_of r)) }
+    ensures takes { TakesRest (I.state inputs.old) limit last (I.state inputs.new) }
     ensures length { length piece.new ≡ length piece.old }
-    ensures gives_few { GivesWithinLimit (I.state inputs.old) limit (I.state inputs.new) }
-    ensures no_end_read { last ≡ true → (I.state inputs.new).ends ≤ (I.state inputs.old).ends }
-    ensures inputs { InputsStay (I.state inputs.old) (I.state inputs.new) }
 {
     if last {
         return Ok(limit);
@@ -69,10 +67,8 @@ fn play_stream<'w, I: Inputs>(
     ensures played { IfOk result (λ left. PlaysStream limit left (PlaysOn player.old player.new) (ReadsStream (I.state inputs.old) (I.state inputs.new) limit name.now)) }
     ensures refused { IfErr result (λ r. ReadsStream (I.state inputs.old) (I.state inputs.new) limit name.now (Err (event_of r))) }
     ensures named { IfErr result (λ r. IsUnplayed name.now (event_of r)) }
-    ensures last_asked { IsLastAsked name.now limit (I.state inputs.new) }
-    ensures asks { AsksAtMost (I.state inputs.old) 1 (I.state inputs.new) }
+    ensures asked { AsksForStream (I.state inputs.old) name.now limit (I.state inputs.new) }
     ensures length { length piece.new ≡ length piece.old }
-    ensures inputs { InputsStay (I.state inputs.old) (I.state inputs.new) }
 {
     open(inputs, name)?;
     let first = next_turn(inputs, name, limit, piece)?;
@@ -92,8 +88,8 @@ fn play_stream<'w, I: Inputs>(
     }
 }
 
-/// Plays the data of streams on a new device of the part, one after the other. The streams are
-/// within the limit of one stream together, headers included.
+/// Plays the data of streams on a new device of the part, one after the other. The streams are within the limit of one
+/// stream together, headers included.
 pub fn play_streams<'w, I: Inputs>(
     alloc: Global,
     part: &Part,

@@ -61,26 +61,35 @@ loop-turn-init g c = record {
   known = ([], (omega arith, on_none c.args.player.now, reads_none (g.I.Inputs.state c.args.inputs.now) c.requires.selected));
 }
 
-pub returns-in_err-turn-clause-gives_few : goal.returns-in_err-turn-clause-gives_few
-returns-in_err-turn-clause-gives_few g c =
+pub returns-in_err-turn-clause-takes : goal.returns-in_err-turn-clause-takes
+returns-in_err-turn-clause-takes g c =
     let i = g.I.Inputs in
     let v = c.loop-turn.invariant in
-    gives_on (i.state c.args.inputs.now) (i.state c.loop-turn.inputs) (i.state c.next_turn.new.inputs) v.known.0 c.args.limit c.loop-turn.left v.known.1.2 v.known.1.0 v.ends c.next_turn.ensures.gives_few
+    record {
+      gives_few = gives_on (i.state c.args.inputs.now) (i.state c.loop-turn.inputs) (i.state c.next_turn.new.inputs) v.known.0 c.args.limit c.loop-turn.left v.known.1.2 v.known.1.0 v.ends c.next_turn.ensures.gives_few;
+      no_end_read = λ e. let never : false ≡ true = sym c.if-last.false ∙ e in absurd cc;
+      inputs = stays_on _ _ _ c.loop-turn.invariant.inputs c.next_turn.ensures.inputs;
+    }
 
-pub returns-then-turn-clause-gives_few : goal.returns-then-turn-clause-gives_few
-returns-then-turn-clause-gives_few g c =
+pub returns-then-turn-clause-takes : goal.returns-then-turn-clause-takes
+returns-then-turn-clause-takes g c =
     let i = g.I.Inputs in
     let v = c.loop-turn.invariant in
-    gives_on (i.state c.args.inputs.now) (i.state c.loop-turn.inputs) (i.state c.next_turn.new.inputs) v.known.0 c.args.limit c.loop-turn.left v.known.1.2 v.known.1.0 v.ends c.next_turn.ensures.gives_few
+    record {
+      gives_few = gives_on (i.state c.args.inputs.now) (i.state c.loop-turn.inputs) (i.state c.next_turn.new.inputs) v.known.0 c.args.limit c.loop-turn.left v.known.1.2 v.known.1.0 v.ends c.next_turn.ensures.gives_few;
+      no_end_read = λ e. let never : false ≡ true = sym c.if-last.false ∙ e in absurd cc;
+      inputs = stays_on _ _ _ c.loop-turn.invariant.inputs c.next_turn.ensures.inputs;
+    }
 
-pub returns-in_err-turn-clause-no_end_read : goal.returns-in_err-turn-clause-no_end_read
-returns-in_err-turn-clause-no_end_read g c = λ e. let never : false ≡ true = sym c.if-last.false ∙ e in absurd cc
-
-pub returns-then-is_err-clause-no_end_read : goal.returns-then-is_err-clause-no_end_read
-returns-then-is_err-clause-no_end_read g c = λ e. let never : false ≡ true = sym c.if-last.false ∙ e in absurd cc
-
-pub returns-then-turn-clause-no_end_read : goal.returns-then-turn-clause-no_end_read
-returns-then-turn-clause-no_end_read g c = λ e. let never : false ≡ true = sym c.if-last.false ∙ e in absurd cc
+pub returns-then-is_err-clause-takes : goal.returns-then-is_err-clause-takes
+returns-then-is_err-clause-takes g c =
+    let i = g.I.Inputs in
+    let v = c.loop-turn.invariant in
+    record {
+      gives_few = gives_on (i.state c.args.inputs.now) (i.state c.loop-turn.inputs) (i.state c.next_turn.new.inputs) v.known.0 c.args.limit c.loop-turn.left v.known.1.2 v.known.1.0 v.ends c.next_turn.ensures.gives_few;
+      no_end_read = λ e. let never : false ≡ true = sym c.if-last.false ∙ e in absurd cc;
+      inputs = stays_on _ _ _ c.loop-turn.invariant.inputs c.next_turn.ensures.inputs;
+    }
 
 pub loop-turn-smaller : goal.loop-turn-smaller
 loop-turn-smaller g c = omega (arith, c.in_ok-turn.ensures.fills c.if-turn.false, c.loop-turn.invariant.piece, c.in_ok-turn.ensures.within.0)
@@ -94,23 +103,8 @@ next_turn-requires-clause-selected g c = c.loop-turn.invariant.selected
 pub overflow_sub-left : goal.overflow_sub-left
 overflow_sub-left g c = c.in_ok-turn.ensures.within.0
 
-pub returns-in_err-turn-clause-inputs : goal.returns-in_err-turn-clause-inputs
-returns-in_err-turn-clause-inputs g c = stays_on _ _ _ c.loop-turn.invariant.inputs c.next_turn.ensures.inputs
-
-pub returns-then-is_err-clause-inputs : goal.returns-then-is_err-clause-inputs
-returns-then-is_err-clause-inputs g c = stays_on _ _ _ c.loop-turn.invariant.inputs c.next_turn.ensures.inputs
-
-pub returns-then-turn-clause-inputs : goal.returns-then-turn-clause-inputs
-returns-then-turn-clause-inputs g c = stays_on _ _ _ c.loop-turn.invariant.inputs c.next_turn.ensures.inputs
-
 pub returns-in_err-turn-clause-length : goal.returns-in_err-turn-clause-length
 returns-in_err-turn-clause-length g c = c.next_turn.ensures.length ∙ c.loop-turn.invariant.piece ∙ sym c.requires.buffer
-
-pub returns-then-is_err-clause-gives_few : goal.returns-then-is_err-clause-gives_few
-returns-then-is_err-clause-gives_few g c =
-    let i = g.I.Inputs in
-    let v = c.loop-turn.invariant in
-    gives_on (i.state c.args.inputs.now) (i.state c.loop-turn.inputs) (i.state c.next_turn.new.inputs) v.known.0 c.args.limit c.loop-turn.left v.known.1.2 v.known.1.0 v.ends c.next_turn.ensures.gives_few
 
 pub slice_bounds-play-end-in-loop-turn : goal.slice_bounds-play-end-in-loop-turn
 slice_bounds-play-end-in-loop-turn g c =

@@ -132,83 +132,68 @@ pub returns-in_ok-skip_rest-in-Err-clause-named : goal.returns-in_ok-skip_rest-i
 returns-in_ok-skip_rest-in-Err-clause-named g c =
     header_refused c.args.name.now (take c.in_ok-first.first.count c.next_turn.new.buffer) (event_of c.in-Err.refusal) c.in-Err.ensures.data
 
-pub returns-in_err-open-clause-last_asked : goal.returns-in_err-open-clause-last_asked
-returns-in_err-open-clause-last_asked g c = last_asked_opened c.args.name.now c.args.limit (g.I.Inputs.state c.open.new.inputs) c.open.ensures.asks
+pub returns-in_err-open-clause-asked : goal.returns-in_err-open-clause-asked
+returns-in_err-open-clause-asked g c = record {
+  last = last_asked_opened c.args.name.now c.args.limit (g.I.Inputs.state c.open.new.inputs) c.open.ensures.asks;
+  once = few_once (g.I.Inputs.state c.args.inputs.now) (g.I.Inputs.state c.open.new.inputs) c.open.ensures.once;
+  inputs = c.open.ensures.inputs;
+}
 
-pub returns-in_err-first-clause-last_asked : goal.returns-in_err-first-clause-last_asked
-returns-in_err-first-clause-last_asked g c = last_asked_read c.args.name.now c.args.limit (g.I.Inputs.state c.open.new.inputs) (g.I.Inputs.state c.next_turn.new.inputs) c.open.ensures.asks c.next_turn.ensures.gives_few
+pub returns-in_err-first-clause-asked : goal.returns-in_err-first-clause-asked
+returns-in_err-first-clause-asked g c = record {
+  last = last_asked_read c.args.name.now c.args.limit (g.I.Inputs.state c.open.new.inputs) (g.I.Inputs.state c.next_turn.new.inputs) c.open.ensures.asks c.next_turn.ensures.gives_few;
+  once = few_read (g.I.Inputs.state c.args.inputs.now) (g.I.Inputs.state c.open.new.inputs) (g.I.Inputs.state c.next_turn.new.inputs) c.args.limit c.open.ensures.once c.next_turn.ensures.gives_few;
+  inputs = stays_on _ _ _ c.open.ensures.inputs c.next_turn.ensures.inputs;
+}
 
-pub returns-in_err-first-clause-asks : goal.returns-in_err-first-clause-asks
-returns-in_err-first-clause-asks g c = few_read (g.I.Inputs.state c.args.inputs.now) (g.I.Inputs.state c.open.new.inputs) (g.I.Inputs.state c.next_turn.new.inputs) c.args.limit c.open.ensures.once c.next_turn.ensures.gives_few
+pub returns-then-is_err-clause-asked : goal.returns-then-is_err-clause-asked
+returns-then-is_err-clause-asked g c = record {
+  last = last_asked_read c.args.name.now c.args.limit (g.I.Inputs.state c.open.new.inputs) (g.I.Inputs.state c.next_turn.new.inputs) c.open.ensures.asks c.next_turn.ensures.gives_few;
+  once = few_read (g.I.Inputs.state c.args.inputs.now) (g.I.Inputs.state c.open.new.inputs) (g.I.Inputs.state c.next_turn.new.inputs) c.args.limit c.open.ensures.once c.next_turn.ensures.gives_few;
+  inputs = stays_on _ _ _ c.open.ensures.inputs c.next_turn.ensures.inputs;
+}
 
-pub returns-in_err-first-clause-inputs : goal.returns-in_err-first-clause-inputs
-returns-in_err-first-clause-inputs g c = stays_on _ _ _ c.open.ensures.inputs c.next_turn.ensures.inputs
-
-pub returns-then-is_err-clause-last_asked : goal.returns-then-is_err-clause-last_asked
-returns-then-is_err-clause-last_asked g c = last_asked_read c.args.name.now c.args.limit (g.I.Inputs.state c.open.new.inputs) (g.I.Inputs.state c.next_turn.new.inputs) c.open.ensures.asks c.next_turn.ensures.gives_few
-
-pub returns-then-is_err-clause-asks : goal.returns-then-is_err-clause-asks
-returns-then-is_err-clause-asks g c = few_read (g.I.Inputs.state c.args.inputs.now) (g.I.Inputs.state c.open.new.inputs) (g.I.Inputs.state c.next_turn.new.inputs) c.args.limit c.open.ensures.once c.next_turn.ensures.gives_few
-
-pub returns-then-is_err-clause-inputs : goal.returns-then-is_err-clause-inputs
-returns-then-is_err-clause-inputs g c = stays_on _ _ _ c.open.ensures.inputs c.next_turn.ensures.inputs
-
-pub returns-else-is_err-clause-last_asked : goal.returns-else-is_err-clause-last_asked
-returns-else-is_err-clause-last_asked g c =
+pub returns-else-is_err-clause-asked : goal.returns-else-is_err-clause-asked
+returns-else-is_err-clause-asked g c =
     let i = g.I.Inputs in
     let count = c.in_ok-first.first.count in
     let first = take count c.next_turn.new.buffer in
     let size : length first ≡ count = length-take-le count c.next_turn.new.buffer (omega (arith, c.in_ok-first.ensures.within.1, c.next_turn.ensures.length)) in
     let reads = reads_first (i.state c.open.new.inputs) (i.state c.next_turn.new.inputs) first c.in_ok-first.ensures.takes c.next_turn.ensures.gives_few.asked c.next_turn.ensures.inputs in
-    last_asked_rest c.args.name.now first c.args.limit (c.args.limit - count) (i.state c.open.new.inputs) (i.state c.next_turn.new.inputs) (i.state c.play_rest.new.inputs)
-    c.open.ensures.asks reads (omega (arith, size, c.in_ok-first.ensures.within.0)) c.play_rest.ensures.gives_few
+    record {
+      last = last_asked_rest c.args.name.now first c.args.limit (c.args.limit - count) (i.state c.open.new.inputs) (i.state c.next_turn.new.inputs) (i.state c.play_rest.new.inputs)
+          c.open.ensures.asks reads (omega (arith, size, c.in_ok-first.ensures.within.0)) c.play_rest.ensures.takes.gives_few;
+      once = few_after c.in_ok-first.first.last (i.state c.args.inputs.now) (i.state c.open.new.inputs) (i.state c.next_turn.new.inputs) (i.state c.play_rest.new.inputs) c.args.limit (c.args.limit - c.in_ok-first.first.count)
+          c.open.ensures.once c.next_turn.ensures.gives_few c.in_ok-first.ensures.no_end_read c.play_rest.ensures.takes.gives_few c.play_rest.ensures.takes.no_end_read;
+      inputs = stays_on _ _ _ (stays_on _ _ _ c.open.ensures.inputs c.next_turn.ensures.inputs) c.play_rest.ensures.takes.inputs;
+    }
 
-pub returns-else-is_err-clause-asks : goal.returns-else-is_err-clause-asks
-returns-else-is_err-clause-asks g c =
-    let i = g.I.Inputs in
-    few_after c.in_ok-first.first.last (i.state c.args.inputs.now) (i.state c.open.new.inputs) (i.state c.next_turn.new.inputs) (i.state c.play_rest.new.inputs) c.args.limit (c.args.limit - c.in_ok-first.first.count)
-    c.open.ensures.once c.next_turn.ensures.gives_few c.in_ok-first.ensures.no_end_read c.play_rest.ensures.gives_few c.play_rest.ensures.no_end_read
-
-pub returns-else-is_err-clause-inputs : goal.returns-else-is_err-clause-inputs
-returns-else-is_err-clause-inputs g c = stays_on _ _ _ (stays_on _ _ _ c.open.ensures.inputs c.next_turn.ensures.inputs) c.play_rest.ensures.inputs
-
-pub returns-in_err-skip_rest-in-Err-clause-last_asked : goal.returns-in_err-skip_rest-in-Err-clause-last_asked
-returns-in_err-skip_rest-in-Err-clause-last_asked g c =
+pub returns-in_err-skip_rest-in-Err-clause-asked : goal.returns-in_err-skip_rest-in-Err-clause-asked
+returns-in_err-skip_rest-in-Err-clause-asked g c =
     let i = g.I.Inputs in
     let count = c.in_ok-first.first.count in
     let first = take count c.next_turn.new.buffer in
     let size : length first ≡ count = length-take-le count c.next_turn.new.buffer (omega (arith, c.in_ok-first.ensures.within.1, c.next_turn.ensures.length)) in
     let reads = reads_first (i.state c.open.new.inputs) (i.state c.next_turn.new.inputs) first c.in_ok-first.ensures.takes c.next_turn.ensures.gives_few.asked c.next_turn.ensures.inputs in
-    last_asked_rest c.args.name.now first c.args.limit (c.args.limit - count) (i.state c.open.new.inputs) (i.state c.next_turn.new.inputs) (i.state c.skip_rest.new.inputs)
-    c.open.ensures.asks reads (omega (arith, size, c.in_ok-first.ensures.within.0)) c.skip_rest.ensures.gives_few
+    record {
+      last = last_asked_rest c.args.name.now first c.args.limit (c.args.limit - count) (i.state c.open.new.inputs) (i.state c.next_turn.new.inputs) (i.state c.skip_rest.new.inputs)
+          c.open.ensures.asks reads (omega (arith, size, c.in_ok-first.ensures.within.0)) c.skip_rest.ensures.gives_few;
+      once = few_after c.in_ok-first.first.last (i.state c.args.inputs.now) (i.state c.open.new.inputs) (i.state c.next_turn.new.inputs) (i.state c.skip_rest.new.inputs) c.args.limit (c.args.limit - c.in_ok-first.first.count)
+          c.open.ensures.once c.next_turn.ensures.gives_few c.in_ok-first.ensures.no_end_read c.skip_rest.ensures.gives_few c.skip_rest.ensures.no_end_read;
+      inputs = stays_on _ _ _ (stays_on _ _ _ c.open.ensures.inputs c.next_turn.ensures.inputs) c.skip_rest.ensures.inputs;
+    }
 
-pub returns-in_err-skip_rest-in-Err-clause-asks : goal.returns-in_err-skip_rest-in-Err-clause-asks
-returns-in_err-skip_rest-in-Err-clause-asks g c =
-    let i = g.I.Inputs in
-    few_after c.in_ok-first.first.last (i.state c.args.inputs.now) (i.state c.open.new.inputs) (i.state c.next_turn.new.inputs) (i.state c.skip_rest.new.inputs) c.args.limit (c.args.limit - c.in_ok-first.first.count)
-    c.open.ensures.once c.next_turn.ensures.gives_few c.in_ok-first.ensures.no_end_read c.skip_rest.ensures.gives_few c.skip_rest.ensures.no_end_read
-
-pub returns-in_err-skip_rest-in-Err-clause-inputs : goal.returns-in_err-skip_rest-in-Err-clause-inputs
-returns-in_err-skip_rest-in-Err-clause-inputs g c = stays_on _ _ _ (stays_on _ _ _ c.open.ensures.inputs c.next_turn.ensures.inputs) c.skip_rest.ensures.inputs
-
-pub returns-in_ok-skip_rest-in-Err-clause-last_asked : goal.returns-in_ok-skip_rest-in-Err-clause-last_asked
-returns-in_ok-skip_rest-in-Err-clause-last_asked g c =
+pub returns-in_ok-skip_rest-in-Err-clause-asked : goal.returns-in_ok-skip_rest-in-Err-clause-asked
+returns-in_ok-skip_rest-in-Err-clause-asked g c =
     let i = g.I.Inputs in
     let count = c.in_ok-first.first.count in
     let first = take count c.next_turn.new.buffer in
     let size : length first ≡ count = length-take-le count c.next_turn.new.buffer (omega (arith, c.in_ok-first.ensures.within.1, c.next_turn.ensures.length)) in
     let reads = reads_first (i.state c.open.new.inputs) (i.state c.next_turn.new.inputs) first c.in_ok-first.ensures.takes c.next_turn.ensures.gives_few.asked c.next_turn.ensures.inputs in
-    last_asked_rest c.args.name.now first c.args.limit (c.args.limit - count) (i.state c.open.new.inputs) (i.state c.next_turn.new.inputs) (i.state c.skip_rest.new.inputs)
-    c.open.ensures.asks reads (omega (arith, size, c.in_ok-first.ensures.within.0)) c.skip_rest.ensures.gives_few
-
-pub returns-in_ok-skip_rest-in-Err-clause-asks : goal.returns-in_ok-skip_rest-in-Err-clause-asks
-returns-in_ok-skip_rest-in-Err-clause-asks g c =
-    let i = g.I.Inputs in
-    few_after c.in_ok-first.first.last (i.state c.args.inputs.now) (i.state c.open.new.inputs) (i.state c.next_turn.new.inputs) (i.state c.skip_rest.new.inputs) c.args.limit (c.args.limit - c.in_ok-first.first.count)
-    c.open.ensures.once c.next_turn.ensures.gives_few c.in_ok-first.ensures.no_end_read c.skip_rest.ensures.gives_few c.skip_rest.ensures.no_end_read
-
-pub returns-in_ok-skip_rest-in-Err-clause-inputs : goal.returns-in_ok-skip_rest-in-Err-clause-inputs
-returns-in_ok-skip_rest-in-Err-clause-inputs g c = stays_on _ _ _ (stays_on _ _ _ c.open.ensures.inputs c.next_turn.ensures.inputs) c.skip_rest.ensures.inputs
-
-pub returns-in_err-open-clause-asks : goal.returns-in_err-open-clause-asks
-returns-in_err-open-clause-asks g c = few_once (g.I.Inputs.state c.args.inputs.now) (g.I.Inputs.state c.open.new.inputs) c.open.ensures.once
+    record {
+      last = last_asked_rest c.args.name.now first c.args.limit (c.args.limit - count) (i.state c.open.new.inputs) (i.state c.next_turn.new.inputs) (i.state c.skip_rest.new.inputs)
+          c.open.ensures.asks reads (omega (arith, size, c.in_ok-first.ensures.within.0)) c.skip_rest.ensures.gives_few;
+      once = few_after c.in_ok-first.first.last (i.state c.args.inputs.now) (i.state c.open.new.inputs) (i.state c.next_turn.new.inputs) (i.state c.skip_rest.new.inputs) c.args.limit (c.args.limit - c.in_ok-first.first.count)
+          c.open.ensures.once c.next_turn.ensures.gives_few c.in_ok-first.ensures.no_end_read c.skip_rest.ensures.gives_few c.skip_rest.ensures.no_end_read;
+      inputs = stays_on _ _ _ (stays_on _ _ _ c.open.ensures.inputs c.next_turn.ensures.inputs) c.skip_rest.ensures.inputs;
+    }

@@ -44,8 +44,8 @@ loop-name-preserved g c =
     let next = stream_next string_bytes (i.state c.args.inputs.now).contents (i.state c.loop-name.inputs).contents C c.args.streams.now c.loop-name.name-index stream_limit c.loop-name.left c.name-item.result name v.played.0 read
     v.inputs.map c.loop-name-test.true c.name-item.is c.as_str.ensures.value v.played.1.2 p.reads in
     record {
-      inputs = stays_on _ _ _ v.inputs c.play_stream.ensures.inputs;
-      asks = few_on _ _ _ c.loop-name.name-index 1 v.asks c.play_stream.ensures.asks;
+      inputs = stays_on _ _ _ v.inputs c.play_stream.ensures.asked.inputs;
+      asks = few_on _ _ _ c.loop-name.name-index 1 v.asks c.play_stream.ensures.asked.once;
       within = omega (arith, c.loop-name-test.true);
       limits = limits_next string_bytes (limited_together (i.state c.args.inputs.now).contents stream_limit (map string_bytes c.args.streams.now)) (i.state c.args.inputs.now).contents c.args.streams.now c.loop-name.name-index c.loop-name.left c.in_ok-left.left c.name-item.result name
           c.loop-name-test.true c.name-item.is c.as_str.ensures.value v.limits (room_left (i.state c.args.inputs.now).contents (i.state c.loop-name.inputs).contents C name c.loop-name.left read v.inputs.map (omega (arith, p.within)) (p.reads None));
@@ -72,7 +72,7 @@ returns-in_err-left-clause-stops g c = rw (handed_on c.from_residual.result c.in
     let v = c.loop-name.invariant in
     let old = i.state c.args.inputs.now in
     limits_stop string_bytes (limited_together old.contents stream_limit (map string_bytes c.args.streams.now)) old.contents c.args.streams.now c.loop-name.name-index c.loop-name.left c.name-item.result c.as_str.result.now
-    old (i.state c.loop-name.inputs) (i.state c.play_stream.new.inputs) (event_of c.in_err-left.field-0.0) c.loop-name-test.true c.name-item.is c.as_str.ensures.value v.limits v.asks c.play_stream.ensures.asks c.play_stream.ensures.last_asked c.in_err-left.ensures.named)
+    old (i.state c.loop-name.inputs) (i.state c.play_stream.new.inputs) (event_of c.in_err-left.field-0.0) c.loop-name-test.true c.name-item.is c.as_str.ensures.value v.limits v.asks c.play_stream.ensures.asked.once c.play_stream.ensures.asked.last c.in_err-left.ensures.named)
 
 pub returns-in_err-left-clause-asks : goal.returns-in_err-left-clause-asks
 returns-in_err-left-clause-asks g c =
@@ -80,7 +80,7 @@ returns-in_err-left-clause-asks g c =
     let first = i.state c.args.inputs.now in
     let last = i.state c.play_stream.new.inputs in
     let count = c.loop-name.name-index in
-    few_more first last (count + 1) (length c.args.streams.now) (omega (arith, c.loop-name-test.true)) (few_on first (i.state c.loop-name.inputs) last count 1 c.loop-name.invariant.asks c.play_stream.ensures.asks)
+    few_more first last (count + 1) (length c.args.streams.now) (omega (arith, c.loop-name-test.true)) (few_on first (i.state c.loop-name.inputs) last count 1 c.loop-name.invariant.asks c.play_stream.ensures.asked.once)
 
 pub returns-clause-asks : goal.returns-clause-asks
 returns-clause-asks g c = few_more (g.I.Inputs.state c.args.inputs.now) (g.I.Inputs.state c.loop-name.inputs) c.loop-name.name-index (length c.args.streams.now) (omega (arith, c.loop-name.invariant.within)) c.loop-name.invariant.asks
