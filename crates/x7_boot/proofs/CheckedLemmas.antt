@@ -34,7 +34,7 @@ no_stop_starts None e = absurd (cc)
 no_stop_starts (Some stop.Iprog) e = absurd (cc)
 no_stop_starts (Some (stop.Fault f)) e = no_cause_starts (failure_of (Some f) false) e
 
-starts_by : (b : Bool) (o : Option StopCause) → (if b then Some ending.Started else ending_by o) ≡ Some ending.Started → b ≡ true
+pub starts_by : (b : Bool) (o : Option StopCause) → (if b then Some ending.Started else ending_by o) ≡ Some ending.Started → b ≡ true
 starts_by true o e = refl
 starts_by false o e = absurd (no_stop_starts o e)
 

@@ -6,7 +6,7 @@ use Rattle.std.specs.Map.{lookup, lookup_entry}
 use Rattle.std.specs.declared.alloc.Global.{Global}
 use Rattle.lru.specs.LruCache.{LruCache, lru_cache, promoted, put_entries}
 use Rattle.lru.proofs.CallerLemmas.{Contains-lookup, Contains-lookup_entry, Contains-promoted, Contains-put_entries, lookup-put_entries}
-use Rattle.x7_words.specs.Flash.{IfKnown}
+use Rattle.x7_words.specs.Flash.{FlashState, IfKnown}
 use Rattle.x7_boot.specs.Image.{flash_limit}
 use Rattle.x7_boot.specs.Pages.{AreBytesFrom, ArePages, HasPage, IsBlock, IsLoaded, IsRestOfPage, Pages, BlockReaches, block_end, page_end, page_size}
 use Rattle.x7_boot.specs.declared.cache.Loaded.{Loaded}
@@ -14,26 +14,26 @@ use Rattle.x7_boot.specs.declared.cache.Loaded.TheVariants.{Cached, Read}
 
 -- ---- pages that are kept
 
-pages_promoted : (known : Option (List ℕ)) (extent : ℕ) (test : ℕ → Bool) (pages : Pages) → ArePages known extent pages → ArePages known extent (promoted test pages)
-pages_promoted known extent test pages are page c = are page (Contains-promoted test pages page c)
+pages_promoted : (flash : FlashState) (test : ℕ → Bool) (pages : Pages) → ArePages flash pages → ArePages flash (promoted test pages)
+pages_promoted flash test pages are page c = are page (Contains-promoted test pages page c)
 
-pub pages_on_promote : (known : Option (List ℕ)) (extent : ℕ) (test : ℕ → Bool) (cache new : LruCache ℕ (Vec ℕ Global)) → new ≡ lru_cache (promoted test cache.entries) cache.cap → ArePages known extent cache.entries → ArePages known extent new.entries
-pages_on_promote known extent test cache new e are = subst (λ (k : LruCache ℕ (Vec ℕ Global)). ArePages known extent k.entries) (sym e) (pages_promoted known extent test cache.entries are)
+pub pages_on_promote : (flash : FlashState) (test : ℕ → Bool) (cache new : LruCache ℕ (Vec ℕ Global)) → new ≡ lru_cache (promoted test cache.entries) cache.cap → ArePages flash cache.entries → ArePages flash new.entries
+pages_on_promote flash test cache new e are = subst (λ (k : LruCache ℕ (Vec ℕ Global)). ArePages flash k.entries) (sym e) (pages_promoted flash test cache.entries are)
 
 same_number : (a b : ℕ) → nat_eq a b ≡ true → b ≡ a
 same_number a b e = grind arith
 
 -- with one more
-pub pages_put : (known : Option (List ℕ)) (extent : ℕ) (cache : LruCache ℕ (Vec ℕ Global)) (number : ℕ) (bytes : Vec ℕ Global) → ArePages known extent cache.entries → IsRestOfPage known extent (number * page_size) bytes.items
-    → ArePages known extent (put_entries nat_eq cache number bytes)
-pages_put known extent cache number bytes are here page c = elim (Contains-put_entries nat_eq cache number bytes page c) [
+pub pages_put : (flash : FlashState) (cache : LruCache ℕ (Vec ℕ Global)) (number : ℕ) (bytes : Vec ℕ Global) → ArePages flash cache.entries → IsRestOfPage flash (number * page_size) bytes.items
+    → ArePages flash (put_entries nat_eq cache number bytes)
+pages_put flash cache number bytes are here page c = elim (Contains-put_entries nat_eq cache number bytes page c) [
   | inl was ↦ are page was
   | inr new ↦
       let key : page.0 ≡ number = elim new.1 [
         | inl e ↦ e
         | inr other ↦ same_number number page.0 other.2
       ] in
-      subst (λ (n : ℕ). IsRestOfPage known extent (n * page_size) page.1.items) (sym key) (subst (λ (b : Vec ℕ Global). IsRestOfPage known extent (number * page_size) b.items) (sym new.0) here)
+      subst (λ (n : ℕ). IsRestOfPage flash (n * page_size) page.1.items) (sym key) (subst (λ (b : Vec ℕ Global). IsRestOfPage flash (number * page_size) b.items) (sym new.0) here)
 ]
 
 -- ---- a block of pages
@@ -67,27 +67,27 @@ end_of_index extent number count index start stop long within e l f m g =
     let end : page_end ((number + index) * page_size) extent ≡ min ((number + index + 1) * page_size) extent = ap (λ (n : ℕ). min ((n + 1) * page_size) extent) (start_of (number + index)) in
     omega (arith, end, within, e, l, f, m, g)
 
-pub page_of_block : (known : Option (List ℕ)) (extent number count index start stop : ℕ) (block bytes : List ℕ) → IsBlock known extent number count block → index < count → start ≡ index * page_size → start < length block
-    → stop ≡ min (start + page_size) (length block) → bytes ≡ slice_range block start stop → IsRestOfPage known extent ((number + index) * page_size) bytes
-page_of_block known extent number count index start stop block bytes b l f m g e =
-    let end : number * page_size + stop ≡ page_end ((number + index) * page_size) extent = end_of_index extent number count index start stop (length block) b.within b.long l f m g in
+pub page_of_block : (flash : FlashState) (number count index start stop : ℕ) (block bytes : List ℕ) → IsBlock flash number count block → index < count → start ≡ index * page_size → start < length block
+    → stop ≡ min (start + page_size) (length block) → bytes ≡ slice_range block start stop → IsRestOfPage flash ((number + index) * page_size) bytes
+page_of_block flash number count index start stop block bytes b l f m g e =
+    let end : number * page_size + stop ≡ page_end ((number + index) * page_size) flash.extent = end_of_index flash.extent number count index start stop (length block) b.within b.long l f m g in
     let at : number * page_size + start ≡ (number + index) * page_size = omega (arith, f) in
     let inside : stop ≤ length block = omega (arith, g) in
     let goes : start ≤ stop = omega (arith, g, m) in
-    let last : number * page_size + stop ≤ block_end number count extent = let w = b.within in let long = b.long in omega (arith, inside, w, long, m) in
+    let last : number * page_size + stop ≤ block_end number count flash.extent = let w = b.within in let long = b.long in omega (arith, inside, w, long, m) in
     record {
       long = let n : length bytes ≡ stop - start = range_length block bytes start stop e inside in omega (arith, n, end, at);
-      bytes_are = known_of_block known block bytes (number * page_size) (block_end number count extent) start stop ((number + index) * page_size) (page_end ((number + index) * page_size) extent) b.bytes_are e at end
+      bytes_are = known_of_block flash.bytes block bytes (number * page_size) (block_end number count flash.extent) start stop ((number + index) * page_size) (page_end ((number + index) * page_size) flash.extent) b.bytes_are e at end
           (omega (arith, end, last)) goes;
     }
 
-pub pages_split : (known : Option (List ℕ)) (extent number count index stop : ℕ) (cache new : LruCache ℕ (Vec ℕ Global)) (page : Vec ℕ Global) (block lent prefix : List ℕ) → new ≡ lru_cache (put_entries nat_eq cache (number + index) page) cache.cap
+pub pages_split : (flash : FlashState) (number count index stop : ℕ) (cache new : LruCache ℕ (Vec ℕ Global)) (page : Vec ℕ Global) (block lent prefix : List ℕ) → new ≡ lru_cache (put_entries nat_eq cache (number + index) page) cache.cap
     → page.items ≡ prefix ++ slice_range lent (index * page_size) stop → prefix ≡ [] → lent ≡ block → stop ≡ min (index * page_size + page_size) (length block) → index * page_size < length block
-    → IsBlock known extent number count block → index < count → ArePages known extent cache.entries → ArePages known extent new.entries
-pages_split known extent number count index stop cache new page block lent prefix e f g h m l b i are =
+    → IsBlock flash number count block → index < count → ArePages flash cache.entries → ArePages flash new.entries
+pages_split flash number count index stop cache new page block lent prefix e f g h m l b i are =
     let bytes : page.items ≡ slice_range block (index * page_size) stop = f ∙ ap (λ (x : List ℕ). x ++ slice_range lent (index * page_size) stop) g ∙ ap (λ (x : List ℕ). slice_range x (index * page_size) stop) h in
-    subst (λ (k : LruCache ℕ (Vec ℕ Global)). ArePages known extent k.entries) (sym e)
-    (pages_put known extent cache (number + index) page are (page_of_block known extent number count index (index * page_size) stop block page.items b i refl l m bytes))
+    subst (λ (k : LruCache ℕ (Vec ℕ Global)). ArePages flash k.entries) (sym e)
+    (pages_put flash cache (number + index) page are (page_of_block flash number count index (index * page_size) stop block page.items b i refl l m bytes))
 
 -- the page that a look-up after `push` finds
 pub there_put : (cache : LruCache ℕ (Vec ℕ Global)) (number : ℕ) (page : Vec ℕ Global) → IsSome (lookup (nat_eq number) (put_entries nat_eq cache number page))
@@ -116,104 +116,113 @@ known_from (Some all) bytes start more at end stop e f l w =
     ∙ ap (take (stop - at)) (drop-drop more start all ∙ ap (λ (n : ℕ). drop n all) e)
 
 -- the rest of a page from a place in it
-pub rest_from : (known : Option (List ℕ)) (extent at : ℕ) (bytes : List ℕ) → at < extent → IsRestOfPage known extent (at / page_size * page_size) bytes → IsRestOfPage known extent at (drop (at % page_size) bytes)
-rest_from known extent at bytes within r =
+pub rest_from : (flash : FlashState) (at : ℕ) (bytes : List ℕ) → at < flash.extent → IsRestOfPage flash (at / page_size * page_size) bytes → IsRestOfPage flash at (drop (at % page_size) bytes)
+rest_from flash at bytes within r =
     let page : ℕ = at / page_size in
-    let end : page_end (page * page_size) extent ≡ page_end at extent = ap (λ (n : ℕ). min ((n + 1) * page_size) extent) (start_of page) in
+    let end : page_end (page * page_size) flash.extent ≡ page_end at flash.extent = ap (λ (n : ℕ). min ((n + 1) * page_size) flash.extent) (start_of page) in
     let sum : page * page_size + at % page_size ≡ at = omega arith in
-    let inside : at < page_end at extent = within_page at extent within in
+    let inside : at < page_end at flash.extent = within_page at flash.extent within in
     record {
       long = let l : length (drop (at % page_size) bytes) ≡ length bytes - at % page_size = length-drop (at % page_size) bytes in
-          let m : length bytes ≡ page_end (page * page_size) extent - page * page_size = r.long in
+          let m : length bytes ≡ page_end (page * page_size) flash.extent - page * page_size = r.long in
           omega (arith, l, m, end, sum);
-      bytes_are = known_from known bytes (page * page_size) (at % page_size) at (page_end (page * page_size) extent) (page_end at extent) sum end (omega (arith, inside)) r.bytes_are;
+      bytes_are = known_from flash.bytes bytes (page * page_size) (at % page_size) at (page_end (page * page_size) flash.extent) (page_end at flash.extent) sum end (omega (arith, inside)) r.bytes_are;
     }
 
 -- the page of a place, among those that are kept
-pub page_among : (known : Option (List ℕ)) (extent at : ℕ) (pages : Pages) (page : Vec ℕ Global) → ArePages known extent pages → lookup (nat_eq (at / page_size)) pages ≡ Some page → IsRestOfPage known extent (at / page_size * page_size) page.items
-page_among known extent at pages page are e =
+pub page_among : (flash : FlashState) (at : ℕ) (pages : Pages) (page : Vec ℕ Global) → ArePages flash pages → lookup (nat_eq (at / page_size)) pages ≡ Some page → IsRestOfPage flash (at / page_size * page_size) page.items
+page_among flash at pages page are e =
     let c = Contains-lookup (nat_eq (at / page_size)) pages page e in
-    subst (λ (n : ℕ). IsRestOfPage known extent (n * page_size) page.items) (same_number (at / page_size) c.0 c.2) (are (c.0, page) c.1)
+    subst (λ (n : ℕ). IsRestOfPage flash (n * page_size) page.items) (same_number (at / page_size) c.0 c.2) (are (c.0, page) c.1)
 
 -- what a look-up gives, as the rest of the place's page
-pub rest_among : (known : Option (List ℕ)) (extent at : ℕ) (pages : Pages) (page : Vec ℕ Global) (bytes : List ℕ) → ArePages known extent pages → at < extent → lookup (nat_eq (at / page_size)) pages ≡ Some page → bytes ≡ page.items
-    → IsRestOfPage known extent at (take (length bytes - at % page_size) (drop (at % page_size) bytes))
-rest_among known extent at pages page bytes are within e f =
+pub rest_among : (flash : FlashState) (at : ℕ) (pages : Pages) (page : Vec ℕ Global) (bytes : List ℕ) → ArePages flash pages → at < flash.extent → lookup (nat_eq (at / page_size)) pages ≡ Some page → bytes ≡ page.items
+    → IsRestOfPage flash at (take (length bytes - at % page_size) (drop (at % page_size) bytes))
+rest_among flash at pages page bytes are within e f =
     let whole : take (length bytes - at % page_size) (drop (at % page_size) bytes) ≡ drop (at % page_size) bytes = take_rest bytes (at % page_size) in
-    subst (IsRestOfPage known extent at) (sym (whole ∙ ap (drop (at % page_size)) f)) (rest_from known extent at page.items within (page_among known extent at pages page are e))
+    subst (IsRestOfPage flash at) (sym (whole ∙ ap (drop (at % page_size)) f)) (rest_from flash at page.items within (page_among flash at pages page are e))
 
 pub place_in : (at : ℕ) (pages : Pages) (page : Vec ℕ Global) (bytes : List ℕ) → HasPage pages at → lookup (nat_eq (at / page_size)) pages ≡ Some page → bytes ≡ page.items → at % page_size ≤ length bytes
 place_in at pages page bytes has e f =
-    let r = page_among has.known has.extent at pages page has.are e in
-    let long : length page.items ≡ page_end (at / page_size * page_size) has.extent - at / page_size * page_size = r.long in
-    let end : page_end (at / page_size * page_size) has.extent ≡ page_end at has.extent = ap (λ (n : ℕ). min ((n + 1) * page_size) has.extent) (start_of (at / page_size)) in
-    let inside : at < page_end at has.extent = within_page at has.extent has.within in
+    let r = page_among has.flash at pages page has.are e in
+    let long : length page.items ≡ page_end (at / page_size * page_size) has.flash.extent - at / page_size * page_size = r.long in
+    let end : page_end (at / page_size * page_size) has.flash.extent ≡ page_end at has.flash.extent = ap (λ (n : ℕ). min ((n + 1) * page_size) has.flash.extent) (start_of (at / page_size)) in
+    let inside : at < page_end at has.flash.extent = within_page at has.flash.extent has.within in
     let same : length bytes ≡ length page.items = ap length f in
     omega (arith, long, end, inside, same)
 
 -- ---- in an attempt
 
-pub pages_of : (known known_now : Option (List ℕ)) (extent size : ℕ) (pages : Pages) → known_now ≡ known → size ≡ extent → ArePages known_now size pages → ArePages known extent pages
-pages_of known known_now extent size pages e f are page c =
-    subst (λ (k : Option (List ℕ)). IsRestOfPage k extent (page.0 * page_size) page.1.items) e (subst (λ (n : ℕ). IsRestOfPage known_now n (page.0 * page_size) page.1.items) f (are page c))
+-- what is read of a flash tells of each flash with the same bytes and the same size
+rest_alike : (one other : FlashState) (place : ℕ) (bytes : List ℕ) → other.bytes ≡ one.bytes → other.extent ≡ one.extent → IsRestOfPage other place bytes → IsRestOfPage one place bytes
+rest_alike one other place bytes e f r = record {
+  long = r.long ∙ ap (λ (n : ℕ). page_end place n - place) f;
+  bytes_are =
+      subst (λ (k : Option (List ℕ)). IfKnown k (λ all. bytes ≡ slice_range all place (page_end place one.extent))) e
+      (subst (λ (n : ℕ). IfKnown other.bytes (λ all. bytes ≡ slice_range all place (page_end place n))) f r.bytes_are);
+}
 
-pub rest_known : (known : Option (List ℕ)) (extent at : ℕ) (page : List ℕ) → at < extent → IsRestOfPage known extent at page → IfKnown known (λ all. page ≡ slice_range all at (at + length page))
-rest_known known extent at page within r =
-    let inside : at < page_end at extent = within_page at extent within in
-    let long : length page ≡ page_end at extent - at = r.long in
-    let end : page_end at extent ≡ at + length page = omega (arith, long, inside) in
-    subst (λ (n : ℕ). IfKnown known (λ all. page ≡ slice_range all at n)) end r.bytes_are
+pub pages_alike : (one other : FlashState) (pages : Pages) → other.bytes ≡ one.bytes → other.extent ≡ one.extent → ArePages other pages → ArePages one pages
+pages_alike one other pages e f are page c = rest_alike one other (page.0 * page_size) page.1.items e f (are page c)
 
-pub rest_goes : (known : Option (List ℕ)) (extent at : ℕ) (page : List ℕ) → at < extent → IsRestOfPage known extent at page → 0 < length page
-rest_goes known extent at page within r =
-    let inside : at < page_end at extent = within_page at extent within in
-    let long : length page ≡ page_end at extent - at = r.long in
+pub from_alike : (one other : FlashState) (place : ℕ) (bytes : List ℕ) → other.bytes ≡ one.bytes → other.extent ≡ one.extent → AreBytesFrom other place bytes → AreBytesFrom one place bytes
+from_alike one other place bytes e f from = record {
+  some = from.some;
+  within = subst (λ (n : ℕ). place + length bytes ≤ n) f from.within;
+  bytes_are = subst (λ (k : Option (List ℕ)). IfKnown k (λ all. bytes ≡ slice_range all place (place + length bytes))) e from.bytes_are;
+}
+
+pub rest_known : (flash : FlashState) (at : ℕ) (page : List ℕ) → at < flash.extent → IsRestOfPage flash at page → IfKnown flash.bytes (λ all. page ≡ slice_range all at (at + length page))
+rest_known flash at page within r =
+    let inside : at < page_end at flash.extent = within_page at flash.extent within in
+    let long : length page ≡ page_end at flash.extent - at = r.long in
+    let end : page_end at flash.extent ≡ at + length page = omega (arith, long, inside) in
+    subst (λ (n : ℕ). IfKnown flash.bytes (λ all. page ≡ slice_range all at n)) end r.bytes_are
+
+pub rest_goes : (flash : FlashState) (at : ℕ) (page : List ℕ) → at < flash.extent → IsRestOfPage flash at page → 0 < length page
+rest_goes flash at page within r =
+    let inside : at < page_end at flash.extent = within_page at flash.extent within in
+    let long : length page ≡ page_end at flash.extent - at = r.long in
     omega (arith, long, inside)
 
-pub rest_within : (known : Option (List ℕ)) (extent at : ℕ) (page : List ℕ) → at < extent → IsRestOfPage known extent at page → at + length page ≤ extent
-rest_within known extent at page within r =
-    let inside : at < page_end at extent = within_page at extent within in
-    let long : length page ≡ page_end at extent - at = r.long in
-    let most : page_end at extent ≤ extent = end_within at extent in
+pub rest_within : (flash : FlashState) (at : ℕ) (page : List ℕ) → at < flash.extent → IsRestOfPage flash at page → at + length page ≤ flash.extent
+rest_within flash at page within r =
+    let inside : at < page_end at flash.extent = within_page at flash.extent within in
+    let long : length page ≡ page_end at flash.extent - at = r.long in
+    let most : page_end at flash.extent ≤ flash.extent = end_within at flash.extent in
     omega (arith, long, inside, most)
   where
     end_within : (at extent : ℕ) → page_end at extent ≤ extent
     end_within at extent = grind arith
 
 -- what is kept of a page, as bytes from a place on
-pub from_rest : (known : Option (List ℕ)) (extent at : ℕ) (page : List ℕ) → at < extent → IsRestOfPage known extent at page → AreBytesFrom known extent at page
-from_rest known extent at page within r = record { some = rest_goes known extent at page within r; within = rest_within known extent at page within r; bytes_are = rest_known known extent at page within r }
+pub from_rest : (flash : FlashState) (at : ℕ) (page : List ℕ) → at < flash.extent → IsRestOfPage flash at page → AreBytesFrom flash at page
+from_rest flash at page within r = record { some = rest_goes flash at page within r; within = rest_within flash at page within r; bytes_are = rest_known flash at page within r }
 
 -- a block that begins with the page of a place has the place
-pub place_in_block : (known : Option (List ℕ)) (extent at count : ℕ) (block : List ℕ) → at < extent → 0 < count → IsBlock known extent (at / page_size) count block → at % page_size < length block
-place_in_block known extent at count block within some b = let long : length block ≡ block_end (at / page_size) count extent - at / page_size * page_size = b.long in omega (arith, long, within, some)
+pub place_in_block : (flash : FlashState) (at count : ℕ) (block : List ℕ) → at < flash.extent → 0 < count → IsBlock flash (at / page_size) count block → at % page_size < length block
+place_in_block flash at count block within some b = let long : length block ≡ block_end (at / page_size) count flash.extent - at / page_size * page_size = b.long in omega (arith, long, within, some)
 
-pub from_block : (known : Option (List ℕ)) (extent at count : ℕ) (block lent : List ℕ) → at < extent → 0 < count → IsBlock known extent (at / page_size) count block → lent ≡ block
-    → AreBytesFrom known extent at (take (length lent - at % page_size) (drop (at % page_size) lent))
-from_block known extent at count block lent within some b e =
+pub from_block : (flash : FlashState) (at count : ℕ) (block lent : List ℕ) → at < flash.extent → 0 < count → IsBlock flash (at / page_size) count block → lent ≡ block
+    → AreBytesFrom flash at (take (length lent - at % page_size) (drop (at % page_size) lent))
+from_block flash at count block lent within some b e =
     let bytes : List ℕ = drop (at % page_size) block in
-    let inside : at % page_size < length block = place_in_block known extent at count block within some b in
+    let inside : at % page_size < length block = place_in_block flash at count block within some b in
     let sum : at / page_size * page_size + at % page_size ≡ at = omega arith in
-    let long : length block ≡ block_end (at / page_size) count extent - at / page_size * page_size = b.long in
+    let long : length block ≡ block_end (at / page_size) count flash.extent - at / page_size * page_size = b.long in
     let left : length bytes ≡ length block - at % page_size = length-drop (at % page_size) block in
-    let end : block_end (at / page_size) count extent ≡ at + length bytes = omega (arith, long, left, inside, sum) in
-    let from : AreBytesFrom known extent at bytes = record {
+    let end : block_end (at / page_size) count flash.extent ≡ at + length bytes = omega (arith, long, left, inside, sum) in
+    let from : AreBytesFrom flash at bytes = record {
       some = omega (arith, left, inside);
       within = omega (arith, end);
-      bytes_are = known_from known block (at / page_size * page_size) (at % page_size) at (block_end (at / page_size) count extent) (at + length bytes) sum end (omega arith) b.bytes_are;
+      bytes_are = known_from flash.bytes block (at / page_size * page_size) (at % page_size) at (block_end (at / page_size) count flash.extent) (at + length bytes) sum end (omega arith) b.bytes_are;
     } in
-    subst (AreBytesFrom known extent at) (sym (take_rest lent (at % page_size) ∙ ap (drop (at % page_size)) e)) from
+    subst (AreBytesFrom flash at) (sym (take_rest lent (at % page_size) ∙ ap (drop (at % page_size)) e)) from
 
--- what was loaded from a flash whose bytes and size are these
-pub loaded_from : (known known_now : Option (List ℕ)) (extent size number : ℕ) (block : List ℕ) (loaded : Loaded) → known_now ≡ known → size ≡ extent → IsLoaded known_now size number block loaded → IsLoaded known extent number block loaded
-loaded_from known known_now extent size number block loaded e f read =
-    subst (λ (k : Option (List ℕ)). IsLoaded k extent number block loaded) e (subst (λ (n : ℕ). IsLoaded known_now n number block loaded) f read)
-
--- a block that was read reaches the place for which it was
-pub reaches : (known : Option (List ℕ)) (extent at : ℕ) (block : List ℕ) (loaded : Loaded) → at < extent → IsLoaded known extent (at / page_size) block loaded → BlockReaches at block loaded
-reaches known extent at block Cached within read = tt
-reaches known extent at block (Read count) within read = place_in_block known extent at count block within read.0 read.1
+pub reaches : (flash : FlashState) (at : ℕ) (block : List ℕ) (loaded : Loaded) → at < flash.extent → IsLoaded flash (at / page_size) block loaded → BlockReaches at block loaded
+reaches flash at block Cached within read = tt
+reaches flash at block (Read count) within read = place_in_block flash at count block within read.0 read.1
 
 -- bytes of a flash that is no larger than one may be
-pub from_limited : (known : Option (List ℕ)) (extent at : ℕ) (bytes : List ℕ) → extent ≤ flash_limit → AreBytesFrom known extent at bytes → at + length bytes ≤ flash_limit
-from_limited known extent at bytes limit from = let within = from.within in omega (arith, limit, within)
+pub from_limited : (flash : FlashState) (at : ℕ) (bytes : List ℕ) → flash.extent ≤ flash_limit → AreBytesFrom flash at bytes → at + length bytes ≤ flash_limit
+from_limited flash at bytes limit from = let within = from.within in omega (arith, limit, within)

@@ -1,10 +1,9 @@
--- Pages of a flash, and blocks of pages that are read at once (this project's choice). Of each flash `known` are its
--- bytes, where these are known, and `extent` is how many it has.
-use Rattle.std.specs.Prelude.{◌≡◌, ℕ, ◌+◌, ◌-◌, ◌*◌, ◌/◌, ◌%◌, ◌<◌, ◌≤◌, min, List, length, slice_range, Option, IsSome, Contains, Vec, nat_eq, Result, Ok, Err}
+-- Pages of a flash, and blocks of pages that are read at once (this project's choice).
+use Rattle.std.specs.Prelude.{◌≡◌, ℕ, ◌+◌, ◌-◌, ◌*◌, ◌/◌, ◌%◌, ◌<◌, ◌≤◌, min, List, length, slice_range, IsSome, Contains, Vec, nat_eq, Result, Ok, Err}
 use Rattle.std.specs.declared.alloc.Global.{Global}
 use Rattle.std.specs.Map.{lookup}
 use Rattle.x7_words.specs.Count.{HasRisen}
-use Rattle.x7_words.specs.Flash.{IfKnown}
+use Rattle.x7_words.specs.Flash.{FlashState, IfKnown}
 use Rattle.x7_boot.specs.declared.fault.BootFault.{BootFault}
 use Rattle.x7_boot.specs.declared.fault.BootFault.TheVariants.{Failed, NoMemory, TooLarge}
 use Rattle.x7_boot.specs.declared.cache.Loaded.{Loaded}
@@ -31,25 +30,25 @@ abbrev pub page_end : ℕ → ℕ → ℕ
 page_end place extent = min ((place / page_size + 1) * page_size) extent
 
 -- `bytes` are those of a flash from the place `place` to the end of its page
-pub record IsRestOfPage (known : Option (List ℕ)) (extent place : ℕ) (bytes : List ℕ) : Type 0 where
-  pub long : length bytes ≡ page_end place extent - place
-  pub bytes_are : IfKnown known (λ all. bytes ≡ slice_range all place (page_end place extent))
+pub record IsRestOfPage (flash : FlashState) (place : ℕ) (bytes : List ℕ) : Type 0 where
+  pub long : length bytes ≡ page_end place flash.extent - place
+  pub bytes_are : IfKnown flash.bytes (λ all. bytes ≡ slice_range all place (page_end place flash.extent))
 
 -- where `count` pages from a number on end, or the flash where it ends before
 abbrev pub block_end : ℕ → ℕ → ℕ → ℕ
 block_end number count extent = min ((number + count) * page_size) extent
 
 -- `bytes` are those of `count` pages of a flash from a number on, as far as the flash goes
-pub record IsBlock (known : Option (List ℕ)) (extent number count : ℕ) (bytes : List ℕ) : Type 0 where
-  pub within : number * page_size < extent
-  pub long : length bytes ≡ block_end number count extent - number * page_size
-  pub bytes_are : IfKnown known (λ all. bytes ≡ slice_range all (number * page_size) (block_end number count extent))
+pub record IsBlock (flash : FlashState) (number count : ℕ) (bytes : List ℕ) : Type 0 where
+  pub within : number * page_size < flash.extent
+  pub long : length bytes ≡ block_end number count flash.extent - number * page_size
+  pub bytes_are : IfKnown flash.bytes (λ all. bytes ≡ slice_range all (number * page_size) (block_end number count flash.extent))
 
 -- what loading the page of a number came to: the page was there, or it begins `count` pages that were read into the
 -- block
-abbrev pub IsLoaded : Option (List ℕ) → ℕ → ℕ → List ℕ → Loaded → Type 0
-IsLoaded known extent number block Cached = Unit {0}
-IsLoaded known extent number block (Read count) = (0 < count) × IsBlock known extent number count block
+abbrev pub IsLoaded : FlashState → ℕ → List ℕ → Loaded → Type 0
+IsLoaded flash number block Cached = Unit {0}
+IsLoaded flash number block (Read count) = (0 < count) × IsBlock flash number count block
 
 -- the block, where one was read, is long enough to have the place `place`, which lies in its first page
 abbrev pub BlockReaches : ℕ → List ℕ → Loaded → Type 0
@@ -57,34 +56,33 @@ BlockReaches place block Cached = Unit {0}
 BlockReaches place block (Read count) = place % page_size < length block
 
 -- `bytes` are those of a flash from the place `place` on, one at least
-pub record AreBytesFrom (known : Option (List ℕ)) (extent place : ℕ) (bytes : List ℕ) : Type 0 where
+pub record AreBytesFrom (flash : FlashState) (place : ℕ) (bytes : List ℕ) : Type 0 where
   pub some : 0 < length bytes
-  pub within : place + length bytes ≤ extent
-  pub bytes_are : IfKnown known (λ all. bytes ≡ slice_range all place (place + length bytes))
+  pub within : place + length bytes ≤ flash.extent
+  pub bytes_are : IfKnown flash.bytes (λ all. bytes ≡ slice_range all place (place + length bytes))
 
 -- the pages of a cache, each under its number
 abbrev pub Pages : Type 0
 Pages = List (ℕ × Vec ℕ Global)
 
 -- each of the pages is the whole page of its number
-abbrev pub ArePages : Option (List ℕ) → ℕ → Pages → Type 0
-ArePages known extent pages = (page : ℕ × Vec ℕ Global) → Contains pages page → IsRestOfPage known extent (page.0 * page_size) page.1.items
+abbrev pub ArePages : FlashState → Pages → Type 0
+ArePages flash pages = (page : ℕ × Vec ℕ Global) → Contains pages page → IsRestOfPage flash (page.0 * page_size) page.1.items
 
 -- of whatever flash the block is `count` pages from `number` on: where the old pages are the flash's, the new ones are
 -- too
 abbrev pub KeepsPages : List ℕ → ℕ → ℕ → Pages → Pages → Type 0
-KeepsPages block number count old new = (known : Option (List ℕ)) (extent : ℕ) → IsBlock known extent number count block → ArePages known extent old → ArePages known extent new
+KeepsPages block number count old new = (flash : FlashState) → IsBlock flash number count block → ArePages flash old → ArePages flash new
 
 -- of whatever flash these are pages, and the block the one that was loaded: `bytes` are the flash's from the place
 -- `place` on
 abbrev pub HoldsFrom : Pages → List ℕ → ℕ → Loaded → List ℕ → Type 0
 HoldsFrom pages block place loaded bytes =
-    (known : Option (List ℕ)) (extent : ℕ) → place < extent → ArePages known extent pages → IsLoaded known extent (place / page_size) block loaded → AreBytesFrom known extent place bytes
+    (flash : FlashState) → place < flash.extent → ArePages flash pages → IsLoaded flash (place / page_size) block loaded → AreBytesFrom flash place bytes
 
 -- the page of a place of a flash is among pages of it
 pub record HasPage (pages : Pages) (place : ℕ) : Type 0 where
-  pub known : Option (List ℕ)
-  pub extent : ℕ
-  pub are : ArePages known extent pages
-  pub within : place < extent
+  pub flash : FlashState
+  pub are : ArePages flash pages
+  pub within : place < flash.extent
   pub there : IsSome (lookup (nat_eq (place / page_size)) pages)

@@ -32,7 +32,7 @@ pub struct Tried {
 }
 
 /// How a boot ended.
-#[derive(Clone, Copy, PartialEq, Eq)]
+#[derive(Clone, Copy)]
 pub enum BootEnd {
     /// The last attempt started.
     Started,

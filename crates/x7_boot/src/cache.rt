@@ -1,6 +1,7 @@
 //! The pages of a flash that were read or used last, so that none of them is read again.
-ghost use Rattle.std.specs.Prelude.{◌≡◌, ◌+◌, ◌*◌, ◌/◌, ◌%◌, ◌<◌, ◌≤◌, ℕ, List, Option, None, [], length, true, nat_eq, IfOk, OnOk, IsSome};
+ghost use Rattle.std.specs.Prelude.{◌≡◌, ◌+◌, ◌*◌, ◌/◌, ◌%◌, ◌<◌, ◌≤◌, ℕ, None, [], length, true, nat_eq, IfOk, OnOk, IsSome};
 ghost use Rattle.std.specs.Map.{lookup};
+ghost use Rattle.x7_words.specs.Flash.{FlashState};
 ghost use Rattle.x7_words.specs.FlashCalls.{CallOnlyReads};
 ghost use Rattle.x7_boot.specs.Image.{flash_limit};
 ghost use Rattle.x7_boot.specs.Pages.{ArePages, FaultsCounted, HasPage, HoldsFrom, IsLoaded, IsRestOfPage, KeepsPages, BlockReaches, most_pages_at_once, page_size};
@@ -67,10 +68,10 @@ impl PageCache {
         requires attached { (F.state flash.old).attached ≡ true }
         requires within { number * page_size < (F.state flash.old).extent }
         requires limit { (F.state flash.old).extent ≤ flash_limit }
-        requires pages { ArePages (F.state flash.old).bytes (F.state flash.old).extent self.old.pages.entries }
-        ensures pages { ArePages (F.state flash.old).bytes (F.state flash.old).extent self.new.pages.entries }
+        requires pages { ArePages (F.state flash.old) self.old.pages.entries }
+        ensures pages { ArePages (F.state flash.old) self.new.pages.entries }
         ensures there { OnOk result (IsSome (lookup (nat_eq number) self.new.pages.entries)) }
-        ensures read { IfOk result (IsLoaded (F.state flash.old).bytes (F.state flash.old).extent number self.new.block.items) }
+        ensures read { IfOk result (IsLoaded (F.state flash.old) number self.new.block.items) }
         ensures faults { FaultsCounted (F.state flash.old).faults (F.state flash.new).faults result }
         ensures only_reads { CallOnlyReads F.Flash flash.old flash.new }
     {
@@ -164,7 +165,7 @@ impl PageCache {
     /// The bytes from a place to the end of its page, which the cache has.
     fn rest_of_page(&self, place: u64) -> &[u8]
         requires { HasPage self.now.pages.entries place }
-        ensures { (known : Option (List ℕ)) (extent : ℕ) → ArePages known extent self.now.pages.entries → place < extent → IsRestOfPage known extent place result.now }
+        ensures { (flash : FlashState) → ArePages flash self.now.pages.entries → place < flash.extent → IsRestOfPage flash place result.now }
     {
         match self.pages.peek(&(place / PAGE_SIZE)) {
             Some(page) => &page[(place % PAGE_SIZE) as usize..],

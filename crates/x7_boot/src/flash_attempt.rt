@@ -51,8 +51,8 @@ pub(crate) fn try_once<F: Flash>(
     requires attached { (F.state flash.old).attached ≡ true }
     requires limit { (F.state flash.old).extent ≤ flash_limit }
     requires not_on_bench { kept.kind ≡ Bench → ⊥ }
-    requires pages { ArePages (F.state flash.old).bytes (F.state flash.old).extent pages.old.pages.entries }
-    ensures pages { ArePages (F.state flash.old).bytes (F.state flash.old).extent pages.new.pages.entries }
+    requires pages { ArePages (F.state flash.old) pages.old.pages.entries }
+    ensures pages { ArePages (F.state flash.old) pages.new.pages.entries }
     ensures tried { IfOk result (λ ending. IfKnown (F.state flash.old).bytes (λ all. AreBytes all → AttemptEnds (attempt_at device.old.part kept address) all device.new ending)) }
     ensures part { IfOk result (λ ending. device.new.part ≡ device.old.part) }
     ensures no_word_due { IfOk result (λ ending. NoWordDue device.new) }

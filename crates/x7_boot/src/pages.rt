@@ -24,7 +24,7 @@ pub(crate) fn read_block<F: Flash>(
     requires within { number * page_size < (F.state flash.old).extent }
     requires count { count ≤ most_pages_at_once }
     requires limit { (F.state flash.old).extent ≤ flash_limit }
-    ensures read { OnOk result (IsBlock (F.state flash.old).bytes (F.state flash.old).extent number count block.new.items) }
+    ensures read { OnOk result (IsBlock (F.state flash.old) number count block.new.items) }
     ensures faults { FaultsCounted (F.state flash.old).faults (F.state flash.new).faults result }
     ensures only_reads { CallOnlyReads F.Flash flash.old flash.new }
 {

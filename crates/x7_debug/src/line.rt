@@ -1,5 +1,5 @@
 //! One line of a script.
-ghost use Rattle.std.specs.Prelude.{◌≡◌, ◌≢◌, MatchOption};
+ghost use Rattle.std.specs.Prelude.{◌≡◌, ◌≢◌, ◌<◌, ◌^◌, ◌++◌, ℕ, decimal, MatchOption};
 ghost use Rattle.x7_debug.specs.Script.{FitsOrder, FitsStop, order_text, stop_text};
 ghost use Rattle.x7_debug.specs.declared.order.Order.{Order};
 ghost use Rattle.x7_debug.specs.declared.order.Stop.{Stop};
@@ -26,6 +26,14 @@ fn stop_of(words: &[u8]) -> Option<Stop>
     Some(Stop::Phase(phase as u8))
 }
 
+/// The number of a line that is these words and a number of 32 bits.
+fn number_after(line: &[u8], words: &[u8]) -> Option<u32>
+    ensures { MatchOption result ((n : ℕ) → n < 2 ^ 32 → line.now ≢ words.now ++ decimal n) (λ n. (n < 2 ^ 32) × (line.now ≡ words.now ++ decimal n)) }
+{
+    let digits = after(line, words)?;
+    number_of_decimal(digits)
+}
+
 /// The order of a line.
 pub(crate) fn order_of(line: &[u8]) -> Option<Order>
     ensures { MatchOption result ((order : Order) → FitsOrder order → line.now ≢ order_text order) (λ order. FitsOrder order × (line.now ≡ order_text order)) }
@@ -36,16 +44,13 @@ pub(crate) fn order_of(line: &[u8]) -> Option<Order>
     if is_same(line, b"phase") {
         return Some(Order::Phase);
     }
-    if let Some(digits) = after(line, b"step ") {
-        let count = number_of_decimal(digits)?;
+    if let Some(count) = number_after(line, b"step ") {
         return Some(Order::Step(count));
     }
-    if let Some(digits) = after(line, b"back ") {
-        let count = number_of_decimal(digits)?;
+    if let Some(count) = number_after(line, b"back ") {
         return Some(Order::Back(count));
     }
-    if let Some(digits) = after(line, b"go ") {
-        let position = number_of_decimal(digits)?;
+    if let Some(position) = number_after(line, b"go ") {
         return Some(Order::Go(position));
     }
     if let Some(words) = after(line, b"until ") {

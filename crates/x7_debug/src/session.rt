@@ -47,7 +47,7 @@ impl Model for Session {
 
     ghost view = { λ s. session_of s.device s.stream.items s.journal };
 
-    ghost invariant = { λ s. SessionFits s.device s.stream.items s.outline.last s.outline.begins s.journal };
+    ghost invariant = { λ s. SessionFits s.device s.stream.items s.outline s.journal };
 }
 
 impl Session {

@@ -112,7 +112,7 @@ fn go_to_phase(
     outline: Outline,
     phase: u8,
 )
-    requires kept { SessionFits device.old stream.now outline.last outline.begins journal.old }
+    requires kept { SessionFits device.old stream.now outline journal.old }
     requires before { device.old.taken < outline.last }
     ensures at_position { ComesForwardRecorded stream.now device.old device.new journal.new (until_of device.old.part stream.now (to.Phase phase) device.old.taken) }
     ensures forward { device.old.taken < device.new.taken }
@@ -133,7 +133,7 @@ pub(crate) fn go_until(
     outline: Outline,
     stop: Stop,
 )
-    requires { SessionFits device.old stream.now outline.last outline.begins journal.old }
+    requires { SessionFits device.old stream.now outline journal.old }
     ensures at_position { ComesToPosition stream.now device.old device.new journal.new (until_of device.old.part stream.now stop device.old.taken) }
     ensures costs { MoveCosts (session_of device.old stream.now journal.old) (session_of device.new stream.now journal.new) }
 {

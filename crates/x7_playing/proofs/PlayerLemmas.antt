@@ -5,7 +5,7 @@ use Rattle.std.proofs.Math.Seq.{take-add, take-length}
 use Rattle.std.proofs.lemmas.List.{take-append-drop}
 use Rattle.x7_words.specs.Input.{taken_bytes_limit}
 use Rattle.x7_words.specs.Word.{AreBytes}
-use Rattle.x7_words.proofs.ListLemmas.{all_append, all_back, all_prefix}
+use Rattle.x7_words.proofs.ListLemmas.{all_append, all_back, all_prefix, all_take}
 use Rattle.x7_part.specs.Part.{PartData}
 use Rattle.x7_engine.specs.declared.fed.Fed.{Fed}
 use Rattle.x7_engine.specs.declared.fed.Fed.TheVariants as fed
@@ -199,9 +199,6 @@ more_piece bytes piece at n = append_assoc bytes (take at piece) (take n (drop a
 rest_fits : (piece : List ℕ) (at : ℕ) → AreBytes piece → AreBytes (drop at piece)
 rest_fits piece at fits = all_back (λ b. b < 256) (take at piece) (drop at piece) (subst (λ x. AreBytes x) (sym (take-append-drop at piece)) fits)
 
-some_fits : (piece : List ℕ) (n : ℕ) → AreBytes piece → AreBytes (take n piece)
-some_fits piece n fits = all_prefix (λ b. b < 256) (take n piece) (drop n piece) (subst (λ x. AreBytes x) (sym (take-append-drop n piece)) fits)
-
 pub turn_over : (part : PartData) (bytes piece : List ℕ) (at n : ℕ) (d e : DeviceState) (reads more : List ℕ) → AreBytes bytes → AreBytes piece → (s : DevicePlayed part (bytes ++ take at piece) d reads) → (IsSome (first_stop_of_bytes part on_the_bench s.taken) → n ≡ 0)
     → reads_given part on_the_bench e (s.taken ++ take n (drop at piece)) ≡ reads_given part on_the_bench d s.taken ++ more → reads_limit < length reads + length more → ReadsOver part (bytes ++ piece)
 turn_over part bytes piece at n d e reads more fb fp s still known many =
@@ -218,7 +215,7 @@ pub turn_full : (part : PartData) (bytes piece : List ℕ) (at n : ℕ) (d e : D
 turn_full part bytes piece at n d e reads now more fp s stands none known is few =
     let words : now ≡ reads_given part on_the_bench e (s.taken ++ take n (drop at piece)) = is ∙ ap (λ x. x ++ more) s.reads_are ∙ sym known in
     subst (λ b. DevicePlayed part b e now) (more_piece bytes piece at n)
-    (fed_full part (bytes ++ take at piece) (take n (drop at piece)) d e reads now s (some_fits (drop at piece) n (rest_fits piece at fp)) stands none words few)
+    (fed_full part (bytes ++ take at piece) (take n (drop at piece)) d e reads now s (all_take (λ b. b < 256) n (drop at piece) (rest_fits piece at fp)) stands none words few)
 
 pub turn_end : (part : PartData) (bytes piece : List ℕ) (at : ℕ) (d e : DeviceState) (read : ReadBufState) (reads now more : List ℕ) (f : Fed) → AreBytes piece → (s : DevicePlayed part (bytes ++ take at piece) d reads) → IsEnd f
     → (IsSome (first_stop_of_bytes part on_the_bench s.taken) → taken_in (length (drop at piece)) f ≡ 0) → DeviceStandsFor part on_the_bench false e (s.taken ++ take (taken_in (length (drop at piece)) f) (drop at piece))

@@ -8,7 +8,7 @@ use Rattle.x7_boot.specs.Attempt.{AttemptCourse}
 use Rattle.x7_boot.specs.Boot.{BootedState, IsBoot}
 use Rattle.x7_update.specs.After.{MayBeLeft}
 use Rattle.x7_recovery.specs.Golden as any
-use Rattle.x7_recovery.specs.Golden.{BootsAlike, StartsAlike, StartsAsPlanned, UpdatingAny}
+use Rattle.x7_recovery.specs.Golden.{BootsAlike, StartsAlike, StartsAsPlanned, UpdatingByAttempt}
 use Rattle.x7_boot.specs.Boots.{BootCourse}
 use Rattle.x7_recovery.specs.Recovery.{BootsAs, IsPrepared, StartsGolden, Updating, as_after, as_before, golden}
 use Rattle.x7_recovery.proofs.GoldenLemmas.{found_alike, full_golden}
@@ -24,7 +24,7 @@ planned_starts u t c p s = record {
 pub found_boots : (u : Updating) (found : List ℕ) (b : BootedState) → IsPrepared u → MayBeLeft u.stream u.flash found → IsBoot u.part found b → BootsAs u found b
 found_boots u found b p left boot =
     let g : (t : AttemptCourse) × StartsAsPlanned u t = full_golden u p in
-    let v : UpdatingAny = record { part = u.part; flash = u.flash; stream = u.stream; golden = g.0 } in
+    let v : UpdatingByAttempt = record { part = u.part; flash = u.flash; stream = u.stream; golden = g.0 } in
     by g (found_alike v found b (record { updatable = p.updatable; golden = g.1.golden }) left boot)
   where
     by : (g : (t : AttemptCourse) × StartsAsPlanned u t) → BootsAlike (record { part = u.part; flash = u.flash; stream = u.stream; golden = g.0 }) found b → BootsAs u found b

@@ -1,6 +1,6 @@
 -- The full stream of a plan begins clean: after an erased first sector it starts,
 -- and nothing has stopped the device by then.
-use Rattle.std.proofs.Common.{◌≡◌, ◌==◌, ◌+◌, ◌-◌, ◌*◌, ◌<◌, ◌≤◌, ◌⊎◌, inl, inr, ℕ, Bool, true, false, if◌then◌else◌, Option, None, Some, List, [], ◌∷◌, ◌++◌, drop, take, length, length-append, refl, ap, sym, subst, ◌∙◌, append_assoc, arith}
+use Rattle.std.proofs.Common.{◌≡◌, ◌==◌, ◌+◌, ◌-◌, ◌*◌, ◌<◌, ◌≤◌, ◌⊎◌, inl, inr, ℕ, true, false, None, Some, List, [], ◌∷◌, ◌++◌, drop, take, length, length-append, refl, ap, sym, subst, ◌∙◌, append_assoc, arith}
 use Rattle.x7_packets.specs.FlashSlot.{sector_size}
 use Rattle.x7_words.specs.Flash.{erased_sector}
 use Rattle.x7_words.proofs.FlashLemmas.{length_erased_sector, bytes_erased_sector}
@@ -19,10 +19,6 @@ use Rattle.x7_memory.specs.Plan.{IsPlanFor, PlanData}
 use Rattle.x7_planner.specs.FullStream.{full_stream}
 use Rattle.x7_engine.specs.State.{state_of, first_stop_of_bytes, why_stopped}
 use Rattle.x7_engine.specs.declared.kept.Kept.{Kept}
-use Rattle.x7_engine.specs.declared.stop.StopCause.{StopCause}
-use Rattle.x7_engine.specs.declared.stop.StopCause.TheVariants as stop
-use Rattle.x7_engine.specs.Value.{failure_of}
-use Rattle.x7_regs.specs.declared.boot_status.Cause.{Cause}
 use Rattle.x7_effects.specs.Played.{PlaysFull, device_after}
 use Rattle.x7_effects.proofs.Items.{writes_entered}
 use Rattle.x7_effects.proofs.Checking.{pieces_length}
@@ -34,9 +30,9 @@ use Rattle.x7_effects.proofs.PartialLemmas.{have_words}
 use Rattle.x7_effects.proofs.PlannerLemmas.{full_same}
 use Rattle.x7_effects.proofs.RestingLemmas.{stream_history}
 use Rattle.x7_effects.proofs.Streams as items
-use Rattle.x7_boot.specs.Attempt.{EndsFirst, AttemptCourse, ending_by, failed_by}
+use Rattle.x7_boot.specs.Attempt.{EndsFirst, AttemptCourse}
 use Rattle.x7_boot.specs.Boot.{at_power}
-use Rattle.x7_boot.specs.declared.attempt.Ending.TheVariants as ending
+use Rattle.x7_boot.proofs.CheckedLemmas.{starts_by}
 use Rattle.x7_boot.proofs.StartLemmas.{prefix_goes}
 use Rattle.x7_recovery.specs.Clean.{BeginsClean, StartsClean, clear, later, next, nothing, shutdown}
 use Rattle.x7_recovery.specs.Golden.{StartsAsPlanned, with_first_sector_erased}
@@ -62,21 +58,6 @@ stream_clean part plan is for =
     ap (λ (s : List ℕ). history_of ([] ++ s)) (full_same part plan is for.is_plan for.width)
     ∙ stream_history [] (items.full_pieces part plan) 16 tt refl (full_fits part plan is for.is_plan for.width (have_words plan.rows for.is_plan.each)) (full_clears part plan) in
     subst BeginsClean (sym is_history) (later _ _ (pieces_clean part plan (0 + 36)))
-
--- ---- phase 7 is what started it
-
-fails_not : (o : Option Cause) → failed_by o ≡ Some ending.Started → ⊥
-fails_not None e = absurd (cc)
-fails_not (Some c) e = absurd (cc)
-
-stops_not : (o : Option StopCause) → ending_by o ≡ Some ending.Started → ⊥
-stops_not None e = fails_not (failure_of None false) e
-stops_not (Some stop.Iprog) e = absurd (cc)
-stops_not (Some (stop.Fault f)) e = fails_not (failure_of (Some f) false) e
-
-seven : (b : Bool) (o : Option StopCause) → (if b then Some ending.Started else ending_by o) ≡ Some ending.Started → b ≡ true
-seven true o e = refl
-seven false o e = absurd (stops_not o e)
 
 -- ---- the attempt
 
@@ -113,7 +94,7 @@ module _ (u : Updating) (p : IsPrepared u) (t : AttemptCourse) (s : StartsAsPlan
 
   at_seven : ((state_of u.part at_power false (take (length t.bytes) short)).phase == 7) ≡ true
   at_seven =
-      let here : ((state_of u.part t.kept false t.bytes).phase == 7) ≡ true = seven ((state_of u.part t.kept false t.bytes).phase == 7) (why_stopped (first_stop_of_bytes u.part t.kept t.bytes)) (x.ends ∙ ap Some s.golden.starts.started) in
+      let here : ((state_of u.part t.kept false t.bytes).phase == 7) ≡ true = starts_by ((state_of u.part t.kept false t.bytes).phase == 7) (why_stopped (first_stop_of_bytes u.part t.kept t.bytes)) (x.ends ∙ ap Some s.golden.starts.started) in
       ap (λ (y : List ℕ). (state_of u.part at_power false y).phase == 7) (sym taken) ∙ ap (λ (k : Kept). (state_of u.part k false t.bytes).phase == 7) (sym s.golden.starts.kept) ∙ here
 
   same_history : history_of (take (length t.bytes) short) ≡ history_of short

@@ -35,7 +35,7 @@ use Rattle.x7_boot.proofs.StartLemmas.{NeverStarts}
 use Rattle.x7_update.specs.Layout.{IsUpdatable, four_at, open_switch, update_place}
 use Rattle.x7_update.specs.After.{IsBetweenSlots, MayBeLeft, after, between, untouched}
 use Rattle.x7_update.proofs.LawLemmas.{no_sync}
-use Rattle.x7_recovery.specs.Golden.{BootsAlike, GoldenStarts, HaveSameGolden, IsPreparedAny, LeadsNowhere, StartsAlike, StartsAsPlanned, StartsAtPower, UpdatingAny, as_after, as_before, golden, with_first_sector_erased}
+use Rattle.x7_recovery.specs.Golden.{BootsAlike, GoldenStarts, HaveSameGolden, IsPreparedByAttempt, LeadsNowhere, StartsAlike, StartsAsPlanned, StartsAtPower, UpdatingByAttempt, as_after, as_before, golden, with_first_sector_erased}
 use Rattle.x7_recovery.specs.Recovery.{IsPrepared, Updating}
 use Rattle.x7_recovery.proofs.FullAttemptLemmas.{StartsWith, full_starts}
 
@@ -219,7 +219,7 @@ between_alike part flash found t b l left starts fits boot =
     (omega (arith, length-append erased_sector (drop sector_size flash), length_erased_sector)) (omega (arith, left.size, l.size.least)) starts.starts
     (golden_stands flash found (length t.bytes) l left starts.ends ∙ ap (take (length t.bytes - sector_size)) (sym (erased_drop (drop sector_size flash)))) b boot
 
-pub found_alike : (u : UpdatingAny) (found : List ℕ) (b : BootedState) → IsPreparedAny u → MayBeLeft u.stream u.flash found → IsBoot u.part found b → BootsAlike u found b
+pub found_alike : (u : UpdatingByAttempt) (found : List ℕ) (b : BootedState) → IsPreparedByAttempt u → MayBeLeft u.stream u.flash found → IsBoot u.part found b → BootsAlike u found b
 found_alike u found b p (untouched same) boot = as_before (subst (λ (x : List ℕ). IsBoot u.part x b) same boot)
 found_alike u found b p (between l fits left) boot = golden boot (between_alike u.part u.flash found u.golden b l left p.golden fits boot)
 found_alike u found b p (after l done) boot = as_after done boot

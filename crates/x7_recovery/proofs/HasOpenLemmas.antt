@@ -17,7 +17,7 @@ use Rattle.x7_boot.specs.Image.{free_slot, free_slots, first_sector, flash_limit
 use Rattle.x7_update.specs.After.{IsAfterUpdate, IsBetweenSlots, spends, with_switch_word, with_stream}
 use Rattle.x7_update.specs.Layout.{IsUpdatable, IsOpen, first_slot, four_at, open_switch, spent_switch, switch_of, update_place, switch_size}
 use Rattle.x7_update.proofs.CaseLemmas.{between_below, between_spent, outside_switch, stream_keeps}
-use Rattle.x7_update.proofs.LawLemmas.{no_sync}
+use Rattle.x7_update.proofs.LawLemmas.{byte_between, no_sync}
 use Rattle.x7_update.proofs.SwitchLemmas.{length_switched, same_four, switch_switched, switched_others}
 use Rattle.x7_boot.specs.Boot.{start_address}
 use Rattle.x7_recovery.specs.OpenBoot.{HasFullGolden}
@@ -45,9 +45,7 @@ module _ (flash now found : List ℕ) (number : ℕ) (l : IsUpdatable flash) (b 
 
   -- a byte after a switch word
   byte_at : (i m : ℕ) → i < sector_size → i % flash_slot_size ≡ m → 4 ≤ m → get_or found i 0 ≡ get_or (first_slot flash) m 0
-  byte_at i m h e k =
-      let at : flash_slot_size * (i / flash_slot_size) + m ≡ i = omega (arith, e) in
-      others i (outside_switch number i (omega (arith, e, k))) ∙ b.slots i h (omega (arith, e, k)) ∙ ap (λ (n : ℕ). get_or flash n 0) (sym at) ∙ l.slots.leads (i / flash_slot_size) (omega (arith, h)) m k (omega (arith, e))
+  byte_at i m h e k = others i (outside_switch number i (omega (arith, e, k))) ∙ byte_between flash now l b i m h e k
 
   same_outside : (place : ℕ) → ((k : ℕ) → k < 4 → (place + k < flash_slot_size * number) ⊎ (flash_slot_size * number + switch_size ≤ place + k)) → four_at found place ≡ four_at now place
   same_outside place out =

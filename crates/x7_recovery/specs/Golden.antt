@@ -71,20 +71,20 @@ pub record StartsAsPlanned (u : Updating) (t : AttemptCourse) : Type 0 where
 
 -- a flash that is being updated with a stream, the part that boots from it, and the attempt with which its golden
 -- stream starts
-pub record UpdatingAny : Type 0 where
+pub record UpdatingByAttempt : Type 0 where
   pub part : PartData
   pub flash : List ℕ
   pub stream : List ℕ
   pub golden : AttemptCourse
 
 -- an update is prepared: the flash can be updated, and has a golden stream of any kind that starts by this attempt
-pub record IsPreparedAny (u : UpdatingAny) : Type 0 where
+pub record IsPreparedByAttempt (u : UpdatingByAttempt) : Type 0 where
   pub updatable : IsUpdatable u.flash
   pub golden : GoldenStarts u.part u.flash u.golden
 
 -- a boot of what was left: that of the flash before the update, or one that starts as the golden stream does, or that
 -- of the updated flash
-pub data BootsAlike (u : UpdatingAny) (found : List ℕ) (b : BootedState) : Type 0 where
+pub data BootsAlike (u : UpdatingByAttempt) (found : List ℕ) (b : BootedState) : Type 0 where
   as_before : IsBoot u.part u.flash b → BootsAlike u found b
   golden : (boot : IsBoot u.part found b) → StartsAlike u.part u.golden (course_of b boot.last) → BootsAlike u found b
   as_after : IsAfterUpdate u.stream u.flash found → IsBoot u.part found b → BootsAlike u found b

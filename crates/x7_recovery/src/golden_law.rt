@@ -5,7 +5,7 @@ ghost use Rattle.x7_part.specs.Part.{PartData};
 ghost use Rattle.x7_boot.specs.Attempt.{AttemptCourse};
 ghost use Rattle.x7_boot.specs.Boot.{BootedState, IsBoot};
 ghost use Rattle.x7_recovery.specs.Clean.{StartsClean};
-ghost use Rattle.x7_recovery.specs.Golden.{BootsAlike, HaveSameGolden, IsPreparedAny, LeadsNowhere, StartsAlike, StartsAsPlanned, UpdatingAny, with_first_sector_erased};
+ghost use Rattle.x7_recovery.specs.Golden.{BootsAlike, HaveSameGolden, IsPreparedByAttempt, LeadsNowhere, StartsAlike, StartsAsPlanned, UpdatingByAttempt, with_first_sector_erased};
 ghost use Rattle.x7_boot.specs.Boots.{course_of};
 ghost use Rattle.x7_recovery.specs.Recovery.{IsPrepared, Updating};
 ghost use Rattle.x7_update.specs.After.{IsBetweenSlots, MayBeLeft};
@@ -30,7 +30,7 @@ pub fn flashes_between_slots_lead_nowhere()
 /// place or before it. Then whatever a power loss in an update leaves of the flash boots as the flash did before, or
 /// starts as the golden stream does, or boots as the updated flash.
 pub fn found_flashes_start()
-    ensures { (u : UpdatingAny) (found : List ℕ) (b : BootedState) → IsPreparedAny u
+    ensures { (u : UpdatingByAttempt) (found : List ℕ) (b : BootedState) → IsPreparedByAttempt u
         → MayBeLeft u.stream u.flash found → IsBoot u.part found b → BootsAlike u found b }
 {}
 

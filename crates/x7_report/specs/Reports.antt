@@ -24,7 +24,7 @@ report_head part regs reads count = state_text part.name regs ++ reads_text read
 unfoldable pub report_text : PartData → Regs → List ℕ → FrameMap → List ℕ
 report_text part regs reads memory = state_text part.name regs ++ reads_text reads ++ frames_text memory (addresses_in part)
 
--- the text of this head and of the lines after it, those of the device's frames at these addresses
+-- this head, and after it the lines of the device's frames at these addresses
 abbrev pub text_begun : DeviceState → List ℕ → List ℕ → List ℕ
 text_begun device head fars = head ++ frame_lines_text (frame_at device.part device.registers.frames.memory) fars
 

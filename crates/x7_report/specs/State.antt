@@ -1,5 +1,4 @@
--- The state of a device as a report gives it (this project's choice). Words are eight upper-case hexadecimal
--- digits.
+-- The state of a device as a report gives it (this project's choice). Words are eight upper-case hexadecimal digits.
 use Rattle.std.specs.Prelude.{ℕ, ◌+◌, Bool, if◌then◌else◌, List, [], ◌∷◌, ◌++◌, codes, decimal}
 use Rattle.std.specs.List.{flat_map}
 use Rattle.x7_words.specs.Characters.{space_byte}

@@ -28,7 +28,7 @@ pub(crate) struct Damaged {
     pub(crate) to: u32,
 }
 
-/// Changes the bit of this number, where there is one.
+/// Changes the bit of this number, where there is one. Bits count from 0, from the highest of the first byte on.
 fn change_bit(bytes: &mut [u8], number: u32) {
     let place = (number / 8) as usize;
     if let Some(byte) = bytes.get_mut(place) {

@@ -31,7 +31,7 @@ pub(crate) fn range_of(places: &str) -> Option<(u32, u32)> {
     }
 }
 
-/// Appends bytes.
+/// Appends bytes, or answers that there is no memory for them.
 pub(crate) fn append(bytes: &mut Vec<u8>, more: &[u8]) -> Result<(), Fault> {
     bytes.extend_from_slice(more).or(Err(Fault::NoMemory))
 }

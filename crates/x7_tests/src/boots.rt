@@ -12,24 +12,16 @@ type Boot = (BootEnd, usize, u64);
 
 /// A boot from a flash of the name `f`; none where a call is refused.
 fn booted_from(alloc: Global, part: &Part, flash: &mut MemoryFlash) -> Option<Boot> {
-    if flash.attach("f").is_err() {
-        return None;
-    }
-    let Ok(booted) = boot(alloc, part, flash) else {
-        return None;
-    };
+    flash.attach("f").ok()?;
+    let booted = boot(alloc, part, flash).ok()?;
     Some((booted.end(), booted.attempts().len(), flash.calls()))
 }
 
 /// A boot from these bytes; none where a call is refused.
 fn booted(alloc: Global, bytes: &[u8]) -> Option<Boot> {
-    let Ok(part) = part_of(alloc, TINY) else {
-        return None;
-    };
-    match MemoryFlash::new(alloc, "f", bytes) {
-        Ok(mut flash) => booted_from(alloc, &part, &mut flash),
-        Err(_) => None,
-    }
+    let part = part_of(alloc, TINY).ok()?;
+    let mut flash = MemoryFlash::new(alloc, "f", bytes).ok()?;
+    booted_from(alloc, &part, &mut flash)
 }
 
 /// A stream that leads to its own place for ever.
@@ -42,7 +34,8 @@ const LOOP: [u8; 24] = [
 #[test]
 fn sixteen_attempts_read_a_small_flash_once(rt: HostRuntime) {
     // two calls: the attach, and one read
-    assert!(rt; booted(rt.alloc(), &LOOP) == Some((BootEnd::Loop, 16, 2)));
+    let boot = booted(rt.alloc(), &LOOP);
+    assert!(rt; matches!(boot, Some((BootEnd::Loop, 16, 2))));
 }
 
 /// The image of a full stream and of the same stream with a wrong check; none where a call is refused.
@@ -63,5 +56,6 @@ fn fallen_back(alloc: Global) -> Option<Boot> {
 #[test]
 fn a_fallback_reads_each_page_once(rt: HostRuntime) {
     // the attach, and three reads of sixteen pages: the first sector, the update's and the golden stream's
-    assert!(rt; fallen_back(rt.alloc()) == Some((BootEnd::Started, 3, 4)));
+    let boot = fallen_back(rt.alloc());
+    assert!(rt; matches!(boot, Some((BootEnd::Started, 3, 4))));
 }

@@ -11,7 +11,6 @@ use Rattle.x7_words.proofs.WordLemmas.{bytes_fit, bytes_words, length_words, wor
 use Rattle.x7_text.specs.Digits.{hex_byte, hex_word}
 use Rattle.x7_text.specs.Row.{spaced}
 use Rattle.x7_text.proofs.FewLemmas.{hex_prefix}
-use Rattle.x7_text.proofs.PrefixLemmas.{value_on}
 use Rattle.x7_text.proofs.WholeLineLemmas.{length_hex_bytes}
 use Rattle.x7_text.specs.Row.{IsByteRow, IsWordRow}
 use Rattle.x7_text.specs.Reads.{AppendsIfRead}

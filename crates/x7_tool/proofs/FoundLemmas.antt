@@ -5,7 +5,7 @@ use Rattle.x7_words.specs.Input.{InputsState}
 use Rattle.x7_boot.specs.Boot.{BootedState, IsBoot}
 use Rattle.x7_update.specs.After.{MayBeLeft, untouched}
 use Rattle.x7_update.proofs.KnownLemmas.{known_at, known_map}
-use Rattle.x7_recovery.specs.Golden.{BootsAlike, UpdatingAny}
+use Rattle.x7_recovery.specs.Golden.{BootsAlike, UpdatingByAttempt}
 use Rattle.x7_recovery.proofs.GoldenLemmas.{found_alike}
 use Rattle.x7_forms.specs.Event.{Event}
 use Rattle.x7_forms.specs.Form.{AskedForm, updated_by}
@@ -44,7 +44,7 @@ found_left form inputs flash known name stream all found is_known updates data_k
     left_by (stream_data known name) stream all found data_known may_be
 
 -- whatever is found of a flash that a run updates boots as one of the three
-pub found_run_boots : (form : Option AskedForm) (inputs : InputsState) (flash : FlashState) (u : UpdatingAny) (found : List ℕ) (b : BootedState) → IsUpdateOf form (sources inputs flash) u → PowerLossMayLeave form (sources inputs flash) found → IsBoot u.part found b
+pub found_run_boots : (form : Option AskedForm) (inputs : InputsState) (flash : FlashState) (u : UpdatingByAttempt) (found : List ℕ) (b : BootedState) → IsUpdateOf form (sources inputs flash) u → PowerLossMayLeave form (sources inputs flash) found → IsBoot u.part found b
     → BootsAlike u found b
 found_run_boots form inputs flash u found b w f boot =
     found_alike u found b w.prepared (found_left form inputs flash w.known w.name u.stream u.flash found w.is_known w.updates w.stream w.bytes f) boot

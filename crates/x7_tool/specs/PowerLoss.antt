@@ -2,7 +2,7 @@
 use Rattle.std.specs.Prelude.{◌≡◌, ℕ, List, Option, Some, Ok}
 use Rattle.x7_words.specs.Flash.{IfKnown}
 use Rattle.x7_boot.specs.Boot.{BootedState, IsBoot}
-use Rattle.x7_recovery.specs.Golden.{BootsAlike, IsPreparedAny, UpdatingAny}
+use Rattle.x7_recovery.specs.Golden.{BootsAlike, IsPreparedByAttempt, UpdatingByAttempt}
 use Rattle.x7_forms.specs.Form.{AskedForm, updated_by}
 use Rattle.x7_forms.specs.Known.{Known}
 use Rattle.x7_outcome.specs.Outcome.{stream_data}
@@ -15,16 +15,16 @@ PowerLossMayLeave form old found = IfKnown old.flash.bytes (λ all. MayBeFound (
 
 -- A run updates a flash with a stream, whose bytes and data are known; the flash can be updated, and its golden stream,
 -- of any kind, starts where the first sector is erased, and ends at the update's place or before it.
-pub record IsUpdateOf (form : Option AskedForm) (old : Sources) (u : UpdatingAny) : Type 0 where
+pub record IsUpdateOf (form : Option AskedForm) (old : Sources) (u : UpdatingByAttempt) : Type 0 where
   pub known : Known
   pub is_known : known_from old ≡ Some known
   pub name : List ℕ
   pub updates : updated_by form ≡ Some name
   pub stream : stream_data known name ≡ Ok u.stream
   pub bytes : old.flash.bytes ≡ Some u.flash
-  pub prepared : IsPreparedAny u
+  pub prepared : IsPreparedByAttempt u
 
 -- where a run is such an update and these bytes are found, each boot from them is that of the flash before it, or
 -- starts as the golden stream does, or is that of the updated flash
 abbrev pub EachBoots : Option AskedForm → Sources → List ℕ → Type 0
-EachBoots form old found = (u : UpdatingAny) (b : BootedState) → IsUpdateOf form old u → IsBoot u.part found b → BootsAlike u found b
+EachBoots form old found = (u : UpdatingByAttempt) (b : BootedState) → IsUpdateOf form old u → IsBoot u.part found b → BootsAlike u found b

@@ -55,9 +55,9 @@ back_apart flash = (
 )
 
 module _ (flash found : List ℕ) (l : IsUpdatable flash) (b : IsBetweenSlots flash found) where
-  -- a byte after a switch word
-  byte_at : (i m : ℕ) → i < sector_size → i % flash_slot_size ≡ m → 4 ≤ m → get_or found i 0 ≡ get_or (first_slot flash) m 0
-  byte_at i m h e k =
+  -- a byte after a switch word of a flash that is between slots
+  pub byte_between : (i m : ℕ) → i < sector_size → i % flash_slot_size ≡ m → 4 ≤ m → get_or found i 0 ≡ get_or (first_slot flash) m 0
+  byte_between i m h e k =
       let at : flash_slot_size * (i / flash_slot_size) + m ≡ i = omega arith in
       b.slots i h (omega (arith, e, k)) ∙ ap (λ n. get_or flash n 0) (sym at) ∙ l.slots.leads (i / flash_slot_size) (omega arith) m k (omega arith)
 
@@ -73,17 +73,17 @@ module _ (flash found : List ℕ) (l : IsUpdatable flash) (b : IsBetweenSlots fl
         | inr high ↦
             let at : 16 + (j - 16) ≡ j = omega arith in
             no_start (drop 16 (first_slot flash)) (back_apart flash) (j - 16) (omega arith)
-            (get_or-drop 16 (first_slot flash) (j - 16) 0 ∙ ap (λ n. get_or (first_slot flash) n 0) at ∙ sym (byte_at place j h refl (omega arith)) ∙ e0)
+            (get_or-drop 16 (first_slot flash) (j - 16) 0 ∙ ap (λ n. get_or (first_slot flash) n 0) at ∙ sym (byte_between place j h refl (omega arith)) ∙ e0)
         | inl low ↦ elim (cases_lt j 4) [
           | inl switch ↦ elim (cases_eq j 0) [
             | inl zero_j ↦
                 let at : place ≡ flash_slot_size * (place / flash_slot_size) = omega arith in
                 b.none_open (place / flash_slot_size) (omega arith) (ap (λ n. four_at found n) (sym at) ∙ e)
             | inr not0 ↦ elim (cases_eq j 1) [
-              | inl one ↦ let byte : 0x20 ≡ 0x66 = sym (byte_at (place + 3) 4 (omega arith) (omega arith) (omega arith)) ∙ e3 in absurd (omega (arith, byte))
+              | inl one ↦ let byte : 0x20 ≡ 0x66 = sym (byte_between (place + 3) 4 (omega arith) (omega arith) (omega arith)) ∙ e3 in absurd (omega (arith, byte))
               | inr not1 ↦ elim (cases_eq j 2) [
-                | inl two ↦ let byte : 0x20 ≡ 0x55 = sym (byte_at (place + 2) 4 (omega arith) (omega arith) (omega arith)) ∙ e2 in absurd (omega (arith, byte))
-                | inr not2 ↦ let byte : 0x20 ≡ 0x99 = sym (byte_at (place + 1) 4 (omega arith) (omega arith) (omega arith)) ∙ e1 in absurd (omega (arith, byte))
+                | inl two ↦ let byte : 0x20 ≡ 0x55 = sym (byte_between (place + 2) 4 (omega arith) (omega arith) (omega arith)) ∙ e2 in absurd (omega (arith, byte))
+                | inr not2 ↦ let byte : 0x20 ≡ 0x99 = sym (byte_between (place + 1) 4 (omega arith) (omega arith) (omega arith)) ∙ e1 in absurd (omega (arith, byte))
               ]
             ]
           ]
@@ -91,17 +91,17 @@ module _ (flash found : List ℕ) (l : IsUpdatable flash) (b : IsBetweenSlots fl
             | inl prefix ↦
                 let at : 4 + (j - 4) ≡ j = omega arith in
                 no_start (take 8 (drop 4 (first_slot flash))) (prefix_apart flash) (j - 4) (omega arith)
-                (get_or-take 8 (drop 4 (first_slot flash)) (j - 4) 0 (omega arith) ∙ get_or-drop 4 (first_slot flash) (j - 4) 0 ∙ ap (λ n. get_or (first_slot flash) n 0) at ∙ sym (byte_at place j h refl past) ∙ e0)
+                (get_or-take 8 (drop 4 (first_slot flash)) (j - 4) 0 (omega arith) ∙ get_or-drop 4 (first_slot flash) (j - 4) 0 ∙ ap (λ n. get_or (first_slot flash) n 0) at ∙ sym (byte_between place j h refl past) ∙ e0)
             | inr start ↦ elim (cases_eq j 12) [
               | inl twelve ↦
-                  let c : get_or flash 14 0 ≡ 0x55 = sym (byte_at (place + 2) 14 (omega arith) (omega arith) (omega arith)) ∙ e2 in
-                  let d : get_or flash 15 0 ≡ 0x66 = sym (byte_at (place + 3) 15 (omega arith) (omega arith) (omega arith)) ∙ e3 in
+                  let c : get_or flash 14 0 ≡ 0x55 = sym (byte_between (place + 2) 14 (omega arith) (omega arith) (omega arith)) ∙ e2 in
+                  let d : get_or flash 15 0 ≡ 0x66 = sym (byte_between (place + 3) 15 (omega arith) (omega arith) (omega arith)) ∙ e3 in
                   absurd (omega (arith, l.slots.place.whole, c, d))
               | inr not12 ↦ elim (cases_eq j 13) [
-                | inl thirteen ↦ let byte : 0x30 ≡ 0x66 = sym (byte_at (place + 3) 16 (omega arith) (omega arith) (omega arith)) ∙ e3 in absurd (omega (arith, byte))
+                | inl thirteen ↦ let byte : 0x30 ≡ 0x66 = sym (byte_between (place + 3) 16 (omega arith) (omega arith) (omega arith)) ∙ e3 in absurd (omega (arith, byte))
                 | inr not13 ↦ elim (cases_eq j 14) [
-                  | inl fourteen ↦ let byte : 0x30 ≡ 0x55 = sym (byte_at (place + 2) 16 (omega arith) (omega arith) (omega arith)) ∙ e2 in absurd (omega (arith, byte))
-                  | inr not14 ↦ let byte : 0x30 ≡ 0x99 = sym (byte_at (place + 1) 16 (omega arith) (omega arith) (omega arith)) ∙ e1 in absurd (omega (arith, byte))
+                  | inl fourteen ↦ let byte : 0x30 ≡ 0x55 = sym (byte_between (place + 2) 16 (omega arith) (omega arith) (omega arith)) ∙ e2 in absurd (omega (arith, byte))
+                  | inr not14 ↦ let byte : 0x30 ≡ 0x99 = sym (byte_between (place + 1) 16 (omega arith) (omega arith) (omega arith)) ∙ e1 in absurd (omega (arith, byte))
                 ]
               ]
             ]

@@ -61,7 +61,7 @@ pub record CanStandAt (size place : ℕ) : Type 0 where
   pub least : 2 * sector_size ≤ place
   pub most : place ≤ size
 
--- a slot of the flash leads to U: after its switch word it has the bytes that the first one has to have
+-- a slot of the flash leads to U: after its switch word it has the bytes of `first_slot`
 abbrev pub LeadsToUpdate : List ℕ → ℕ → Type 0
 LeadsToUpdate flash slot = (i : ℕ) → switch_size ≤ i → i < flash_slot_size → get_or flash (flash_slot_size * slot + i) 0 ≡ get_or (first_slot flash) i 0
 

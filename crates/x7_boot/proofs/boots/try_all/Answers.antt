@@ -2,7 +2,7 @@ use Rattle.std.proofs.Common.{◌∙◌, ℕ, rules, subst, sym}
 use Rattle.x7_words.proofs.FlashLemmas.{reads_on}
 use Rattle.x7_boot.specs.Pages.{FaultsCounted}
 use Rattle.x7_boot.proofs.BootedLemmas.{attempts_next, boot_ends, led_next}
-use Rattle.x7_boot.proofs.PageLemmas.{pages_of}
+use Rattle.x7_boot.proofs.PageLemmas.{pages_alike}
 use Rattle.x7_boot.proofs.boots.try_all.Goals as goal
 
 pub attempts-preserved : goal.attempts-preserved
@@ -18,7 +18,7 @@ attempts-preserved g c =
       not_on_bench = next.not_on_bench c.in-Again.next_kept c.in-Again.next_address c.in-Again.is;
       number = attempts_next c.attempts.kept.kind c.in-Again.next_kept.kind c.attempts.number (next.no_second_fallback c.in-Again.next_kept c.in-Again.next_address c.in-Again.is) (next.most c.in-Again.next_kept c.in-Again.next_address c.in-Again.is) i.room;
       room = next.most c.in-Again.next_kept c.in-Again.next_address c.in-Again.is;
-      pages = pages_of (f.state c.args.flash.now).bytes (f.state c.attempts.flash).bytes (f.state c.args.flash.now).extent (f.state c.attempts.flash).extent c.try_once.new.pages.pages.entries i.flash.bytes i.flash.extent c.try_once.ensures.pages;
+      pages = pages_alike (f.state c.args.flash.now) (f.state c.attempts.flash) c.try_once.new.pages.pages.entries i.flash.bytes i.flash.extent c.try_once.ensures.pages;
       no_fault = t.faults ∙ i.no_fault;
       flash = reads_on _ _ _ _ _ _ i.flash t.only_reads;
     }
@@ -38,7 +38,7 @@ pub try_once-requires-clause-pages : goal.try_once-requires-clause-pages
 try_once-requires-clause-pages g c =
     let f = g.F.Flash in
     let i = c.attempts.invariant in
-    pages_of (f.state c.attempts.flash).bytes (f.state c.args.flash.now).bytes (f.state c.attempts.flash).extent (f.state c.args.flash.now).extent c.attempts.pages.pages.entries (sym i.flash.bytes) (sym i.flash.extent) i.pages
+    pages_alike (f.state c.attempts.flash) (f.state c.args.flash.now) c.attempts.pages.pages.entries (sym i.flash.bytes) (sym i.flash.extent) i.pages
 
 pub returns-in_err-ending-clause-only_reads : goal.returns-in_err-ending-clause-only_reads
 returns-in_err-ending-clause-only_reads g c = reads_on _ _ _ _ _ _ c.attempts.invariant.flash c.try_once.ensures.only_reads

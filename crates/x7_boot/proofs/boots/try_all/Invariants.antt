@@ -18,7 +18,7 @@ invariant-attempts g l =
       not_on_bench : l.kept.kind ≡ Bench → ⊥;
       number : l.number ≤ most_iprogs;
       room : is_fallback l.kept.kind ≡ false → l.number < most_iprogs;
-      pages : ArePages (f.state l.fn.flash).bytes (f.state l.fn.flash).extent l.pages.pages.entries;
+      pages : ArePages (f.state l.fn.flash) l.pages.pages.entries;
       no_fault : (f.state l.flash).faults ≡ (f.state l.fn.flash).faults;
       flash : CallOnlyReads f l.fn.flash l.flash;
     }

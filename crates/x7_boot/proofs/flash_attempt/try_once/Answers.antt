@@ -1,9 +1,9 @@
-use Rattle.std.proofs.Common.{◌≡◌, ℕ, subst, ◌+◌, ◌/◌, ◌<◌, length, sym, refl, rules, ◌∙◌, arith}
+use Rattle.std.proofs.Common.{◌≡◌, ℕ, subst, ◌+◌, length, sym, refl, rules, ◌∙◌, arith}
 use Rattle.x7_words.specs.Flash.{IfKnown}
 use Rattle.x7_words.proofs.FlashLemmas.{reads_at, reads_on}
 use Rattle.x7_boot.specs.Attempt.{IsUnderWay, attempt_at}
-use Rattle.x7_boot.specs.Pages.{FaultsCounted, page_size}
-use Rattle.x7_boot.proofs.PageLemmas.{from_limited, loaded_from, pages_of, reaches}
+use Rattle.x7_boot.specs.Pages.{FaultsCounted}
+use Rattle.x7_boot.proofs.PageLemmas.{from_alike, from_limited, pages_alike, reaches}
 use Rattle.x7_boot.proofs.FlashAttemptLemmas.{ends_here, feeds_on, feeds_ready, known_ended, known_out, known_stopped, stops_here}
 use Rattle.x7_boot.proofs.flash_attempt.try_once.Goals as goal
 
@@ -28,17 +28,14 @@ returns-then-place-size-clause-tried g c =
 pub pages-preserved : goal.pages-preserved
 pages-preserved g c =
     let f = c.pages.invariant.feeds in
-    let known = (g.F.Flash.state c.args.flash.now).bytes in
-    let extent = (g.F.Flash.state c.args.flash.now).extent in
-    let below : c.pages.place < extent = omega (arith, c.if-place-size.false, c.pages.invariant.size) in
-    let are = pages_of known (g.F.Flash.state c.pages.flash).bytes extent (g.F.Flash.state c.pages.flash).extent c.load.new.self.pages.entries c.pages.invariant.flash.bytes c.pages.invariant.flash.extent c.load.ensures.pages in
-    let read = loaded_from known (g.F.Flash.state c.pages.flash).bytes extent (g.F.Flash.state c.pages.flash).extent (c.pages.place / page_size) c.load.new.self.block.items c.in_ok-loaded.loaded c.pages.invariant.flash.bytes c.pages.invariant.flash.extent c.in_ok-loaded.ensures.read in
-    let from = c.bytes_from-bytes.ensures known extent below are read in
+    let s = g.F.Flash.state in
+    let from = from_alike (s c.args.flash.now) (s c.pages.flash) c.pages.place c.bytes_from-bytes.result.now c.pages.invariant.flash.bytes c.pages.invariant.flash.extent
+    (c.bytes_from-bytes.ensures (s c.pages.flash) (omega (arith, c.if-place-size.false, c.pages.invariant.size, c.pages.invariant.flash.extent)) c.load.ensures.pages c.in_ok-loaded.ensures.read) in
     let t = c.take_page.ensures c.args.device.now.part c.args.kept f.bytes f.stands f.going f.not_ended in
     record {
       feeds = feeds_on c.args.device.now.part c.args.kept c.args.address (g.F.Flash.state c.args.flash.now).bytes c.pages.device c.take_page.new.device c.bytes_from-bytes.result.now c.pages.place
           (c.pages.place + length c.bytes_from-bytes.result.now) c.take_page.result refl f from.bytes_are t c.in-GoesOn.is;
-      kept = are;
+      kept = pages_alike (s c.args.flash.now) (s c.pages.flash) c.load.new.self.pages.entries c.pages.invariant.flash.bytes c.pages.invariant.flash.extent c.load.ensures.pages;
       no_fault = c.in_ok-loaded.ensures.faults ∙ c.pages.invariant.no_fault;
       flash = reads_on _ _ _ _ _ _ c.pages.invariant.flash c.in_ok-loaded.ensures.only_reads;
       size = c.pages.invariant.size;
@@ -47,12 +44,9 @@ pages-preserved g c =
 pub returns-in-Ends-clause-tried : goal.returns-in-Ends-clause-tried
 returns-in-Ends-clause-tried g c =
     let f = c.pages.invariant.feeds in
-    let known = (g.F.Flash.state c.args.flash.now).bytes in
-    let extent = (g.F.Flash.state c.args.flash.now).extent in
-    let below : c.pages.place < extent = omega (arith, c.if-place-size.false, c.pages.invariant.size) in
-    let are = pages_of known (g.F.Flash.state c.pages.flash).bytes extent (g.F.Flash.state c.pages.flash).extent c.load.new.self.pages.entries c.pages.invariant.flash.bytes c.pages.invariant.flash.extent c.load.ensures.pages in
-    let read = loaded_from known (g.F.Flash.state c.pages.flash).bytes extent (g.F.Flash.state c.pages.flash).extent (c.pages.place / page_size) c.load.new.self.block.items c.in_ok-loaded.loaded c.pages.invariant.flash.bytes c.pages.invariant.flash.extent c.in_ok-loaded.ensures.read in
-    let from = c.bytes_from-bytes.ensures known extent below are read in
+    let s = g.F.Flash.state in
+    let from = from_alike (s c.args.flash.now) (s c.pages.flash) c.pages.place c.bytes_from-bytes.result.now c.pages.invariant.flash.bytes c.pages.invariant.flash.extent
+    (c.bytes_from-bytes.ensures (s c.pages.flash) (omega (arith, c.if-place-size.false, c.pages.invariant.size, c.pages.invariant.flash.extent)) c.load.ensures.pages c.in_ok-loaded.ensures.read) in
     let t = c.take_page.ensures c.args.device.now.part c.args.kept f.bytes f.stands f.going f.not_ended in
     known_ended c.args.device.now.part c.args.kept c.args.address (g.F.Flash.state c.args.flash.now).bytes c.pages.device c.take_page.new.device c.bytes_from-bytes.result.now c.pages.place c.take_page.result c.in-Ends.ending f from.bytes_are t c.in-Ends.is
 
@@ -64,12 +58,9 @@ run_out-requires-in-Stops g c =
 pub returns-in-Stops-clause-tried : goal.returns-in-Stops-clause-tried
 returns-in-Stops-clause-tried g c =
     let f = c.pages.invariant.feeds in
-    let known = (g.F.Flash.state c.args.flash.now).bytes in
-    let extent = (g.F.Flash.state c.args.flash.now).extent in
-    let below : c.pages.place < extent = omega (arith, c.if-place-size.false, c.pages.invariant.size) in
-    let are = pages_of known (g.F.Flash.state c.pages.flash).bytes extent (g.F.Flash.state c.pages.flash).extent c.load.new.self.pages.entries c.pages.invariant.flash.bytes c.pages.invariant.flash.extent c.load.ensures.pages in
-    let read = loaded_from known (g.F.Flash.state c.pages.flash).bytes extent (g.F.Flash.state c.pages.flash).extent (c.pages.place / page_size) c.load.new.self.block.items c.in_ok-loaded.loaded c.pages.invariant.flash.bytes c.pages.invariant.flash.extent c.in_ok-loaded.ensures.read in
-    let from = c.bytes_from-bytes.ensures known extent below are read in
+    let s = g.F.Flash.state in
+    let from = from_alike (s c.args.flash.now) (s c.pages.flash) c.pages.place c.bytes_from-bytes.result.now c.pages.invariant.flash.bytes c.pages.invariant.flash.extent
+    (c.bytes_from-bytes.ensures (s c.pages.flash) (omega (arith, c.if-place-size.false, c.pages.invariant.size, c.pages.invariant.flash.extent)) c.load.ensures.pages c.in_ok-loaded.ensures.read) in
     let t = c.take_page.ensures c.args.device.now.part c.args.kept f.bytes f.stands f.going f.not_ended in
     known_stopped c.args.device.now.part c.args.kept c.args.address (g.F.Flash.state c.args.flash.now).bytes c.pages.device c.take_page.new.device c.run_out-in-Stops.new.device c.bytes_from-bytes.result.now c.pages.place c.take_page.result c.run_out-in-Stops.result f from.bytes_are t c.in-Stops.is
     (c.run_out-in-Stops.ensures.wrapped c.args.device.now.part c.args.kept _ t.stands) c.run_out-in-Stops.ensures.ending
@@ -79,39 +70,32 @@ returns-then-place-size-clause-pages g c = c.pages.invariant.kept
 
 pub load-requires-clause-pages : goal.load-requires-clause-pages
 load-requires-clause-pages g c =
-    pages_of (g.F.Flash.state c.pages.flash).bytes (g.F.Flash.state c.args.flash.now).bytes (g.F.Flash.state c.pages.flash).extent (g.F.Flash.state c.args.flash.now).extent c.pages.pages.pages.entries (sym c.pages.invariant.flash.bytes) (sym c.pages.invariant.flash.extent) c.pages.invariant.kept
+    pages_alike (g.F.Flash.state c.pages.flash) (g.F.Flash.state c.args.flash.now) c.pages.pages.pages.entries (sym c.pages.invariant.flash.bytes) (sym c.pages.invariant.flash.extent) c.pages.invariant.kept
 
 pub take_page-requires : goal.take_page-requires
 take_page-requires g c =
-    let known = (g.F.Flash.state c.args.flash.now).bytes in
-    let extent = (g.F.Flash.state c.args.flash.now).extent in
-    let below : c.pages.place < extent = omega (arith, c.if-place-size.false, c.pages.invariant.size) in
-    let are = pages_of known (g.F.Flash.state c.pages.flash).bytes extent (g.F.Flash.state c.pages.flash).extent c.load.new.self.pages.entries c.pages.invariant.flash.bytes c.pages.invariant.flash.extent c.load.ensures.pages in
-    let read = loaded_from known (g.F.Flash.state c.pages.flash).bytes extent (g.F.Flash.state c.pages.flash).extent (c.pages.place / page_size) c.load.new.self.block.items c.in_ok-loaded.loaded c.pages.invariant.flash.bytes c.pages.invariant.flash.extent c.in_ok-loaded.ensures.read in
-    let from = c.bytes_from-bytes.ensures known extent below are read in
-    feeds_ready c.args.device.now.part c.args.kept c.args.address known c.pages.device c.pages.place (length c.bytes_from-bytes.result.now)
-    (let limit = from_limited known extent c.pages.place c.bytes_from-bytes.result.now c.requires.limit from in omega (arith, limit)) c.pages.invariant.feeds
+    let s = g.F.Flash.state in
+    let from = from_alike (s c.args.flash.now) (s c.pages.flash) c.pages.place c.bytes_from-bytes.result.now c.pages.invariant.flash.bytes c.pages.invariant.flash.extent
+    (c.bytes_from-bytes.ensures (s c.pages.flash) (omega (arith, c.if-place-size.false, c.pages.invariant.size, c.pages.invariant.flash.extent)) c.load.ensures.pages c.in_ok-loaded.ensures.read) in
+    feeds_ready c.args.device.now.part c.args.kept c.args.address (s c.args.flash.now).bytes c.pages.device c.pages.place (length c.bytes_from-bytes.result.now)
+    (let limit = from_limited (s c.args.flash.now) c.pages.place c.bytes_from-bytes.result.now c.requires.limit from in omega (arith, limit)) c.pages.invariant.feeds
 
 pub pages-smaller : goal.pages-smaller
 pages-smaller g c =
-    let known = (g.F.Flash.state c.args.flash.now).bytes in
-    let extent = (g.F.Flash.state c.args.flash.now).extent in
-    let below : c.pages.place < extent = omega (arith, c.if-place-size.false, c.pages.invariant.size) in
-    let are = pages_of known (g.F.Flash.state c.pages.flash).bytes extent (g.F.Flash.state c.pages.flash).extent c.load.new.self.pages.entries c.pages.invariant.flash.bytes c.pages.invariant.flash.extent c.load.ensures.pages in
-    let read = loaded_from known (g.F.Flash.state c.pages.flash).bytes extent (g.F.Flash.state c.pages.flash).extent (c.pages.place / page_size) c.load.new.self.block.items c.in_ok-loaded.loaded c.pages.invariant.flash.bytes c.pages.invariant.flash.extent c.in_ok-loaded.ensures.read in
-    let from = c.bytes_from-bytes.ensures known extent below are read in
+    let s = g.F.Flash.state in
+    let from = from_alike (s c.args.flash.now) (s c.pages.flash) c.pages.place c.bytes_from-bytes.result.now c.pages.invariant.flash.bytes c.pages.invariant.flash.extent
+    (c.bytes_from-bytes.ensures (s c.pages.flash) (omega (arith, c.if-place-size.false, c.pages.invariant.size, c.pages.invariant.flash.extent)) c.load.ensures.pages c.in_ok-loaded.ensures.read) in
     let some = from.some in
     omega (arith, some, c.if-place-size.false)
 
 pub bytes_from-bytes-requires-clause-block : goal.bytes_from-bytes-requires-clause-block
 bytes_from-bytes-requires-clause-block g c =
-    reaches (g.F.Flash.state c.pages.flash).bytes (g.F.Flash.state c.pages.flash).extent c.pages.place c.load.new.self.block.items c.in_ok-loaded.loaded
+    reaches (g.F.Flash.state c.pages.flash) c.pages.place c.load.new.self.block.items c.in_ok-loaded.loaded
     (omega (arith, c.if-place-size.false, c.pages.invariant.size, c.pages.invariant.flash.extent)) c.in_ok-loaded.ensures.read
 
 pub bytes_from-bytes-requires-clause-page : goal.bytes_from-bytes-requires-clause-page
 bytes_from-bytes-requires-clause-page g c = record {
-  known = (g.F.Flash.state c.pages.flash).bytes;
-  extent = (g.F.Flash.state c.pages.flash).extent;
+  flash = g.F.Flash.state c.pages.flash;
   are = c.load.ensures.pages;
   within = omega (arith, c.if-place-size.false, c.pages.invariant.size, c.pages.invariant.flash.extent);
   there = c.in_ok-loaded.ensures.there;
@@ -129,7 +113,7 @@ returns-in_err-loaded-clause-faults g c =
 pub returns-in_err-loaded-clause-pages : goal.returns-in_err-loaded-clause-pages
 returns-in_err-loaded-clause-pages g c =
     let i = c.pages.invariant in
-    pages_of (g.F.Flash.state c.args.flash.now).bytes (g.F.Flash.state c.pages.flash).bytes (g.F.Flash.state c.args.flash.now).extent (g.F.Flash.state c.pages.flash).extent c.load.new.self.pages.entries i.flash.bytes i.flash.extent c.load.ensures.pages
+    pages_alike (g.F.Flash.state c.args.flash.now) (g.F.Flash.state c.pages.flash) c.load.new.self.pages.entries i.flash.bytes i.flash.extent c.load.ensures.pages
 
 pub returns-in_err-loaded-clause-only_reads : goal.returns-in_err-loaded-clause-only_reads
 returns-in_err-loaded-clause-only_reads g c = reads_on _ _ _ _ _ _ c.pages.invariant.flash c.load.ensures.only_reads
@@ -139,7 +123,7 @@ returns-in_err-loaded-clause-only_reads g c = reads_on _ _ _ _ _ _ c.pages.invar
 pub returns-in-Ends-clause-pages : goal.returns-in-Ends-clause-pages
 returns-in-Ends-clause-pages g c =
     let i = c.pages.invariant in
-    pages_of (g.F.Flash.state c.args.flash.now).bytes (g.F.Flash.state c.pages.flash).bytes (g.F.Flash.state c.args.flash.now).extent (g.F.Flash.state c.pages.flash).extent c.load.new.self.pages.entries i.flash.bytes i.flash.extent c.load.ensures.pages
+    pages_alike (g.F.Flash.state c.args.flash.now) (g.F.Flash.state c.pages.flash) c.load.new.self.pages.entries i.flash.bytes i.flash.extent c.load.ensures.pages
 
 pub returns-in-Ends-clause-only_reads : goal.returns-in-Ends-clause-only_reads
 returns-in-Ends-clause-only_reads g c = reads_on _ _ _ _ _ _ c.pages.invariant.flash c.in_ok-loaded.ensures.only_reads
@@ -147,7 +131,7 @@ returns-in-Ends-clause-only_reads g c = reads_on _ _ _ _ _ _ c.pages.invariant.f
 pub returns-in-Stops-clause-pages : goal.returns-in-Stops-clause-pages
 returns-in-Stops-clause-pages g c =
     let i = c.pages.invariant in
-    pages_of (g.F.Flash.state c.args.flash.now).bytes (g.F.Flash.state c.pages.flash).bytes (g.F.Flash.state c.args.flash.now).extent (g.F.Flash.state c.pages.flash).extent c.load.new.self.pages.entries i.flash.bytes i.flash.extent c.load.ensures.pages
+    pages_alike (g.F.Flash.state c.args.flash.now) (g.F.Flash.state c.pages.flash) c.load.new.self.pages.entries i.flash.bytes i.flash.extent c.load.ensures.pages
 
 pub returns-in-Stops-clause-only_reads : goal.returns-in-Stops-clause-only_reads
 returns-in-Stops-clause-only_reads g c = reads_on _ _ _ _ _ _ c.pages.invariant.flash c.in_ok-loaded.ensures.only_reads

@@ -9,7 +9,7 @@ invariant-pages g l =
     let f = g.F.Flash in
     record {
       feeds : IsUnderWay (attempt_at l.fn.device.part l.fn.kept l.fn.address) (f.state l.fn.flash).bytes l.device l.place;
-      kept : ArePages (f.state l.fn.flash).bytes (f.state l.fn.flash).extent l.pages.pages.entries;
+      kept : ArePages (f.state l.fn.flash) l.pages.pages.entries;
       no_fault : (f.state l.flash).faults ≡ (f.state l.fn.flash).faults;
       flash : CallOnlyReads f l.fn.flash l.flash;
       size : l.size ≡ (f.state l.fn.flash).extent;

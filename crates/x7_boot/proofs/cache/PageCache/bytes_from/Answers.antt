@@ -4,10 +4,10 @@ use Rattle.x7_boot.proofs.PageLemmas.{from_block, from_rest}
 use Rattle.x7_boot.proofs.cache.PageCache.bytes_from.Goals as goal
 
 pub returns-in-Read : goal.returns-in-Read
-returns-in-Read c = λ known extent within are read.
-    let r : (0 < c.in-Read.field-0) × IsBlock known extent (c.args.place / page_size) c.in-Read.field-0 c.args.self.now.block.items =
-    subst (IsLoaded known extent (c.args.place / page_size) c.args.self.now.block.items) c.in-Read.is read in
-    from_block known extent c.args.place c.in-Read.field-0 c.args.self.now.block.items c.deref.result.now within r.0 r.1 c.deref.ensures.value
+returns-in-Read c = λ flash within are read.
+    let r : (0 < c.in-Read.field-0) × IsBlock flash (c.args.place / page_size) c.in-Read.field-0 c.args.self.now.block.items =
+    subst (IsLoaded flash (c.args.place / page_size) c.args.self.now.block.items) c.in-Read.is read in
+    from_block flash c.args.place c.in-Read.field-0 c.args.self.now.block.items c.deref.result.now within r.0 r.1 c.deref.ensures.value
 
 pub returns-in-Cached : goal.returns-in-Cached
-returns-in-Cached c = λ known extent within are read. from_rest known extent c.args.place c.rest_of_page.result.now within (c.rest_of_page.ensures known extent are within)
+returns-in-Cached c = λ flash within are read. from_rest flash c.args.place c.rest_of_page.result.now within (c.rest_of_page.ensures flash are within)

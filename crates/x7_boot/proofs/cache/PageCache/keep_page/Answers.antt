@@ -7,15 +7,15 @@ use Rattle.x7_boot.proofs.PageLemmas.{pages_split, there_put}
 use Rattle.x7_boot.proofs.cache.PageCache.keep_page.Goals as goal
 
 pub returns-in-Ok-Some-clause-pages : goal.returns-in-Ok-Some-clause-pages
-returns-in-Ok-Some-clause-pages c = λ count less known extent block are.
+returns-in-Ok-Some-clause-pages c = λ count less flash block are.
     let stop : c.min-end.result ≡ min (c.args.index * page_size + page_size) (length c.args.self.now.block.items) = let e = c.min-end.ensures in let l = c.len.ensures in omega (arith, e, l) in
-    pages_split known extent c.args.number count c.args.index c.min-end.result c.args.self.now.pages c.push.new.self c.extend_from_slice.new.self c.args.self.now.block.items c.deref.result.now c.clear.new.self.items
+    pages_split flash c.args.number count c.args.index c.min-end.result c.args.self.now.pages c.push.new.self c.extend_from_slice.new.self c.args.self.now.block.items c.deref.result.now c.clear.new.self.items
     c.in-Ok-Some.ensures.entries c.in-Ok.ensures.items c.clear.ensures.items c.deref.ensures.value stop c.requires.within block less are
 
 pub returns-in-Ok-None-clause-pages : goal.returns-in-Ok-None-clause-pages
-returns-in-Ok-None-clause-pages c = λ count less known extent block are.
+returns-in-Ok-None-clause-pages c = λ count less flash block are.
     let stop : c.min-end.result ≡ min (c.args.index * page_size + page_size) (length c.args.self.now.block.items) = let e = c.min-end.ensures in let l = c.len.ensures in omega (arith, e, l) in
-    pages_split known extent c.args.number count c.args.index c.min-end.result c.args.self.now.pages c.push.new.self c.extend_from_slice.new.self c.args.self.now.block.items c.deref.result.now c.clear.new.self.items
+    pages_split flash c.args.number count c.args.index c.min-end.result c.args.self.now.pages c.push.new.self c.extend_from_slice.new.self c.args.self.now.block.items c.deref.result.now c.clear.new.self.items
     c.in-Ok-None.ensures.entries c.in-Ok.ensures.items c.clear.ensures.items c.deref.ensures.value stop c.requires.within block less are
 
 pub returns-in-Ok-Some-clause-there : goal.returns-in-Ok-Some-clause-there

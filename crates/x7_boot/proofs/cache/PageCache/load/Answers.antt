@@ -7,8 +7,7 @@ use Rattle.x7_boot.proofs.cache.PageCache.load.Goals as goal
 
 pub returns-then-promote-clause-pages : goal.returns-then-promote-clause-pages
 returns-then-promote-clause-pages g c =
-    let f = g.F.Flash in
-    pages_on_promote (f.state c.args.flash.now).bytes (f.state c.args.flash.now).extent (nat_eq c.args.number) c.args.self.now.pages c.promote.new.self c.promote.ensures.entries c.requires.pages
+    pages_on_promote (g.F.Flash.state c.args.flash.now) (nat_eq c.args.number) c.args.self.now.pages c.promote.new.self c.promote.ensures.entries c.requires.pages
 
 pub returns-then-promote-clause-there : goal.returns-then-promote-clause-there
 returns-then-promote-clause-there g c =
@@ -17,17 +16,14 @@ returns-then-promote-clause-there g c =
 
 pub returns-in_err-read_block-clause-pages : goal.returns-in_err-read_block-clause-pages
 returns-in_err-read_block-clause-pages g c =
-    let f = g.F.Flash in
-    pages_on_promote (f.state c.args.flash.now).bytes (f.state c.args.flash.now).extent (nat_eq c.args.number) c.args.self.now.pages c.promote.new.self c.promote.ensures.entries c.requires.pages
+    pages_on_promote (g.F.Flash.state c.args.flash.now) (nat_eq c.args.number) c.args.self.now.pages c.promote.new.self c.promote.ensures.entries c.requires.pages
 
 pub returns-clause-pages : goal.returns-clause-pages
 returns-clause-pages g c =
-    let f = g.F.Flash in
-    c.keep_block.ensures.pages (f.state c.args.flash.now).bytes (f.state c.args.flash.now).extent c.in_ok-read_block.ensures.read
-    (pages_on_promote (f.state c.args.flash.now).bytes (f.state c.args.flash.now).extent (nat_eq c.args.number) c.args.self.now.pages c.promote.new.self c.promote.ensures.entries c.requires.pages)
+    c.keep_block.ensures.pages (g.F.Flash.state c.args.flash.now) c.in_ok-read_block.ensures.read
+    (pages_on_promote (g.F.Flash.state c.args.flash.now) (nat_eq c.args.number) c.args.self.now.pages c.promote.new.self c.promote.ensures.entries c.requires.pages)
 
 pub returns-in_default-clause-pages : goal.returns-in_default-clause-pages
 returns-in_default-clause-pages g c =
-    let f = g.F.Flash in
-    c.keep_block.ensures.pages (f.state c.args.flash.now).bytes (f.state c.args.flash.now).extent c.in_ok-read_block.ensures.read
-    (pages_on_promote (f.state c.args.flash.now).bytes (f.state c.args.flash.now).extent (nat_eq c.args.number) c.args.self.now.pages c.promote.new.self c.promote.ensures.entries c.requires.pages)
+    c.keep_block.ensures.pages (g.F.Flash.state c.args.flash.now) c.in_ok-read_block.ensures.read
+    (pages_on_promote (g.F.Flash.state c.args.flash.now) (nat_eq c.args.number) c.args.self.now.pages c.promote.new.self c.promote.ensures.entries c.requires.pages)

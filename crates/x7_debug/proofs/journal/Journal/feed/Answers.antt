@@ -2,7 +2,7 @@ use Rattle.std.proofs.Common.{◌≡◌, ◌-◌, ◌<◌, ◌∷◌, List, leng
 use Rattle.std.specs.List.{AllByRecursion}
 use Rattle.circular_buffer.specs.Buffer.{Buffer}
 use Rattle.x7_words.specs.Word.{AreBytes}
-use Rattle.x7_words.proofs.ListLemmas.{all_append, all_from_places}
+use Rattle.x7_words.proofs.ListLemmas.{all_append, all_from_places, all_take}
 use Rattle.x7_engine.specs.ReadBuffer.{dropping}
 use Rattle.x7_engine.specs.Undo.{IsUndoOf, UndoState}
 use Rattle.x7_debug.specs.Journal.{JournalState, records_of}
@@ -14,6 +14,17 @@ pub feed_word-requires-clause-undo : goal.feed_word-requires-clause-undo
 feed_word-requires-clause-undo c =
     let all : AllByRecursion (IsUndoOf c.args.device.now.part) c.self.inside.records.items = subst (λ (j : JournalState). AllByRecursion (IsUndoOf c.args.device.now.part) j.all) (sym c.self.view_is) c.requires.records in
     get_all (IsUndoOf c.args.device.now.part) c.self.inside.records.items (length c.self.inside.records.items - 1) c.in-Some.undo c.in-Some.ensures.value all
+
+pub returns-clause-records : goal.returns-clause-records
+returns-clause-records c =
+    let Of : UndoState → Type 0 = IsUndoOf c.args.device.now.part in
+    let items : List UndoState = c.self.inside.records.items in
+    let all : AllByRecursion Of items = subst (λ (j : JournalState). AllByRecursion Of j.all) (sym c.self.view_is) c.requires.records in
+    let rest : List UndoState = take (length items - 1) items in
+    let pushed : c.push_front.new.self.items ≡ take c.pop_back.new.self.capacity (c.feed_word.new.undo ∷ rest) =
+    ap (λ (b : Buffer UndoState). b.items) c.push_front.ensures.items
+    ∙ ap (λ (b : Buffer UndoState). take c.pop_back.new.self.capacity (c.feed_word.new.undo ∷ b.items)) c.in-Some.ensures.items in
+    subst (AllByRecursion Of) (sym pushed) (all_take Of c.pop_back.new.self.capacity (c.feed_word.new.undo ∷ rest) (c.feed_word.ensures.undo, all_take Of (length items - 1) items all))
 
 pub returns-clause-recorded : goal.returns-clause-recorded
 returns-clause-recorded c =
