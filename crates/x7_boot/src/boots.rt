@@ -102,7 +102,7 @@ impl Booted {
     }
 }
 
-/// What the first attempt keeps: nothing, as power comes.
+/// What the device of the first attempt keeps over its reset: nothing, since power has just come.
 const AT_POWER: Kept = Kept {
     wbstar: 0,
     timer: 0,
@@ -111,7 +111,8 @@ const AT_POWER: Kept = Kept {
     before: None,
 };
 
-/// Tries attempt after attempt with a new device, and adds each to `attempts`, up to the end of the boot.
+/// Tries attempt after attempt with one device, which each attempt resets, and adds each to `attempts`, up to the end of
+/// the boot.
 fn try_all<F: Flash>(
     device: &mut Device,
     flash: &mut F,

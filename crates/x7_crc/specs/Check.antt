@@ -26,8 +26,9 @@ abbrev pub bits_of_writes : List RegisterWrite → List Bool
 bits_of_writes [] = []
 bits_of_writes (w ∷ ws) = bits_of_write w.register w.word ++ bits_of_writes ws
 
--- The polynomial whose remainder is the check of some bits after the check `before`: the first bit is the highest
--- coefficient, times x^32, and a check's lowest bit is the coefficient of x^31.
+-- The polynomial whose remainder, mirrored, is the check of n bits after the check `before`: that of the bits, the first
+-- of which is its highest coefficient, times x^32, and that of `before`, whose lowest bit is the coefficient of x^31,
+-- times x^n.
 unfoldable pub dividend : ℕ → List Bool → ℕ
 dividend before bits = bit_xor (mirrored 32 before * 2 ^ length bits) (from_highest bits * 2 ^ 32)
 
@@ -40,7 +41,7 @@ check_after before writes =
 abbrev pub IsCheckAfter : ℕ → List RegisterWrite → ℕ → Type 0
 IsCheckAfter before writes check = IsRemainder (dividend before (bits_of_writes writes)) generator 32 (mirrored 32 check)
 
--- the check after one write more than those that `check` is the check of
+-- the check after one more write, where `check` is the check before it
 abbrev pub check_after_one : ℕ → ℕ → ℕ → ℕ
 check_after_one check register word = check_after check (write_to register word ∷ [])
 

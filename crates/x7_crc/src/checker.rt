@@ -31,8 +31,9 @@ fn held_after(held: u8, reg: Reg, word: u32) -> u8
     }
 }
 
-/// The check state after a word written to a register by which the check may be cleared, or which stays out of it.
-fn after_steering_word(state: CheckState, reg: Reg, word: u32) -> CheckState
+/// The check state after a word written to any register. Words to a register that doesn't steer the check are folded
+/// faster, by `fold_slice`.
+fn after_written_word(state: CheckState, reg: Reg, word: u32) -> CheckState
     ensures { (h : History) (place : ℕ) → IsCheckState state.check state.held h
         → IsCheckState result.check result.held (entry (Write (number_of reg) word) place ∷ h) }
 {
@@ -43,9 +44,9 @@ fn after_steering_word(state: CheckState, reg: Reg, word: u32) -> CheckState
     }
 }
 
-/// The check state after words written to a register by which the check may be cleared, or which stays out of it, taken
-/// word by word: four bytes each.
-fn after_steering_words(state: CheckState, reg: Reg, bytes: &[u8]) -> CheckState
+/// The check state after words written to a register, word by word, four bytes each, as it has to be for a register that
+/// steers the check.
+fn after_written_words(state: CheckState, reg: Reg, bytes: &[u8]) -> CheckState
     requires whole { AreWholeWords bytes.now }
     ensures { (h : History) (place : ℕ) → IsCheckState state.check state.held h
         → IsCheckState result.check result.held (entered_all place (payload_steps (number_of reg) (words_of_bytes bytes.now)) h) }
@@ -53,13 +54,13 @@ fn after_steering_words(state: CheckState, reg: Reg, bytes: &[u8]) -> CheckState
     let (words, _) = bytes.as_chunks::<4>();
     let mut now = state;
     for word in words {
-        now = after_steering_word(now, reg, word_of(*word));
+        now = after_written_word(now, reg, word_of(*word));
     }
     now
 }
 
-/// Whether a write to the register may clear the running check or stay out of it. A write to any other goes into it,
-/// and does no more.
+/// Whether a write to the register may clear the running check, at once or by a later write to FAR, or stay out of it. A
+/// write to any other register goes into the check, and does no more.
 fn steers_check(reg: Reg) -> bool
     ensures { result ≡ steers_check (number_of reg) }
 {
@@ -93,7 +94,7 @@ fn after_words(state: CheckState, register: u8, bytes: &[u8]) -> CheckState
             held: state.held,
         };
     };
-    after_steering_words(state, reg, bytes)
+    after_written_words(state, reg, bytes)
 }
 
 /// The check state after the words of a run.

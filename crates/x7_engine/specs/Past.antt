@@ -25,15 +25,15 @@ use Rattle.x7_engine.specs.State.{cause_of, history_taken, why_stopped, memory_o
 use Rattle.x7_engine.specs.Stop.{Stopped}
 use Rattle.x7_engine.specs.UntilStarted.{has_started, taken_until}
 
--- a past: the part, what the last reset kept, whether the flash has ended since then, and the bytes since then; of a
--- past that a device has, just those that it took
+-- a past; `wrapped` says that the flash has ended before the attempt did (BOOTSTS, WRAP_ERROR). A device that has the
+-- past took all of its bytes.
 pub record Past : Type 0 where
   pub part : PartData
   pub kept : Kept
   pub wrapped : Bool
   pub bytes : List ℕ
 
--- the past with this part, these kept values, this end of the flash or none, and these bytes
+-- the past with this part, these kept values, whether the flash has ended, and these bytes
 abbrev pub past_of : PartData → Kept → Bool → List ℕ → Past
 past_of part kept wrapped bytes = record { part = part; kept = kept; wrapped = wrapped; bytes = bytes }
 
@@ -93,7 +93,7 @@ started_at p = has_started p.part p.kept p.bytes
 
 -- ---- stops
 
--- an attempt of a boot
+-- what is kept is that of an attempt of a boot: a flash boots the device
 abbrev pub IsBootAttempt : Kept → Type 0
 IsBootAttempt kept = kept.kind ≡ Bench → ⊥
 
@@ -127,8 +127,9 @@ TakesJust old new more = ForEachPast old (λ p. HasPast new (later p more))
 abbrev pub GivesNoWord : DeviceState → DeviceState → List ℕ → Type 0
 GivesNoWord old new more = ForEachPast old (λ p. reads_given_at new (later p more) ≡ reads_given_at old p)
 
--- what a feed answers: that nothing stopped the device and no word is due, the stop at the last byte, with no word due
--- either, or that nothing stopped it, a word is due and the buffer full
+-- what a feed answers, where `p` is the past with the bytes that it took. All: nothing stopped the device, and no word is
+-- due. Stopped, Iprog: the last of these bytes stopped it, and no word is due. ReadFull: nothing stopped it, a word is
+-- due, and the buffer is full.
 abbrev pub AnswersAt : Past → DeviceState → ReadBufState → Fed → Type 0
 AnswersAt p d read fed.All = (first_stop_at p ≡ None) × NoWordDue d
 AnswersAt p d read (fed.Stopped n) = (f : Fault) × (first_stop_at p ≡ Some (record { place = length p.bytes; why = stop.Fault f })) × NoWordDue d

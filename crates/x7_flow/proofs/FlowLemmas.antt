@@ -9,7 +9,7 @@ use Rattle.x7_memory.specs.FrameMap.{FrameMap, HaveSameFrames}
 use Rattle.x7_memory.specs.Plan.{PlanRow, planned}
 use Rattle.x7_regs.specs.Command.{command_with}
 use Rattle.x7_regs.specs.declared.command.Command.{Command}
-use Rattle.x7_pipeline.specs.Runs.{rest_of, frames_of, in_slots, without_newest, written_frames, put_over}
+use Rattle.x7_pipeline.specs.Runs.{rest_of, frames_of, in_slots, older_frames, written_frames, put_over}
 use Rattle.x7_pipeline.specs.FarAsRead.{has_frame_at}
 use Rattle.x7_pipeline.specs.Copies.{is_wcfg}
 use Rattle.x7_pipeline.proofs.LawLemmas.{put_twice, no_source}
@@ -25,7 +25,7 @@ use Rattle.x7_pipeline.proofs.StateLemmas.{at_slot_more}
 
 -- ---- written frames and one word more
 
-landed_step : (part : PartData) (base : ℕ) (frames : List (List ℕ)) → in_slots (slots_from part base) frames ≡ newest_put part base frames ++ in_slots (slots_from part base) (without_newest frames)
+landed_step : (part : PartData) (base : ℕ) (frames : List (List ℕ)) → in_slots (slots_from part base) frames ≡ newest_put part base frames ++ in_slots (slots_from part base) (older_frames frames)
 unfolding in_slots
 landed_step part base [] = refl
 landed_step part base (frame ∷ older) = at_slot_more (get_or (slots_from part base) (length older) End) frame (in_slots (slots_from part base) older)

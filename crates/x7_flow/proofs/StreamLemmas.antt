@@ -12,7 +12,7 @@ use Rattle.x7_memory.specs.Plan.{PlanRow, planned}
 use Rattle.x7_memory.proofs.MapLemmas.{override_again, override_same}
 use Rattle.x7_regs.specs.Command.{command_with}
 use Rattle.x7_pipeline.specs.RunsInWords.{pair_of}
-use Rattle.x7_pipeline.specs.Runs.{without_newest, frames_of, written_frames, onto, put_over, rest_of, Lands}
+use Rattle.x7_pipeline.specs.Runs.{older_frames, frames_of, written_frames, onto, put_over, rest_of, Lands}
 use Rattle.x7_pipeline.specs.FarAsRead.{has_frame_at, loaded_base}
 use Rattle.x7_pipeline.specs.Copies.{copied_pairs, is_mfw}
 use Rattle.x7_pipeline.proofs.LawLemmas.{landed_empty, landed_in_order, reverse_cons}
@@ -87,7 +87,7 @@ frames_land part base frames last some all =
     whole_frames (frame_words part) (frames ++ last ∷ []) [] some all (nothing_yet (frame_words part)).0
     ∙ ap (λ (fs : List (List ℕ)). reverse (frames ++ last ∷ []) ++ fs) (nothing_yet (frame_words part)).1
     ∙ append-nil (reverse (frames ++ last ∷ [])) ∙ reverse-append frames (last ∷ []) in
-    let back : reverse (without_newest (frames_of (frame_words part) run)) ≡ frames = ap (λ (fs : List (List ℕ)). reverse (without_newest fs)) cut ∙ reverse-reverse frames in
+    let back : reverse (older_frames (frames_of (frame_words part) run)) ≡ frames = ap (λ (fs : List (List ℕ)). reverse (older_frames fs)) cut ∙ reverse-reverse frames in
     sym (reverse-reverse (written_frames part base run))
     ∙ ap reverse (landed_in_order part base run ∙ ap (λ (fs : List (List ℕ)). filter_map pair_of (zip (slots_from part base) fs)) back)
 

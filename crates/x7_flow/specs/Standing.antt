@@ -60,7 +60,8 @@ abbrev pub readback_words : PartData → ℕ → FrameMap → ℕ → ℕ → Li
 readback_words part base memory place zero = []
 readback_words part base memory place (suc count) = readback_at part base memory place ∷ readback_words part base memory (place + 1) count
 
--- the words that a read of frame data after a history gives, from an address
+-- the `count` words that a read of frame data after a history gives, where the history's run or readback begins at an
+-- address
 abbrev pub frames_read : PartData → History → ℕ → List ℕ
 frames_read part h count = readback_words part (base_of part h) (memory_of part h) (count_given part h) count
 
@@ -99,8 +100,8 @@ ForEachHistoryOfFrames part settings f Fact = (h : History) → AreSettingsAfter
 abbrev pub FramesHaveDone : PartData → FramesState → FramesState → History → Entry → Type 0
 FramesHaveDone part old new h e = HaveDone part (asked_after part.idcode h e.access) old new
 
--- an access after a history reads `count` words of frame data, from an address; the frames stand for that history, with
--- no word due
+-- an access after a history reads `count` words of frame data, and the history's run or readback begins at an address;
+-- the frames stand for that history, with no word due
 pub record ReadsFrames (part : PartData) (f : FramesState) (h : History) (access : Access) (count : ℕ) : Type 0 where
   pub reads : asked_after part.idcode h access ≡ Reads count
   pub address : HasAddress part h

@@ -34,7 +34,7 @@ copies_of part (e ∷ h) =
 abbrev pub stretch_pairs : PartData → History → List PlanRow
 stretch_pairs part h = written_frames part (base_of part h) (run_of part h) ++ copies_of part h
 
--- the zero map overridden by the pairs of the stretches that these histories end with, the newest first
+-- the map of zeros overridden by the pairs of the stretches that these histories end with, the newest first
 unfoldable pub memory_by_stretches : PartData → List History → FrameMap
 memory_by_stretches part [] = zeros part
 memory_by_stretches part (h ∷ older) = put_over (stretch_pairs part h) (memory_by_stretches part older)

@@ -60,7 +60,8 @@ abbrev pub count_taken : ℕ → Option RunFault → ℕ
 count_taken count None = count
 count_taken count (Some fault) = count - 1
 
--- the words up to the first refused one were taken; `seen` is how many were looked at, a refused one too, and its fault
+-- the words up to the first refused one were taken, and `f` stands for the history with them; `seen` is how many were
+-- looked at, a refused one too, and its fault
 pub record WordsTaken (part : PartData) (f : FramesState) (h : History) (x : WordsTo) (seen : ℕ × Option RunFault) : Type 0 where
   pub taken : List ℕ
   pub rest : List ℕ
@@ -75,6 +76,6 @@ pub record WordsTaken (part : PartData) (f : FramesState) (h : History) (x : Wor
 abbrev pub ForEachHistoryThatTakes : PartData → (Settings → Bool) → PipelineData → List (List ℕ) → (History → Type 0) → Type 0
 ForEachHistoryThatTakes part takes p frames Fact = (h : History) → takes (settings_of part.idcode h) ≡ true → AreFramesAfter part p frames h 0 → Fact h
 
--- the run of a history, with words more, has slots for all its frames
+-- the words of the history's run, and these after them, are no more than the slots from its base on hold
 abbrev pub HasRoomFor : PartData → History → List ℕ → Type 0
 HasRoomFor part h ws = length (run_of part h) + length ws ≤ frame_words part * length (slots_from part (base_of part h))

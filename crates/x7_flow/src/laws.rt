@@ -46,7 +46,7 @@ pub fn later_histories_override()
         MemoryGets part (later ++ after_load w place earlier) earlier (pairs_after_load part earlier w later) }
 {}
 
-/// The memory is the zero map overridden, stretch by stretch in order, by the stretch's written frames and its copies.
+/// The memory is the map of zeros overridden, stretch by stretch in order, by the stretch's written frames and its copies.
 pub fn stretches_override_in_order()
     ensures memory { (part : PartData) (h : History) → HaveSameFrames (memory_of part h) (memory_by_stretches part (h ∷ ends_of h)) }
 {}

@@ -129,11 +129,11 @@ DataBeginAt bytes start =
 abbrev pub HoldsFew : List ℕ → ℕ → Type 0
 HoldsFew bytes start = (start ≡ length bytes) ⊎ ((start ≡ 0) × (length bytes ≤ fixed_size))
 
--- a header is refused at this byte: the bytes end there inside it, or another letter stands there
+-- where a header may be refused: at the end of the bytes, or where another letter stands than the header's
 abbrev pub RefusedAt : List ℕ → ℕ → Type 0
 RefusedAt bytes place = (place ≡ length bytes) ⊎ HasOtherLetterAt bytes place
 
--- the first bytes of a stream, where its header is judged: its line or nothing, and where the data begin
+-- the first bytes of a stream, where its header is judged: the header's line or nothing, and where the data begin
 abbrev pub IsBeginning : List ℕ → Bool → List ℕ → ℕ → Type 0
 IsBeginning bytes last line start = (rest : List ℕ) → FollowsUnlessLast last rest → stream_listing (bytes ++ rest) ≡ Ok (line ++ listing_of (drop start bytes ++ rest))
 
@@ -155,7 +155,7 @@ pub record BeginningData : Type 0 where
   pub start : ℕ
   pub last : Bool
 
--- a beginning of the code, by the bytes that it holds
+-- a `Beginning` of `src/beginning.rt`, by the bytes that it holds
 abbrev pub beginning_data : Beginning → BeginningData
 beginning_data first = record { bytes = first.bytes.items; line = first.line.items; start = first.start; last = first.last }
 

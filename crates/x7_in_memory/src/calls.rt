@@ -39,7 +39,7 @@ impl Calls {
         self.last
     }
 
-    /// The call of this number is to fail.
+    /// Plans that the call of this number, from 1, fails.
     pub(crate) fn fail_at(&mut self, call: u64) -> Result<(), NoMemory>
         ensures planned { OnOk result (self.new ≡ with_failing_call self.old call) }
         ensures unchanged { OnErr result (self.new ≡ self.old) }
@@ -48,7 +48,8 @@ impl Calls {
         Ok(())
     }
 
-    /// Takes the next number, which may be that of a call that is to fail. The object of the calls counts the fault.
+    /// Takes the next number, which may be that of a call that is to fail. The object whose calls these are
+    /// counts the fault.
     pub(crate) fn next(&mut self) -> Result<(), Failed>
         ensures answer { is_err result ≡ next_fails self.old }
         ensures after { self.new ≡ numbered self.old }

@@ -19,14 +19,15 @@ abbrev pub port_words_due : PartData → Port → ℕ
 port_words_due part p = length (words_read_out part p.queue.given) - (p.queue.out / 32 + 1)
 
 -- the device's registers and the rest of its state, where `due` words of frame data are due
-abbrev pub state_with : PartData → Port → ℕ → Regs
-state_with part p due = state_owing part on_the_bench false (bytes_taken part p) due
+abbrev pub state_with_due : PartData → Port → ℕ → Regs
+state_with_due part p due = state_owing part on_the_bench false (bytes_taken part p) due
 
--- the device's registers and the rest of its state; FAR counts the words of frame data that the port took
+-- the device's registers and the rest of its state; FAR is that after the words of frame data whose bits went out, and
+-- the one whose bits go out
 abbrev pub state_shown : PartData → Port → Regs
-state_shown part p = state_with part p (frames_among (history_taken part on_the_bench (bytes_taken part p)) (port_words_due part p))
+state_shown part p = state_with_due part p (frames_among (history_taken part on_the_bench (bytes_taken part p)) (port_words_due part p))
 
--- the fault that stopped the device
+-- the fault that stopped the device, if one did
 abbrev pub fault_shown : PartData → Port → Option Fault
 fault_shown part p = fault_of_stop (why_stopped (first_stop_of_bytes part on_the_bench (bytes_taken part p)))
 

@@ -6,7 +6,7 @@ ghost use Rattle.x7_engine.specs.Standing.{DeviceStandsFor, due_count, frames_du
 ghost use Rattle.x7_jtag.specs.Events.{events_of};
 ghost use Rattle.x7_jtag.specs.Port.{new_port, port_after, words_read_out};
 ghost use Rattle.x7_jtag.specs.Queue.{QueueIsSound, queue_after};
-ghost use Rattle.x7_jtag.specs.Shown.{bytes_taken, state_shown, state_with, port_words_due};
+ghost use Rattle.x7_jtag.specs.Shown.{bytes_taken, state_shown, state_with_due, port_words_due};
 ghost use Rattle.x7_jtag.specs.Tap.{ForEachPort};
 ghost use Rattle.x7_jtag.specs.State.{PortClock, state_after, test_logic_reset, tms_one};
 ghost use Rattle.x7_jtag.specs.declared.state.State.{State};
@@ -22,7 +22,7 @@ pub fn five_ones_reset()
 pub fn devices_take_what_is_given()
     ensures taken { ForEachPort (λ part d p. DeviceStandsFor part on_the_bench false d (bytes_taken part p)) }
     ensures due { ForEachPort (λ part d p. due_count d.registers.due ≡ port_words_due part p) }
-    ensures shows { ForEachPort (λ part d p. state_with part p (frames_due d.registers.due) ≡ state_shown part p) }
+    ensures shows { ForEachPort (λ part d p. state_with_due part p (frames_due d.registers.due) ≡ state_shown part p) }
 {}
 
 /// After any clocks a port has no more bits out than were read out, holds at most 64 bytes, and holds them only while a

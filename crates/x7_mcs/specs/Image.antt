@@ -16,7 +16,7 @@ is_marked marks p = bit_at (get_or marks (p / places_per_mark) 0) (p % places_pe
 abbrev pub AreFree : List ℕ → ℕ → ℕ → Type 0
 AreFree marks from to = (k : ℕ) → from ≤ k → k < to → is_marked marks k ≡ false
 
--- the places from one to before another are marked beside those that were marked before
+-- the places from one up to another are marked, and each other place is marked where it was before
 abbrev pub AreMarked : List ℕ → ℕ → ℕ → List ℕ → Type 0
 AreMarked old from to new = (p : ℕ) → is_marked new p ≡ (if nat_le from p && nat_lt p to then true else is_marked old p)
 

@@ -106,7 +106,7 @@ fn mark_place(marks: &mut Vec<u16>, place: usize)
     marks[place / PLACES_PER_MARK] |= 1 << (place % PLACES_PER_MARK);
 }
 
-/// Marks the sixteen places of one mark.
+/// Marks the sixteen places from one on, which is the first of its mark.
 fn mark_sixteen(marks: &mut Vec<u16>, place: usize)
     requires within { place / places_per_mark < length marks.old.items }
     requires first { place % places_per_mark ≡ 0 }

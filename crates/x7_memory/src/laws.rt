@@ -7,9 +7,10 @@ ghost use Rattle.x7_memory.specs.FrameMap.{FrameMap, override, no_frames, single
 ghost use Rattle.x7_memory.specs.PartFrames.{frame_at, zeros, AreFramesOf};
 ghost use Rattle.x7_memory.specs.Plan.{PlanRow, PlanData, PlansEach, IsPlan, AreInOrder, AreApart, planned, planned_addresses, total};
 
-/// One map over another: two maps over one come as one map, in any order where no address is in both, and a map twice
-/// is that map once. A map with nothing over it stays, and maps that are the same give the same. A map that differs
-/// from another by one frame is that other map with this frame alone over it.
+/// One map over another. Over a map, a first map and then a second are as the second over the first; two that share no
+/// address may change places; and a map put over it twice is as that map put over it once. The empty map changes nothing,
+/// and maps with the same frames may stand for one another. A map that differs from another by one frame is the other
+/// with this frame alone over it.
 pub fn maps_override_by_address()
     ensures twice { (m p q : FrameMap) → HaveSameFrames (override (override m p) q) (override m (override p q)) }
     ensures disjoint { (m p q : FrameMap) → AreDisjoint p q → HaveSameFrames (override (override m p) q) (override (override m q) p) }
@@ -27,7 +28,8 @@ pub fn memories_are_maps()
 {}
 
 /// A plan is a map: at the address of a row it has the row's words, and at an address that it doesn't name nothing. The
-/// map of rows with others after them is theirs over that of the others; where all are in order, no address is in both.
+/// map of rows and then others is the map of the first rows over the map of the others; where the rows all together are
+/// in order, the two maps share no address.
 /// Rows in another order are the same map, where no two have one address. The total of a plan is the plan over zeros:
 /// what is planned at the addresses that it names, zeros at the others. A plan that names each address of the part, put
 /// over any frames, is its total.

@@ -54,7 +54,7 @@ IsDifference (UpdatingFlash name stream) old new event = (place : ℕ) × (event
 IsDifference _ old new event = ⊥
 
 -- A write of the flash of a form failed once all else was done: the flash is within the limit, and over
--- what is known the form comes to its end.
+-- what is known the form comes to its whole text, which is empty.
 abbrev pub WritesLast : AskedForm → Outside → Outside → Type 0
 WritesLast form old new = WritesFail (updated_by (Some form)) old.flash new.flash × (new.flash.extent ≤ flash_limit) × GivesIfKnown (known_in old) form (Ok no_text)
 
@@ -153,8 +153,8 @@ OutputGets form old new (Err event) = OutputByCause (cause_of_event event) form 
 
 -- ---- how large a flash is
 
--- by the number of its bytes, known or not: the flash of a form is within the limit where the form's text is whole, and
--- over it where it is too large, if no input of its name is that
+-- By the number of its bytes, known or not, the flash of a form is within the limit where the form's text is whole, and
+-- over the limit where the event is that a name of the flash is too large, unless an input of the form has that name too.
 abbrev pub IsMeasured : Option AskedForm → FlashState → Result Answer Event → Type 0
 IsMeasured form new (Ok answer) = (name : List ℕ) → Among (flash_names form) name → new.extent ≤ flash_limit
 IsMeasured form new (Err event) = (name : List ℕ) → Among (flash_names form) name → event ≡ too_large name → (flash_limit < new.extent) ⊎ Among (names_of form) name
@@ -264,16 +264,16 @@ pub record MakesReadyFrom (form : AskedForm) (old new : Sources) (got : Result A
   pub asks : AsksAtMost old.inputs (length (names_of (Some form))) new.inputs
   pub stays : InputsStay old.inputs new.inputs
 
--- a flash's name isn't there, or the flash failed: it was asked for, and its count rose
+-- a flash's name isn't there, or the flash failed: it was asked for, and its count of absences, or of faults, rose
 abbrev pub IsMissingOrFailed : List ℕ → FlashState → FlashState → Event → Type 0
 IsMissingOrFailed name old new event = ((event ≡ missing name) × FlashLacksAmong (name ∷ []) old new name) ⊎ ((event ≡ reading_failed name) × FlashFailsAmong (name ∷ []) old new name)
 
--- a flash can't be used: it was not attached and none is, or it is larger than a flash may be
+-- a flash can't be used: it was not attached, and none is attached now, or it is larger than a flash may be
 abbrev pub IsUnattachedOrLarge : List ℕ → FlashState → FlashState → Event → Type 0
 IsUnattachedOrLarge name old new event = (IsMissingOrFailed name old new event × (new.attached ≡ false)) ⊎ ((event ≡ too_large name) × (flash_limit < new.extent) × IfKnown old.bytes (λ all. flash_limit < length all))
 
 -- what a boot from a flash of this name comes to: want of memory, a flash that isn't there or failed, or what its bytes
--- give, by their number
+-- give: a text where they are within the limit, an event where they are over it
 abbrev pub FlashComes : List ℕ → PartData → FlashState → FlashState → Result Answer Event → Type 0
 FlashComes name part old new (Ok answer) = FlashBoots name part (flash_found old.bytes) (Ok answer) × (new.extent ≤ flash_limit)
 FlashComes name part old new (Err event) = (event ≡ no_memory) ⊎ (IsMissingOrFailed name old new event ⊎ (FlashBoots name part (flash_found old.bytes) (Err event) × (flash_limit < new.extent)))

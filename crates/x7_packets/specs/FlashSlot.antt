@@ -17,8 +17,8 @@ flash_slot_size = 32
 abbrev pub flash_slot_count : ℕ
 flash_slot_count = 2048
 
--- the bytes of a slot with a switch word and a start address, four bytes each: a no-op, a write of the address to
--- WBSTAR, IPROG, and then DESYNC for a fallback, which ignores IPROG
+-- the bytes of a slot, by the four of its switch word and the four of its start address: the switch word, a no-op, a
+-- write of the address to WBSTAR, IPROG, and DESYNC for a device in fallback, which ignores IPROG
 abbrev pub flash_slot : List ℕ → List ℕ → List ℕ
 flash_slot switch start =
     switch ++ (bytes_of_word no_op ++ (bytes_of_word (type1_write_header (number_of Wbstar) 1)

@@ -133,7 +133,7 @@ abbrev pub executed : History → List ℕ
 executed [] = []
 executed (e ∷ h) = with_command (executed_by (command_held h) e.access) (executed h)
 
--- the access can come of words of 32 bits: a register's number has five bits, and a count at most 27
+-- the access can come of words of 32 bits: a register's number has five bits, and a count 27 at most
 abbrev pub FitsAccess : Access → Type 0
 FitsAccess (Write register w) = (register < reg_number_count) × (w < 2 ^ 32)
 FitsAccess (Read register count) = (register < reg_number_count) × (count < type2_count_bound)

@@ -239,8 +239,9 @@ impl Cutter {
         Some((register, count as usize))
     }
 
-    /// Takes a short gap that comes next, and gives the sync word after it, where that stands near the beginning of
-    /// `rest` and `rest` is long enough to see it. Gives how many bytes of the gap stand in `rest`.
+    /// Takes what is left of a gap and the sync word after it, where the sync word stands whole in the first 35 bytes of
+    /// `rest`, and `rest` has at least `PLACES_REACH` bytes. Answers how many of the bytes are the gap's. After `None` a
+    /// sync word may stand there still.
     #[inline(always)]
     pub fn take_gap(&mut self, rest: &[u8]) -> Option<usize>
         ensures ends_gap { IfSome result (λ count. EndsGap self.old self.new rest.now count) }

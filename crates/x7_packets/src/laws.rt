@@ -35,7 +35,7 @@ pub fn reading_is_found()
 {}
 
 /// What further words of a session, or a run of a cutter, enter into the history: the access of each, at its place. The
-/// next word then begins that many bytes on, and no tail is left. All bytes are those up to the place of the next word
+/// next word then begins four bytes on for each of these words, and no tail is left. All bytes are those up to the place of the next word
 /// and the tail, and the history of a reading is that of its bytes.
 pub fn words_enter()
     ensures words { (old new : Reading) (more : List (ℕ × Step)) → GoesOnBy more old new → history_in new ≡ entered_all (next_in old) more (history_in old) }
@@ -66,7 +66,7 @@ pub fn nothing_enters()
         → history sessions (Synced gap packets (tail ++ more)) ≡ history sessions (Synced gap packets tail) }
 {}
 
-/// Each access of a reading has a register of five bits, and a word of 32 bits or a count of 27.
+/// What an access of a reading holds fits: a register's number in five bits, a word in 32, a count in 27.
 pub fn accesses_fit()
     ensures { (bytes : List ℕ) (sessions : List EndedSession) (place : Place) → IsReading bytes sessions place → AllFit (history sessions place) }
 {}

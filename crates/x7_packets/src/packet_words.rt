@@ -54,7 +54,7 @@ const BELOW_KIND: u32 = 27;
 /// How many bits of a type 1 header stand below its register.
 const BELOW_REGISTER: u32 = 13;
 
-/// A register's number where nothing stands below it: five bits.
+/// The bits of a register's number, once those below it are shifted away: five.
 const REGISTER_BITS: u32 = 0x1F;
 
 /// The bits of a type 1 header that are its word count, 10:0.

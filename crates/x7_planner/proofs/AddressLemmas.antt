@@ -17,7 +17,7 @@ foreign_at part rows i row h e before foreign = record {
   split = sym (take-append-drop i rows) ∙ ap (λ t. take i rows ++ t) (drop_more rows i row h ∙ ap (λ (r : PlanRow). r ∷ drop (i + 1) rows) e);
   addressed = before;
   foreign = foreign;
-  is = refl;
+  address_is = refl;
 }
 
 pub addressed_more : (part : PartData) (rows : List PlanRow) (i : ℕ) (row : PlanRow) → i < length rows → get_or rows i row ≡ row → AreAddressed part (take i rows) → Contains (addresses_in part) row.far

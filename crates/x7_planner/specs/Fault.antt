@@ -15,7 +15,7 @@ pub record IsFirstForeign (part : PartData) (rows : List PlanRow) (address : ℕ
   pub split : rows ≡ before ++ row ∷ after
   pub addressed : AreAddressed part before
   pub foreign : ¬ Contains (addresses_in part) row.far
-  pub is : address ≡ row.far
+  pub address_is : address ≡ row.far
 
 -- n slots can be read from an address: at least one, and no more than there are
 pub record CanRead (part : PartData) (address n : ℕ) : Type 0 where
@@ -27,18 +27,18 @@ pub record CanRead (part : PartData) (address n : ℕ) : Type 0 where
 abbrev pub IsOutOfRange : PartData → ℕ → ℕ → Type 0
 IsOutOfRange part address n = (n ≡ 0) ⊎ (length (slots_from part address) < n)
 
--- the faults of a full stream
+-- with this fault a full stream of the plan is refused; want of memory is none of these faults
 abbrev pub IsFullFault : PartData → PlanData → PlanFault → Type 0
 IsFullFault part plan (fault.Foreign address) = IsFirstForeign part plan.rows address
 IsFullFault part plan _ = ⊥
 
--- the faults of a partial stream
+-- with this fault a partial stream of the plan is refused; want of memory is none of these faults
 abbrev pub IsPartialFault : PartData → PlanData → PlanFault → Type 0
 IsPartialFault part plan fault.Empty = plan.rows ≡ []
 IsPartialFault part plan (fault.Foreign address) = IsFirstForeign part plan.rows address
 IsPartialFault part plan _ = ⊥
 
--- the faults of a read stream
+-- with this fault a read stream of n slots from an address is refused; want of memory is none of these faults
 abbrev pub IsReadFault : PartData → ℕ → ℕ → PlanFault → Type 0
 IsReadFault part address n (fault.Foreign a) = (a ≡ address) × (¬ Contains (addresses_in part) address)
 IsReadFault part address n (fault.Range m) = (m ≡ n) × Contains (addresses_in part) address × IsOutOfRange part address n

@@ -1,4 +1,4 @@
-//! Why there is no stream.
+//! Why a planner refuses.
 ghost use Rattle.std.specs.Prelude.{◌≡◌};
 
 use thiserror::Error;

@@ -10,7 +10,7 @@ gts_user_b = 0
 abbrev pub sbits : ℕ
 sbits = 4
 
--- the bit of DEC in CTL0: 1 where a stream would be encrypted
+-- the bit of DEC in CTL0: 1 where the device is to decrypt the stream
 abbrev pub dec : ℕ
 dec = 6
 
@@ -22,11 +22,11 @@ glutmask_b = 8
 abbrev pub config_fallback : ℕ
 config_fallback = 10
 
--- SBITS forbid to write frames
+-- SBITS forbid writing frames
 abbrev pub forbids_writing : ℕ → Bool
 forbids_writing ctl0 = field_of (sbits + 1) 1 ctl0 == 1
 
--- SBITS forbid to read frames
+-- SBITS forbid reading frames
 abbrev pub forbids_reading : ℕ → Bool
 forbids_reading ctl0 = not (field_of sbits 2 ctl0 == 0)
 

@@ -75,9 +75,9 @@ fn put_end(out: &mut Vec<u8>, end: End)
     }
 }
 
-/// Appends to `out` where the bytes taken end, without a line end (this project's choice): `searching`, `synced`,
-/// `iprog WBSTAR`, or `fault ` with the kind of fault and its words. Words have eight upper-case hexadecimal digits.
-/// `NoMemory` leaves `out` as it was.
+/// Appends to `out` what a report says after `end `, of where the bytes taken end (this project's choice): `searching`,
+/// `synced`, `iprog WBSTAR`, or `fault ` with the kind of fault and its words. Words have eight upper-case hexadecimal
+/// digits; no line feed is appended. `NoMemory` leaves `out` as it was.
 pub fn end_words(out: &mut Vec<u8>, regs: &Regs) -> Result<(), NoMemory>
     ensures appends { OnOk result (out.new.items ≡ out.old.items ++ end_text regs.now.end) }
     ensures unchanged { OnErr result (out.new.items ≡ out.old.items) }

@@ -6,7 +6,7 @@ use x7_words::NoMemory;
 /// Why a line was not taken, or a case not run.
 #[derive(Clone, Copy, Drop)]
 pub enum Fault {
-    /// The line begins with a key that isn't one of these.
+    /// The line begins with a key that the format lacks.
     Key,
     /// The line isn't one of the format.
     Line,

@@ -49,8 +49,8 @@ fn shown(alloc: Global, line: &[u8]) -> Result<String, Fault> {
 /// Notes on the runs of one file of cases.
 pub(crate) struct Notes {
     alloc: Global,
-    /// The case, and what differs from run to run.
-    run: String,
+    /// The name of the run that notes are on: its case, and in what it differs from the case's other runs.
+    run_name: String,
     /// All notes so far, as they are printed.
     pub(crate) text: String,
     /// Whether memory lacked for a run or for a note on it, so that the notes say too little.
@@ -61,7 +61,7 @@ impl Drop for Notes {
     fn drop(self) {
         let Notes {
             alloc: _,
-            run: _,
+            run_name: _,
             text: _,
             lacks_memory: _,
         } = self;
@@ -73,7 +73,7 @@ impl Notes {
     pub(crate) fn new(alloc: Global) -> Notes {
         Notes {
             alloc,
-            run: String::new(alloc),
+            run_name: String::new(alloc),
             text: String::new(alloc),
             lacks_memory: false,
         }
@@ -81,47 +81,47 @@ impl Notes {
 
     /// Begins the notes on a run of this name.
     pub(crate) fn begin(&mut self, name: &str) {
-        self.run.clear();
+        self.run_name.clear();
         self.add(name);
     }
 
     /// Adds to the name of the run.
     pub(crate) fn add(&mut self, text: &str) {
-        let done = self.run.push_str(text);
+        let done = self.run_name.push_str(text);
         self.lacks_memory |= done.is_err();
     }
 
     /// Adds a number to the name of the run, and texts before and after it.
     pub(crate) fn add_number(&mut self, before: &str, number: u32, after: &str) {
-        let done = write!(self.run, "{before}{number}{after}");
+        let done = write!(self.run_name, "{before}{number}{after}");
         self.lacks_memory |= done.is_err();
     }
 
-    /// Takes how a run, or a note on it, went.
+    /// Takes how a run, or a note on it, went: each fault counts as want of memory.
     pub(crate) fn take(&mut self, done: Result<(), Fault>) {
         self.lacks_memory |= done.is_err();
     }
 
     /// Notes two values that differ.
     pub(crate) fn put<D: Display + Drop>(&mut self, what: &str, expected: D, came: D) {
-        let run = &self.run;
+        let run_name = &self.run_name;
         let done = write!(
             self.text,
-            "{run}: {what}\n  expected {expected}\n  came     {came}\n"
+            "{run_name}: {what}\n  expected {expected}\n  came     {came}\n"
         );
         self.lacks_memory |= done.is_err();
     }
 
-    /// Adds a line: a name, a number between two texts, and what comes after them.
+    /// Adds a line: a name and a colon, a number between two texts, and a last text.
     pub(crate) fn put_line(
         &mut self,
         name: &str,
         before: &str,
         number: u64,
         after: &str,
-        line: &str,
+        rest: &str,
     ) {
-        let done = write!(self.text, "{name}: {before}{number}{after}{line}\n");
+        let done = write!(self.text, "{name}: {before}{number}{after}{rest}\n");
         self.lacks_memory |= done.is_err();
     }
 
@@ -139,7 +139,7 @@ impl Notes {
     }
 
     /// Notes two lines that differ.
-    fn put_lines(&mut self, what: &str, expected: &[u8], came: &[u8]) -> Result<(), Fault> {
+    fn put_unequal_lines(&mut self, what: &str, expected: &[u8], came: &[u8]) -> Result<(), Fault> {
         let expected = shown(self.alloc, expected)?;
         let came = shown(self.alloc, came)?;
         self.put(what, expected.as_str(), came.as_str());
@@ -149,25 +149,25 @@ impl Notes {
     /// Notes that two lines differ, if they do.
     pub(crate) fn compare_lines(&mut self, what: &str, expected: &[u8], came: &[u8]) {
         if expected != came {
-            let done = self.put_lines(what, expected, came);
+            let done = self.put_unequal_lines(what, expected, came);
             self.take(done);
         }
     }
 
-    /// Notes where two texts differ.
-    fn put_place(&mut self, what: &str, expected: &[u8], came: &[u8]) -> Result<(), Fault> {
+    /// Notes where two texts differ first: the line, from 1, and the byte of the whole text, from 0.
+    fn put_difference(&mut self, what: &str, expected: &[u8], came: &[u8]) -> Result<(), Fault> {
         let place = common_length(expected, came);
         let line = lines_before(expected, place).saturating_add(1);
         let what = format!(in self.alloc; "{what} line {line}, byte {place}")?;
         let expected = line_at(expected, place);
         let came = line_at(came, place);
-        self.put_lines(what.as_str(), expected, came)
+        self.put_unequal_lines(what.as_str(), expected, came)
     }
 
     /// Notes where two texts differ, if they do.
     pub(crate) fn compare_texts(&mut self, what: &str, expected: &[u8], came: &[u8]) {
         if expected != came {
-            let done = self.put_place(what, expected, came);
+            let done = self.put_difference(what, expected, came);
             self.take(done);
         }
     }

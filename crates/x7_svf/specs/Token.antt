@@ -16,11 +16,11 @@ pub record TokenOnLine : Type 0 where
   pub line : ℕ
   pub token : Token
 
--- a byte may stand in a word: it is no blank, tab or line end, no bracket and no `;`
+-- a byte may stand in a word: it is no space, tab or line end, no bracket and no `;`
 abbrev pub is_word_byte : ℕ → Bool
 is_word_byte c = not (c == space_byte || c == tab_byte || c == line_end_byte || c == open_bracket_byte || c == close_bracket_byte || c == semicolon_byte)
 
--- a byte is a blank, a tab or a line end
+-- a byte is a blank: a space, a tab or a line end
 abbrev pub is_blank_byte : ℕ → Bool
 is_blank_byte c = c == space_byte || c == tab_byte || c == line_end_byte
 
@@ -28,11 +28,12 @@ is_blank_byte c = c == space_byte || c == tab_byte || c == line_end_byte
 abbrev pub byte_token : ℕ → Token
 byte_token c = if c == open_bracket_byte then Open else (if c == close_bracket_byte then Close else End)
 
--- the line after a byte
+-- the number of the line on which the text goes on after a byte of this line
 abbrev pub line_after : ℕ → ℕ → ℕ
 line_after c line = if c == line_end_byte then line + 1 else line
 
--- tokens, of which the first is a word that has this byte more before it, or begins with it
+-- tokens after a word's byte on this line: the byte begins the first token where that is a word, and else is a word by
+-- itself before them
 abbrev pub extend : ℕ → ℕ → List TokenOnLine → List TokenOnLine
 extend line c [] = record { line = line; token = Word (c ∷ []) } ∷ []
 extend line c (t ∷ ts) = elim t.token as (λ t. List TokenOnLine) [

@@ -34,11 +34,11 @@ pub(crate) fn digit_number(digit: u8) -> u8
 {
     // by arithmetic: the digits of a scan are as good as random, and a jump over them would be guessed wrongly
     let decimal = u8::from(digit <= b'9');
-    let upper = u8::from(digit <= b'F');
-    digit.saturating_sub(87 - 32 * upper - 7 * decimal)
+    let not_lower = u8::from(digit <= b'F');
+    digit.saturating_sub(87 - 32 * not_lower - 7 * decimal)
 }
 
-/// Bit `index` of digits, from 0, the last of which has the lowest; 0 past the first digit.
+/// Bit `index`, from 0, of digits, of which the last one has the four lowest bits; 0 past the first digit.
 fn bit_of(digits: &[u8], index: u32) -> bool
     ensures { result ≡ bit_of digits.now index }
 {
@@ -112,7 +112,7 @@ impl<'t> Bits<'t> {
         self.count
     }
 
-    /// Bit `index`, from 0, and none exactly past the last.
+    /// Bit `index`, from 0; `None` past the last one.
     pub fn bit(&self, index: u32) -> Option<bool>
         ensures { result ≡ slice_get self.now index }
     {
@@ -122,8 +122,8 @@ impl<'t> Bits<'t> {
         Some(bit_of(self.digits, index))
     }
 
-    /// The bytes of the bits from bit `from` on, a multiple of eight: those that end before the last bit, and at most
-    /// 1,024. The first of eight bits is the highest of its byte.
+    /// The bytes of the bits from bit `from` on, a multiple of eight: those that end before the last bit, which
+    /// goes out by itself, and at most 1,024. The first of eight bits is the highest of its byte.
     pub fn bytes_from(&self, from: u32) -> ArrayVec<u8, MOST_BYTES_AT_ONCE>
         requires whole { from % 8 ≡ 0 }
         requires more_than_a_byte { from + 8 < length self.now }

@@ -13,10 +13,10 @@ fn begins_with(text: &[u8], byte: u8) -> bool
 }
 
 /// Whether a byte is one of a comment, by whether the byte before it was one. A comment begins at `!`, or at `//`.
-fn is_inside(is_in_comment: bool, byte: u8, after: &[u8]) -> bool
-    ensures { result ≡ is_inside is_in_comment byte after.now }
+fn is_inside(after_comment_byte: bool, byte: u8, after: &[u8]) -> bool
+    ensures { result ≡ is_inside after_comment_byte byte after.now }
 {
-    if is_in_comment {
+    if after_comment_byte {
         byte != b'\n'
     } else {
         byte == b'!' || byte == b'/' && begins_with(after, b'/')

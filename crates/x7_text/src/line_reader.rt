@@ -175,9 +175,9 @@ impl<T: TakesLines> LineReader<T> {
         }
     }
 
-    /// Takes the next piece of a text of fewer than 2^63 bytes, which may end inside a line. A fault is that of the
-    /// whole text, whatever follows. Where no beginning of a line is held, memory is wanting only at a line of the
-    /// piece, or to hold the beginning of a line after them.
+    /// Takes the next piece of a text of fewer than 2^63 bytes; the piece may end inside a line. A fault is that of the
+    /// whole text, whatever follows. Where no beginning of a line is held, memory is wanting only at one of the piece's
+    /// lines, or to hold the beginning of the line in which the piece ends.
     pub fn feed(self, piece: &[u8]) -> Result<LineReader<T>, T::Fault>
         ensures read { (first : T) → TakesTextPiece (T.took first) (T.fails first) self piece.now result (λ reader. reader) }
         ensures memory { (first : T) → WantsOnlyIn (T.took first) (T.wants first) T.is_want self piece.now result }

@@ -96,8 +96,8 @@ pub record PromisesImageFor (known : Known) (part golden update image : List ℕ
   pub read : image_streams known golden update ≡ Ok streams
   pub boots : (more : List ℕ) → HasStreams device streams.golden streams.update (image ++ more)
 
--- a boot from a flash of these bytes; startup has begun in its last attempt only where that
--- made its checks, also where it didn't start
+-- a boot from a flash of these bytes: its last attempt made its checks where startup has begun in it, even if the attempt
+-- failed, and where the text says that the boot started
 pub record StartsChecked (part : PartData) (flash : List ℕ) (answer : Answer) : Type 0 where
   pub boot : IsBootText part flash answer
   pub checked : 0 < (end_state part boot.last).phase → HasChecked part boot.last.kept boot.last.bytes

@@ -92,7 +92,8 @@ fn verify_sector<F: Flash>(
     )
 }
 
-/// Reads the switch word of the slot that was opened, and compares it.
+/// Reads the switch word of the slot of this number, which was opened, and compares it with that of an open slot. The
+/// fault doesn't depend on the update's stream, so it is one of an update with any.
 pub(crate) fn verify_switch<F: Flash>(flash: &mut F, slot: u64) -> Result<(), UpdateFault>
     requires attached { (F.state flash.old).attached ≡ true }
     requires size { IsUpdatableSize (F.state flash.old).extent }

@@ -5,7 +5,7 @@ use Rattle.x7_words.specs.Count.{HasRisen}
 use Rattle.x7_words.specs.declared.input.SelectFault.{SelectFault}
 use Rattle.x7_words.specs.declared.input.SelectFault.TheVariants.{Missing, Failed}
 
--- how many bytes a text or stream that is taken has fewer than
+-- a bound on the bytes of a text or stream that is taken
 abbrev pub taken_bytes_limit : ℕ
 taken_bytes_limit = 2 ^ 63
 

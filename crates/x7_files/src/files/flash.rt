@@ -30,7 +30,7 @@ fn go_to<F: Seek>(file: &mut F, place: u64) -> io::Result<()>
     Ok(())
 }
 
-/// Fills the buffer with the bytes from the place on.
+/// Fills the buffer with a file's bytes from the place on.
 fn read_from<F: Read + Seek>(file: &mut F, place: u64, buf: &mut [u8]) -> io::Result<()>
     ensures length { length buf.new ≡ length buf.old }
     ensures read { OnOk result (ReadsAt (file_tells F.stream_position F.remaining) place buf.new file.old file.new) }
@@ -39,7 +39,7 @@ fn read_from<F: Read + Seek>(file: &mut F, place: u64, buf: &mut [u8]) -> io::Re
     file.read_exact(buf)
 }
 
-/// How many bytes a program reads and writes at once.
+/// How many bytes programming a flash reads and writes at once.
 const PIECE_SIZE: usize = 4096;
 
 /// The options that a flash file is opened with where it may be written.
@@ -52,7 +52,7 @@ fn flash_options() -> OpenOptions
     options
 }
 
-/// Opens a file with these options, or for reading alone where it may not be written.
+/// Opens a file with these options, or for reading alone where that fails.
 fn open_flash<R: Files>(rt: &R, options: &OpenOptions, name: &str) -> io::Result<R::File>
     requires { AsksReadAndWriteAlone options.now }
 {

@@ -12,7 +12,7 @@ use Rattle.x7_listing.specs.Line.{cmd_line, ended_text}
 abbrev pub write_head_text : ℕ → ℕ → List ℕ
 write_head_text register count = text_of_head (Open register count) (type1_write_header register count)
 
--- the line of the header of a write of one word
+-- the line, with its end, of the header of a write of one word
 abbrev pub write_line_text : ℕ → List ℕ
 write_line_text register = codes "write " ++ reg_name register ++ codes " 1\n"
 

@@ -120,8 +120,8 @@ fn has_spaces(text: &[u8; LOOK_SIZE], count: usize) -> bool
     true
 }
 
-/// Whether spaces stand where a `data` line of this many words has them, with the loop of a full row, which is the
-/// longest, laid out by the compiler.
+/// Whether spaces stand where a `data` line of this many words has them, as `has_spaces` says; a full row, the longest,
+/// goes by a call with a constant count, whose loop the compiler unrolls.
 #[inline(always)]
 fn is_spaced(text: &[u8; LOOK_SIZE], count: usize) -> bool
     requires in_row { count ≤ row_words }

@@ -361,9 +361,10 @@ const WRITE_BYTE: u8 = 0x30;
 /// The first byte of the no-op.
 const NO_OP_BYTE: u8 = 0x20;
 
-/// Whether the next word may be a write's header or a no-op, by its first byte.
+/// Whether a short run of a session may come next, by its first byte: that of a write's header or of a no-op. What comes
+/// is looked at by `take_next`.
 #[inline(always)]
-fn may_come(rest: &[u8]) -> bool {
+fn short_run_may_come(rest: &[u8]) -> bool {
     let [first, ..] = rest else {
         return false;
     };
@@ -399,7 +400,7 @@ pub(crate) fn take_short(
     let Pen::Session(in_line) = pen else {
         return None;
     };
-    if !may_come(rest) {
+    if !short_run_may_come(rest) {
         return None;
     }
     let mut now = in_line;

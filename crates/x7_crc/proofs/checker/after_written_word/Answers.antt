@@ -1,7 +1,7 @@
 use Rattle.std.proofs.Common.{ap, ◌∙◌}
 use Rattle.x7_packets.specs.History.{executed_by, Write}
 use Rattle.x7_regs.specs.Register.{number_of}
-use Rattle.x7_crc.proofs.checker.after_steering_word.Goals as goal
+use Rattle.x7_crc.proofs.checker.after_written_word.Goals as goal
 
 pub returns : goal.returns
 returns c = λ h place s. record {
