@@ -9,6 +9,7 @@ use Rattle.std.specs.Prelude.{◌≡◌, ℕ, ◌+◌, ◌*◌, ◌==◌, ◌||�
 use Rattle.x7_words.specs.Flash.{IfKnown}
 use Rattle.x7_words.specs.Word.{AreBytes, field_of}
 use Rattle.x7_part.specs.Part.{PartData}
+use Rattle.x7_part.specs.Limits.{large_start_unit}
 use Rattle.x7_regs.specs.Control.{forbids_fallback}
 use Rattle.x7_regs.specs.declared.boot_status.Kind.TheVariants.{Power, Iprog, Fallback}
 use Rattle.x7_engine.specs.Kept.{is_fallback}
@@ -25,11 +26,7 @@ use Rattle.x7_boot.specs.declared.boots.Tried.{Tried}
 use Rattle.x7_boot.specs.declared.next.Next.{Next}
 use Rattle.x7_boot.specs.declared.next.Next.TheVariants.{Again, Ends}
 
--- how many bytes one step of a start address stands for where the flash's addresses have 32 bits
-abbrev pub large_unit : ℕ
-large_unit = 256
-
--- how many bits of WBSTAR, from bit 0 up, are a start address that counts steps of `large_unit` bytes
+-- how many bits of WBSTAR, from bit 0 up, are a start address that counts steps of `large_start_unit` bytes
 abbrev pub large_start_address_bits : ℕ
 large_start_address_bits = 24
 
@@ -40,7 +37,7 @@ start_address_bits = 29
 -- the place in the flash, in bytes, that WBSTAR names, for a part of which one step of the start address stands for
 -- `unit` bytes: the word's bits 28:0, or, for a large unit, that many times its bits 23:0
 abbrev pub start_address : ℕ → ℕ → ℕ
-start_address unit wbstar = if unit == large_unit then large_unit * field_of 0 large_start_address_bits wbstar else field_of 0 start_address_bits wbstar
+start_address unit wbstar = if unit == large_start_unit then large_start_unit * field_of 0 large_start_address_bits wbstar else field_of 0 start_address_bits wbstar
 
 -- the state of a device at the end of an attempt
 abbrev pub end_state : PartData → AttemptCourse → Regs

@@ -13,6 +13,7 @@ ghost use Rattle.x7_boot.specs.declared.next.Next.TheVariants as next;
 use crate::attempt::Ending;
 use crate::boots::BootEnd;
 use x7_engine::{Device, Kept, is_fallback};
+use x7_part::LARGE_START_UNIT;
 use x7_regs::{Kind, forbids_fallback};
 
 /// The most attempts of a boot that may end by IPROG (this project's choice).
@@ -21,10 +22,7 @@ const MOST_IPROGS: u32 = 16;
 /// How many bits of WBSTAR, from bit 0 up, are a start address that counts bytes.
 const START_ADDRESS_BITS: u32 = 29;
 
-/// How many bytes one step of a start address stands for where the flash's addresses have 32 bits.
-const LARGE_UNIT: u32 = 256;
-
-/// How many bits of WBSTAR, from bit 0 up, are a start address that counts steps of `LARGE_UNIT` bytes.
+/// How many bits of WBSTAR, from bit 0 up, are a start address that counts steps of `LARGE_START_UNIT` bytes.
 const LARGE_START_ADDRESS_BITS: u32 = 24;
 
 /// What comes after an attempt of a boot.
@@ -45,8 +43,8 @@ pub enum Next {
 fn start_address(unit: u32, wbstar: u32) -> u32
     ensures { result ≡ start_address unit wbstar }
 {
-    if unit == LARGE_UNIT {
-        LARGE_UNIT * (wbstar % (1 << LARGE_START_ADDRESS_BITS))
+    if unit == LARGE_START_UNIT {
+        LARGE_START_UNIT * (wbstar % (1 << LARGE_START_ADDRESS_BITS))
     } else {
         wbstar % (1 << START_ADDRESS_BITS)
     }
