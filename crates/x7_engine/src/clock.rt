@@ -2,7 +2,7 @@
 ghost use Rattle.std.specs.Prelude.{◌≡◌, ◌<◌, ◌≤◌, ◌+◌, ◌++◌, [], ℕ, true, None, IfSome, IsTrue, ◌==◌, nat_le};
 ghost use Rattle.x7_packets.specs.History.{History};
 ghost use Rattle.x7_part.specs.Part.{PartData};
-ghost use Rattle.x7_flow.specs.Standing.{word_to, written_to};
+ghost use Rattle.x7_flow.specs.Standing.{write_access, write_entry};
 ghost use Rattle.x7_startup.specs.Phases.{last_phase};
 ghost use Rattle.x7_startup.specs.Startup.{AddsCalls, ticks_of};
 ghost use Rattle.x7_startup.specs.Watchdog.{ForEachCalls, WatchesFor};
@@ -39,7 +39,7 @@ fn move_startup(startup: &mut Startup, executed: Option<u8>, takes_shutdown: boo
 
 /// What a written word asks of the watchdog.
 fn move_watchdog(watchdog: &mut Watchdog, executed: Option<u8>, reg: Reg, word: u32)
-    ensures { ForEachCalls watchdog.old (λ off first calls. WatchesFor off first watchdog.new (calls ++ watch_call_by executed (word_to reg word))) }
+    ensures { ForEachCalls watchdog.old (λ off first calls. WatchesFor off first watchdog.new (calls ++ watch_call_by executed (write_access reg word))) }
 {
     if is_command(Command::Ltimer, executed) {
         watchdog.reload();
@@ -81,8 +81,8 @@ impl Clock {
         reg: Reg,
         word: u32,
     )
-        ensures { (place : ℕ) → TakesEntry (clock_in self.old) (clock_in self.new) (written_to reg word place)
-            (λ h. AreFactsOfWrite executed takes_shutdown cor0 h (word_to reg word)) }
+        ensures { (place : ℕ) → TakesEntry (clock_in self.old) (clock_in self.new) (write_entry reg word place)
+            (λ h. AreFactsOfWrite executed takes_shutdown cor0 h (write_access reg word)) }
     {
         move_startup(&mut self.startup, executed, takes_shutdown, cor0);
         move_watchdog(&mut self.watchdog, executed, reg, word);

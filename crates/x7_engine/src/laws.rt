@@ -14,7 +14,7 @@ ghost use Rattle.x7_engine.specs.Checked.{HasStartAndDesync};
 ghost use Rattle.x7_engine.specs.Kept.{AreFallbacks, is_fallback, on_the_bench, without_kept};
 ghost use Rattle.x7_engine.specs.FirstStop.{IsFirstStop, why_at_byte};
 ghost use Rattle.x7_flow.specs.Controls.{masked_register, same_idcode};
-ghost use Rattle.x7_flow.specs.Standing.{word_to};
+ghost use Rattle.x7_flow.specs.Standing.{write_access};
 ghost use Rattle.x7_engine.specs.Registers.{HasMaskedBits, cor0_held, has_ghigh, clears_check, is_pending, takes_shutdown};
 ghost use Rattle.x7_engine.specs.Past.{HasPast, HasStoppedBefore, IsBootAttempt, ForEachPast, Past, StandsBefore, due_at, history_taken_at, later, memory_at, reads_at, state_at, first_stop_at, taken_at, reads_given_at};
 ghost use Rattle.x7_engine.specs.Rest.{AtRest, LastGapGoesOn};
@@ -92,8 +92,8 @@ pub fn watchdog_fires()
 /// the device; of a device that hasn't stopped this is said of the accesses before the last byte.
 pub fn checks_before_startup()
     ensures started { (p : Past) → AreBytes p.bytes → 0 < (state_at p).phase → HasStartAndDesync p.part.idcode (history_taken_at p) (taken_at p) }
-    ensures checks { (p : Past) (w place : ℕ) (older : History) → StandsBefore p (word_to Crc w) place older → w ≡ running_check older }
-    ensures idcodes { (p : Past) (w place : ℕ) (older : History) → StandsBefore p (word_to Idcode w) place older → IsTrue (same_idcode p.part.idcode w) }
+    ensures checks { (p : Past) (w place : ℕ) (older : History) → StandsBefore p (write_access Crc w) place older → w ≡ running_check older }
+    ensures idcodes { (p : Past) (w place : ℕ) (older : History) → StandsBefore p (write_access Idcode w) place older → IsTrue (same_idcode p.part.idcode w) }
     ensures no_stop { (p : Past) (access : Access) (place : ℕ) (older : History) → StandsBefore p access place older → why_at_access p.part p.kept older access ≡ None }
 {}
 

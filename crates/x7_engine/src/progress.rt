@@ -6,7 +6,7 @@ ghost use Rattle.x7_crc.specs.RunningCheck.{executed_after};
 ghost use Rattle.x7_regs.specs.Command.{code_of};
 ghost use Rattle.x7_regs.specs.Register.{reg_number_count};
 ghost use Rattle.x7_flow.specs.Controls.{names_part, same_idcode};
-ghost use Rattle.x7_flow.specs.Standing.{word_to, written_to};
+ghost use Rattle.x7_flow.specs.Standing.{write_access, write_entry};
 ghost use Rattle.x7_engine.specs.Entering.{words_entered};
 ghost use Rattle.x7_engine.specs.Registers.{clears_check_by, has_ghigh_after, is_controlling, is_pending_after, takes_shutdown, writes_check, writes_command};
 
@@ -26,7 +26,7 @@ pub(crate) fn is_same_idcode(idcode: u32, word: u32) -> bool
 
 /// Whether a written word is the running check, written to CRC.
 fn writes_check(check: u32, reg: Reg, word: u32) -> bool
-    ensures { result ≡ writes_check check (word_to reg word) }
+    ensures { result ≡ writes_check check (write_access reg word) }
 {
     match reg {
         Reg::Crc => word == check,
@@ -36,7 +36,7 @@ fn writes_check(check: u32, reg: Reg, word: u32) -> bool
 
 /// Whether a written word clears the check without a fault: RCRC is executed, or the running check is written to CRC.
 fn clears_check_by(executed: Option<u8>, check: u32, reg: Reg, word: u32) -> bool
-    ensures { result ≡ clears_check_by executed check (word_to reg word) }
+    ensures { result ≡ clears_check_by executed check (write_access reg word) }
 {
     is_command(Command::Rcrc, executed) || writes_check(check, reg, word)
 }
@@ -65,7 +65,7 @@ fn takes_shutdown(cleared: bool, pending: bool) -> bool
 
 /// Whether the part's IDCODE was written, after a written word.
 fn has_idcode_after(has_idcode: bool, idcode: u32, reg: Reg, word: u32) -> bool
-    ensures { result ≡ (names_part idcode (word_to reg word) || has_idcode) }
+    ensures { result ≡ (names_part idcode (write_access reg word) || has_idcode) }
 {
     match reg {
         Reg::Idcode => is_same_idcode(idcode, word) || has_idcode,
@@ -75,7 +75,7 @@ fn has_idcode_after(has_idcode: bool, idcode: u32, reg: Reg, word: u32) -> bool
 
 /// Whether an IPROG command was written, after a written word.
 fn wrote_iprog_after(wrote: bool, reg: Reg, word: u32) -> bool
-    ensures { result ≡ (writes_command (code_of Command.Iprog) (word_to reg word) || wrote) }
+    ensures { result ≡ (writes_command (code_of Command.Iprog) (write_access reg word) || wrote) }
 {
     match reg {
         Reg::Cmd => command_code_of(word) == Command::Iprog.code() || wrote,
@@ -124,8 +124,8 @@ impl Progress {
     /// Takes a written word that executes a command, or none, and says whether it takes a pending shutdown.
     pub(crate) fn write(&mut self, idcode: u32, reg: Reg, word: u32, executed: Option<u8>) -> bool
         ensures stands { (h : History) (place : ℕ) → executed ≡ executed_after h reg word → IsProgress idcode (progress_in self.old) h
-            → IsProgress idcode (progress_in self.new) (written_to reg word place ∷ h) }
-        ensures takes { (h : History) → executed ≡ executed_after h reg word → IsProgress idcode (progress_in self.old) h → result ≡ takes_shutdown h (word_to reg word) }
+            → IsProgress idcode (progress_in self.new) (write_entry reg word place ∷ h) }
+        ensures takes { (h : History) → executed ≡ executed_after h reg word → IsProgress idcode (progress_in self.old) h → result ≡ takes_shutdown h (write_access reg word) }
     {
         let cleared = clears_check_by(executed, self.check, reg, word);
         let taken = takes_shutdown(cleared, self.pending);

@@ -7,7 +7,7 @@ ghost use Rattle.x7_packets.specs.History.{command_held, entered};
 ghost use Rattle.x7_part.specs.Part.{PartData};
 ghost use Rattle.x7_regs.specs.Register.{number_of};
 ghost use Rattle.x7_flow.specs.Settings.{AreSettingsAfter};
-ghost use Rattle.x7_flow.specs.Standing.{FramesFit, FramesStandFor, word_to};
+ghost use Rattle.x7_flow.specs.Standing.{FramesFit, FramesStandFor, write_access};
 ghost use Rattle.x7_flow.specs.WordsTaken.{TakesWords, count_taken};
 ghost use Rattle.x7_crc.specs.RunningCheck.{executed_after};
 ghost use Rattle.x7_engine.specs.WordCalls.{MayTakeWords, LeavesBytes, LeavesDue, HasNoneDueAtStop};
@@ -169,7 +169,7 @@ impl Registers {
         executed: Option<u8>,
     ) -> Option<StopCause>
         ensures value { ForEachHistory part.now (registers_in self.now) (λ kept h n. executed ≡ executed_after h reg word
-            → result ≡ why_besides_frames part.now kept h (word_to reg word)) }
+            → result ≡ why_besides_frames part.now kept h (write_access reg word)) }
         ensures counts { (n : ℕ) → counted_in result n ≡ n }
     {
         let idcode = part.idcode();

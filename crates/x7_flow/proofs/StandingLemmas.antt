@@ -29,7 +29,7 @@ use Rattle.x7_flow.specs.Asking.{Asked, LoadsFar, Commands, AddsWord, CopiesSour
 use Rattle.x7_flow.specs.HistoryFlow.{Flow, asked_under, asked_after, base_of, fault_by, first_flow, flow_by, flow_of, frame_fault, count_given}
 use Rattle.x7_flow.specs.FrameMemory.{copy_pairs, written_frames_more, memory_of, pairs_put}
 use Rattle.x7_flow.specs.FrameAccess.{reads_frame_data}
-use Rattle.x7_flow.specs.Standing.{AfterAccess, AfterRead, AreFramesAfter, FramesFit, FramesStandFor, FramesState, HaveDone, FramesHaveDone, HasFlow, frames_state, without_due, word_to, readback_words, words_due, frames_read}
+use Rattle.x7_flow.specs.Standing.{AfterAccess, AfterRead, AreFramesAfter, FramesFit, FramesStandFor, FramesState, HaveDone, FramesHaveDone, HasFlow, frames_state, without_due, write_access, readback_words, words_due, frames_read}
 use Rattle.x7_flow.proofs.FlowLemmas.{flow_more, flow_sound, landed_grows, memory_more, put_none}
 
 -- ---- each call of a pipeline does what is asked
@@ -291,14 +291,14 @@ read_answered part f h r count place (Some fault) b refused are = frame_read_ref
 -- ---- a written word
 
 -- what a word written to FDRI or MFWR asks, where the settings let it and where they don't
-pub word_asked : (idcode : ℕ) (h : History) (reg : Reg) (w : ℕ) (takes : Bool) → reg ≡ Fdri → takes_frames (settings_of idcode h) ≡ takes → asked_after idcode h (word_to reg w) ≡ (if takes then AddsWord w else NothingAsked)
+pub word_asked : (idcode : ℕ) (h : History) (reg : Reg) (w : ℕ) (takes : Bool) → reg ≡ Fdri → takes_frames (settings_of idcode h) ≡ takes → asked_after idcode h (write_access reg w) ≡ (if takes then AddsWord w else NothingAsked)
 word_asked idcode h reg w takes e t = rw (e, t) refl
 
-pub copies_asked : (idcode : ℕ) (h : History) (reg : Reg) (w : ℕ) (takes : Bool) → reg ≡ Mfwr → takes_copies (settings_of idcode h) ≡ takes → asked_after idcode h (word_to reg w) ≡ (if takes then CopiesSource else NothingAsked)
+pub copies_asked : (idcode : ℕ) (h : History) (reg : Reg) (w : ℕ) (takes : Bool) → reg ≡ Mfwr → takes_copies (settings_of idcode h) ≡ takes → asked_after idcode h (write_access reg w) ≡ (if takes then CopiesSource else NothingAsked)
 copies_asked idcode h reg w takes e t = rw (e, t) refl
 
 -- a word written to another register asks nothing
-pub nothing_asked : (idcode : ℕ) (h : History) (reg : Reg) (w : ℕ) → (reg ≡ Far → ⊥) → (reg ≡ Cmd → ⊥) → (reg ≡ Fdri → ⊥) → (reg ≡ Mfwr → ⊥) → asked_after idcode h (word_to reg w) ≡ NothingAsked
+pub nothing_asked : (idcode : ℕ) (h : History) (reg : Reg) (w : ℕ) → (reg ≡ Far → ⊥) → (reg ≡ Cmd → ⊥) → (reg ≡ Fdri → ⊥) → (reg ≡ Mfwr → ⊥) → asked_after idcode h (write_access reg w) ≡ NothingAsked
 nothing_asked idcode h Crc w far cmd fdri mfwr = refl
 nothing_asked idcode h Far w far cmd fdri mfwr = absurd (far refl)
 nothing_asked idcode h Fdri w far cmd fdri mfwr = absurd (fdri refl)
@@ -320,10 +320,10 @@ nothing_asked idcode h Bootsts w far cmd fdri mfwr = refl
 nothing_asked idcode h Ctl1 w far cmd fdri mfwr = refl
 nothing_asked idcode h Bspi w far cmd fdri mfwr = refl
 
-pub did_as : (part : PartData) (h : History) (reg : Reg) (w : ℕ) (a : Asked) (old new : FramesState) → asked_after part.idcode h (word_to reg w) ≡ a → HaveDone part a old new → HaveDone part (asked_after part.idcode h (word_to reg w)) old new
+pub did_as : (part : PartData) (h : History) (reg : Reg) (w : ℕ) (a : Asked) (old new : FramesState) → asked_after part.idcode h (write_access reg w) ≡ a → HaveDone part a old new → HaveDone part (asked_after part.idcode h (write_access reg w)) old new
 did_as part h reg w a old new e did = subst (λ (x : Asked). HaveDone part x old new) (sym e) did
 
-pub fault_as : (part : PartData) (h : History) (reg : Reg) (w : ℕ) (a : Asked) (f : Flow) → asked_after part.idcode h (word_to reg w) ≡ a → fault_by part a f ≡ fault_by part (asked_after part.idcode h (word_to reg w)) f
+pub fault_as : (part : PartData) (h : History) (reg : Reg) (w : ℕ) (a : Asked) (f : Flow) → asked_after part.idcode h (write_access reg w) ≡ a → fault_by part a f ≡ fault_by part (asked_after part.idcode h (write_access reg w)) f
 fault_as part h reg w a f e = ap (λ (x : Asked). fault_by part x f) (sym e)
 
 pub word_fault_is : (part : PartData) (p : PipelineData) (frames : List (List ℕ)) (h : History) (access : Access) (result : Option RunFault) →

@@ -108,12 +108,12 @@ pub record ReadsFrames (part : PartData) (f : FramesState) (h : History) (access
   pub stands : FramesStandFor part f h 0
 
 -- the access by which a word is written to a register
-abbrev pub word_to : Reg → ℕ → Access
-word_to register word = Write (number_of register) word
+abbrev pub write_access : Reg → ℕ → Access
+write_access register word = Write (number_of register) word
 
 -- the entry of a word written to a register at a place
-abbrev pub written_to : Reg → ℕ → ℕ → Entry
-written_to register word place = entry (word_to register word) place
+abbrev pub write_entry : Reg → ℕ → ℕ → Entry
+write_entry register word place = entry (write_access register word) place
 
 -- the entry of a read of some words of a register
 abbrev pub read_entry : ℕ → ℕ → ℕ → Entry

@@ -6,7 +6,7 @@ ghost use Rattle.x7_packets.specs.History.{History, Write};
 ghost use Rattle.x7_regs.specs.Register.{number_of};
 ghost use Rattle.x7_regs.specs.declared.register.Reg.TheVariants as reg;
 ghost use Rattle.x7_flow.specs.HistoryFlow.{frame_fault};
-ghost use Rattle.x7_flow.specs.Standing.{AfterAccess, AnswersReads, FramesFit, FramesStandFor, HaveWordsDue, ForEachHistoryOfFrames, far_owing, words_due, written_to};
+ghost use Rattle.x7_flow.specs.Standing.{AfterAccess, AnswersReads, FramesFit, FramesStandFor, HaveWordsDue, ForEachHistoryOfFrames, far_owing, words_due, write_entry};
 ghost use Rattle.x7_flow.specs.WordsTaken.{TakesWords, WordsTaken, words_to};
 
 mod saved;
@@ -82,7 +82,7 @@ impl Frames {
         part: &Part,
     ) -> Option<RunFault>
         requires part { FramesFit part.now self.old }
-        ensures stands { ForEachHistoryOfFrames part.now settings self.old (λ h. (place : ℕ) → AfterAccess part.now self.new h (written_to reg word place) result) }
+        ensures stands { ForEachHistoryOfFrames part.now settings self.old (λ h. (place : ℕ) → AfterAccess part.now self.new h (write_entry reg word place) result) }
         ensures fault { ForEachHistoryOfFrames part.now settings self.old (λ h. result ≡ frame_fault part.now h (Write (number_of reg) word)) }
         ensures part { FramesFit part.now self.new }
     {

@@ -23,7 +23,7 @@ ghost use Rattle.x7_flow.specs.Quiet.{AreQuiet};
 ghost use Rattle.x7_flow.specs.Saved.{FramesAreSaved, FramesBack, HaveOneAccessMore};
 ghost use Rattle.x7_flow.specs.Settings.{Settings, TakesFrames, settings_after, settings_from, settings_of};
 ghost use Rattle.x7_flow.specs.Sound.{IsSound};
-ghost use Rattle.x7_flow.specs.Standing.{FramesHaveDone, FramesFit, FramesStandFor, FramesState, ReadsData, ReadsFrames, ReadsMoreThanDue, flow_read, frames_map, frames_read, without_due, words_due, written_to};
+ghost use Rattle.x7_flow.specs.Standing.{FramesHaveDone, FramesFit, FramesStandFor, FramesState, ReadsData, ReadsFrames, ReadsMoreThanDue, flow_read, frames_map, frames_read, without_due, words_due, write_entry};
 ghost use Rattle.x7_flow.specs.Stretches.{ends_of, access_begins_stretch, memory_by_stretches};
 ghost use Rattle.x7_flow.specs.WordsTaken.{HasRoomFor, NoneRefused, with_copies, with_frame_data};
 
@@ -152,7 +152,7 @@ pub fn written_frames_are_a_plan()
     ensures write { (part : PartData) (earlier : History) (x : FrameWrite) → TakesWrite part earlier x → Rises 0 (addresses_in part) →
         MemoryGets part (with_frames x earlier) earlier (pairs_placed part x) }
     ensures source { (part : PartData) (h : History) (c place : ℕ) (frames : List (List ℕ)) (last : List ℕ) → MfwAfter part h c frames last →
-        source_of part (written_to reg.Cmd c place ∷ h) ≡ Some last }
+        source_of part (write_entry reg.Cmd c place ∷ h) ≡ Some last }
     ensures source_stays { (part : PartData) (earlier : History) (w place n : ℕ) (ws : List ℕ) →
         source_of part (with_copies n ws (after_load w place earlier)) ≡ source_of part earlier }
     ensures settings_stay { (part : PartData) (earlier : History) (w place n : ℕ) (ws : List ℕ) →

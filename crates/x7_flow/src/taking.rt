@@ -7,7 +7,7 @@ ghost use Rattle.x7_flow.specs.WordsTaken.{ForEachHistoryThatTakes, WordsTaken, 
 ghost use Rattle.x7_packets.specs.History.{History};
 ghost use Rattle.x7_pipeline.specs.Pipeline.{AreOfPart};
 ghost use Rattle.x7_flow.specs.HistoryFlow.{Flow, asked_after, fault_by};
-ghost use Rattle.x7_flow.specs.Standing.{HaveDone, HasFlow, frames_state, word_to};
+ghost use Rattle.x7_flow.specs.Standing.{HaveDone, HasFlow, frames_state, write_access};
 
 use crate::asking::{takes_copies, takes_frames};
 use crate::settings::FrameSettings;
@@ -28,9 +28,9 @@ pub(crate) fn take_written_word(
 ) -> Option<RunFault>
     requires part { AreOfPart part.now pipeline.old memory.old }
     ensures done { (h : History) → AreSettingsAfter part.now.idcode settings h →
-        IfNone result (HaveDone part.now (asked_after part.now.idcode h (word_to reg word)) (frames_state pipeline.old memory.old) (frames_state pipeline.new memory.new)) }
+        IfNone result (HaveDone part.now (asked_after part.now.idcode h (write_access reg word)) (frames_state pipeline.old memory.old) (frames_state pipeline.new memory.new)) }
     ensures fault { (h : History) (f : Flow) → AreSettingsAfter part.now.idcode settings h → HasFlow part.now pipeline.old f →
-        result ≡ fault_by part.now (asked_after part.now.idcode h (word_to reg word)) f }
+        result ≡ fault_by part.now (asked_after part.now.idcode h (write_access reg word)) f }
 
     // Whatever the answer.
     ensures part { AreOfPart part.now pipeline.new memory.new }

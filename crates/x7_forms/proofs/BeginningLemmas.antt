@@ -21,7 +21,7 @@ use Rattle.x7_listing.specs.StreamListing.{listing_by, stream_listing}
 use Rattle.x7_listing.proofs.BitLemmas.{header_limit}
 use Rattle.x7_forms.specs.Event.{Event, reading_failed, too_large}
 use Rattle.x7_forms.specs.Known.{stream_limit}
-use Rattle.x7_forms.specs.Turn.{DataBeginAt, ReadsBeginning, HoldsFew, IsBeginning, IsJudged, IsRefused, NoLetterGiven, ReadsBytes, RefusedAt, UnreadBeginning, UnreadTurn, turn_size}
+use Rattle.x7_forms.specs.Turn.{DataBeginAt, ReadsBeginning, HoldsFew, IsBeginning, IsJudged, IsRefused, NoLetterGiven, ReadsBytes, RefusedAt, UnreadBeginning, UnreadToEnd, turn_size}
 use Rattle.x7_forms.proofs.HeadLemmas.{gives_self}
 use Rattle.x7_forms.proofs.ReadLemmas.{reads_as, reads_on}
 
@@ -296,7 +296,7 @@ beginning_read old mid piece bytes line n start last s0 s1 s2 p a b r t q k e mo
 
 -- a turn that was not read, before the header was judged
 pub unread_turn : (old mid new : InputsState) (name bytes : List ℕ) (left : ℕ) (event : Event) → ReadsBytes old bytes mid → length bytes + left ≡ stream_limit → new.asked ≡ mid.asked
-    → (event ≡ too_large name → ⊥) → (event ≡ reading_failed name → NoLetterGiven old new) → UnreadTurn mid name new left event → UnreadBeginning old name new event
+    → (event ≡ too_large name → ⊥) → (event ≡ reading_failed name → NoLetterGiven old new) → UnreadToEnd mid name new left event → UnreadBeginning old name new event
 unread_turn old mid new name bytes left event r n q small late (inl h) =
     inr (inl (h.0, record { risen = risen_from old.faults mid.faults new.faults r.stays.faults h.1.risen; selected = h.1.selected; given = omega (arith, n, r.takes.given, h.1.given) }, q ∙ r.asked, late h.0))
 unread_turn old mid new name bytes left event r n q small late (inr h) = absurd (small h.0)

@@ -20,7 +20,7 @@ use Rattle.x7_part.specs.PartFile.{part_in}
 use Rattle.x7_forms.specs.declared.bad_input.InputFault.TheVariants as input
 use Rattle.x7_forms.specs.Event.{Event, bad_input, missing, no_memory, reading_failed, too_large}
 use Rattle.x7_forms.specs.Known.{Absent, Broken, Failing, Found, Held, Known, Lacking, Mishap, StreamRead, and_so, broken_at, data_by, data_in, streams_known, input_found, known_of, mishap_event, part_by, part_limit, part_known, put_before, stream_known, spoiled, spoiled_name, taken_whole, whole_known, with_inputs, with_mishap}
-use Rattle.x7_forms.specs.Turn.{BreaksWithin, ReadsBytes, Unopened, UnreadTurn, UnreadRest}
+use Rattle.x7_forms.specs.Turn.{BreaksWithin, ReadsBytes, Unopened, UnreadToEnd, UnreadRest}
 use Rattle.x7_forms.proofs.HeadLemmas.{data_more}
 use Rattle.x7_forms.specs.Step.{Among, AnswersAs, AnswersBy, CameIn, DueBy, FailsAmong, IsCaused, IsCausedBy, IsDecided, IsDue, IsFromOutside, IsOneUnplayed, IsPossible, IsUnplayed, IsUnread, LacksAmong, step_over}
 use Rattle.std.proofs.Math.Seq.{take-append-add}
@@ -364,14 +364,14 @@ pub reads_as : (old new : InputsState) (bytes same : List ℕ) → bytes ≡ sam
 reads_as old new bytes same e r = subst (λ (b : List ℕ). ReadsBytes old b new) (sym e) r
 
 -- a turn that was not read, after others
-pub unread_on : (old mid new : InputsState) (name taken : List ℕ) (limit left : ℕ) (event : Event) → ReadsBytes old taken mid → length taken + left ≡ limit → UnreadTurn mid name new left event → UnreadTurn old name new limit event
+pub unread_on : (old mid new : InputsState) (name taken : List ℕ) (limit left : ℕ) (event : Event) → ReadsBytes old taken mid → length taken + left ≡ limit → UnreadToEnd mid name new left event → UnreadToEnd old name new limit event
 unread_on old mid new name taken limit left event r n (inl h) =
     inl (h.0, record { risen = risen_from old.faults mid.faults new.faults r.stays.faults h.1.risen; selected = h.1.selected; given = omega (arith, n, r.takes.given, h.1.given) })
 unread_on old mid new name taken limit left event r n (inr h) =
     let piece = h.1.0 in
     inr (h.0, (taken ++ piece, (rest_more old.rest mid.rest new.rest taken piece r.takes.taken h.1.1.0, omega (arith, n, h.1.1.1, length-append taken piece))))
 
-pub rest_unread : (old mid new : InputsState) (name taken : List ℕ) (limit left : ℕ) (event : Event) → ReadsBytes old taken mid → length taken + left ≡ limit → UnreadTurn mid name new left event → new.asked ≡ mid.asked → UnreadRest old name new limit event
+pub rest_unread : (old mid new : InputsState) (name taken : List ℕ) (limit left : ℕ) (event : Event) → ReadsBytes old taken mid → length taken + left ≡ limit → UnreadToEnd mid name new left event → new.asked ≡ mid.asked → UnreadRest old name new limit event
 rest_unread old mid new name taken limit left event r n u a = (unread_on old mid new name taken limit left event r n u, a ∙ r.asked)
 
 -- the first turn of an input
@@ -514,7 +514,7 @@ at_fault old mid new name taken left k a b q =
 
 -- a turn of an input that was not read
 pub turn_refused : (old mid new : InputsState) (flash : Option (List ℕ)) (name taken : List ℕ) (limit left : ℕ) (event : Event) → InputsStay old mid
-    → RestIsWhole old.contents name (preceded taken mid.rest) → IsAt name taken mid → length taken + left ≡ limit → UnreadTurn mid name new left event → new.asked ≡ mid.asked
+    → RestIsWhole old.contents name (preceded taken mid.rest) → IsAt name taken mid → length taken + left ≡ limit → UnreadToEnd mid name new left event → new.asked ≡ mid.asked
     → IsCaused (with_inputs old.contents flash) (CameIn (step_over (name ∷ []) old new)) (λ t. whole_known t limit name) (Err event)
 turn_refused old mid new flash name taken limit left event k s a n (inl h) q =
     let f = at_fault old mid new name taken left k a h.1 q in
@@ -613,7 +613,7 @@ pub unopened_unread : (old new : InputsState) (name : List ℕ) (event : Event) 
 unopened_unread old new name event (inl h, s) = inr (inl h.0)
 unopened_unread old new name event (inr h, s) = inr (inr (inl h.0))
 
-pub turn_unread : (old new : InputsState) (name : List ℕ) (left : ℕ) (event : Event) → UnreadTurn old name new left event → IsUnread name event
+pub turn_unread : (old new : InputsState) (name : List ℕ) (left : ℕ) (event : Event) → UnreadToEnd old name new left event → IsUnread name event
 turn_unread old new name left event (inl h) = inr (inr (inl h.0))
 turn_unread old new name left event (inr h) = inr (inr (inr h.0))
 

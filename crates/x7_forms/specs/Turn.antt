@@ -91,15 +91,15 @@ pub record ReadsTurn (old : InputsState) (left : ℕ) (turn : Turn) (buffer : Li
 
 -- The open input, of which `left` bytes more are within the limit, was not read to its end: it failed before the limit
 -- was passed, or one byte over the limit was taken.
-abbrev pub UnreadTurn : InputsState → List ℕ → InputsState → ℕ → Event → Type 0
-UnreadTurn old name new left event =
+abbrev pub UnreadToEnd : InputsState → List ℕ → InputsState → ℕ → Event → Type 0
+UnreadToEnd old name new left event =
     ((event ≡ reading_failed name) × BreaksWithin old (left + 1) new)
     ⊎ ((event ≡ too_large name) × ((piece : List ℕ) × ((old.rest ≡ preceded piece new.rest) × (length piece ≡ left + 1))))
 
 -- a turn of at most `size` bytes of the open input wasn't read: it failed before as many were given, or the limit, of
 -- which `left` bytes were left, was passed within them
 pub record StopsTurn (old : InputsState) (name : List ℕ) (left size : ℕ) (new : InputsState) (event : Event) : Type 0 where
-  pub unread : UnreadTurn old name new left event
+  pub unread : UnreadToEnd old name new left event
   pub fails_early : event ≡ reading_failed name → new.given < old.given + size
   pub over : event ≡ too_large name → left < size
 
@@ -113,7 +113,7 @@ AppendsRest old new limit before after = (more : List ℕ) × (after ≡ before 
 
 -- the rest of the open input was not read: a read failed, or the rest is over the limit; the name last asked for stays
 abbrev pub UnreadRest : InputsState → List ℕ → InputsState → ℕ → Event → Type 0
-UnreadRest old name new limit event = UnreadTurn old name new limit event × (new.asked ≡ old.asked)
+UnreadRest old name new limit event = UnreadToEnd old name new limit event × (new.asked ≡ old.asked)
 
 -- where these bytes are the last, nothing follows them
 abbrev pub FollowsUnlessLast : Bool → List ℕ → Type 0

@@ -61,7 +61,7 @@ pub fn words_after()
 /// Bytes of a gap, the sync word and bytes of no whole word enter nothing.
 pub fn nothing_enters()
     ensures gap { (sessions : List EndedSession) (gap more : List ℕ) → history sessions (Searching (gap ++ more)) ≡ history sessions (Searching gap) }
-    ensures sync { (sessions : List EndedSession) (gap prefix : List ℕ) → history sessions (Synced prefix [] []) ≡ history sessions (Searching gap) }
+    ensures sync { (sessions : List EndedSession) (before gap : List ℕ) → history sessions (Synced gap [] []) ≡ history sessions (Searching before) }
     ensures tail { (sessions : List EndedSession) (gap tail more : List ℕ) (packets : List Packet)
         → history sessions (Synced gap packets (tail ++ more)) ≡ history sessions (Synced gap packets tail) }
 {}

@@ -15,7 +15,7 @@ use Rattle.x7_forms.specs.declared.status.Status.{Status}
 use Rattle.x7_forms.specs.declared.status.Status.TheVariants as status
 use Rattle.x7_forms.specs.Event.{Event, status_of_event, bad_input, missing, no_memory, reading_failed, too_large, writing_failed}
 use Rattle.x7_forms.specs.Form.{Listing}
-use Rattle.x7_forms.specs.Turn.{IsBadBeginning, NoLetterGiven, UnreadBeginning, Unopened, UnreadTurn, longest_beginning, turn_size}
+use Rattle.x7_forms.specs.Turn.{IsBadBeginning, NoLetterGiven, UnreadBeginning, Unopened, UnreadToEnd, longest_beginning, turn_size}
 use Rattle.x7_stream_forms.specs.Between.{ListsInTurns, ListsStream}
 use Rattle.x7_forms.proofs.BeginningLemmas.{letter_there}
 use Rattle.x7_forms.proofs.ReadLemmas.{known_all}
@@ -214,7 +214,7 @@ module _ (contents : Option (List ℕ → Option (List ℕ))) (stream : List ℕ
       as_event n.given event (bad_input name (input.Byte h.place)) h.reports (subst (λ (r : Option (List ℕ)). SoonBy contents stream r) e (bad_soon contents stream name m n event s h))
 
   pub unread_near : (s n : InputsState) (name taken : List ℕ) (l : ListerState) (left : ℕ) (event : Event) → n.rest ≡ rest → RestIsWhole contents stream (preceded taken s.rest) → (t : ListsStream l old new taken)
-      → n.given ≤ length taken + turn_size → (event ≡ too_large name → left < turn_size) → Longer new new → UnreadTurn s name n left event → StaysBy (status_of_event event) contents stream n.given rest old new
+      → n.given ≤ length taken + turn_size → (event ≡ too_large name → left < turn_size) → Longer new new → UnreadToEnd s name n left event → StaysBy (status_of_event event) contents stream n.given rest old new
   unread_near s n name taken l left event e sel t few over same (inl h) =
       as_event n.given event (reading_failed name) h.0 (
         judged_unjudged contents stream taken s.rest n.given sel (λ more. (t.line ++ listing_of (t.content ++ more), t.listing more)),

@@ -16,7 +16,7 @@ use Rattle.x7_forms.specs.Event.{Event, reading_failed, too_large, writing_faile
 use Rattle.x7_forms.specs.Known.{Mishap, input_found, stream_limit, with_inputs}
 use Rattle.x7_outcome.specs.Ending.{ListsSoFar}
 use Rattle.x7_stream_forms.specs.Between.{ListsInTurns, ListsStream}
-use Rattle.x7_forms.specs.Turn.{FollowsUnlessLast, UnreadTurn}
+use Rattle.x7_forms.specs.Turn.{FollowsUnlessLast, UnreadToEnd}
 use Rattle.x7_stream_forms.proofs.Causes.{Ended, PutsListed, broken, ends_same, faulted, oversized, unwritten}
 use Rattle.x7_forms.proofs.ReadLemmas.{IsAt, at_fault, known_all}
 use Rattle.x7_outcome.proofs.FeedLemmas.{taken_more}
@@ -179,7 +179,7 @@ end_failed (Some inputs) flash C stream taken rest Full old now s e f p =
 
 -- a turn that could not be read
 pub unread_end : (s m n : InputsState) (flash : Option (List ℕ)) (stream taken : List ℕ) (l : ListerState) (left : ℕ) (Full : Type 0) (old now : Option (List ℕ)) (event : Event)
-    → InputsStay s m → RestIsWhole s.contents stream (preceded taken m.rest) → IsAt stream taken m → ListsStream l old now taken → length taken + left ≡ stream_limit → UnreadTurn m stream n left event → n.asked ≡ m.asked
+    → InputsStay s m → RestIsWhole s.contents stream (preceded taken m.rest) → IsAt stream taken m → ListsStream l old now taken → length taken + left ≡ stream_limit → UnreadToEnd m stream n left event → n.asked ≡ m.asked
     → Ended (with_inputs s.contents flash) (CameIn (step_over (stream ∷ []) s n)) stream Full old now (Err event)
 unread_end s m n flash stream taken l left Full old now event f sel a t k (inl h) q =
     let fault = at_fault s m n stream taken left f a h.1 q in
