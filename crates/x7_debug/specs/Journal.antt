@@ -20,7 +20,7 @@ record_reach = undo_reach
 abbrev pub reach : ℕ
 reach = (record_room - 1) * record_reach + 1
 
--- the room for records, of which the first are in use
+-- the room for records, of which the first `count` are in use
 pub record JournalState : Type 0 where
   pub all : List UndoState
   pub count : ℕ
@@ -33,13 +33,14 @@ records_of j = take j.count j.all
 abbrev pub AreRecordsOf : PartData → JournalState → Type 0
 AreRecordsOf part j = AllByRecursion (IsUndoOf part) j.all
 
--- a device that stood at a position of the stream is kept
+-- the record `u` keeps a device that stood at position `u.taken` of the stream
 pub record IsRecord (part : PartData) (stream : List ℕ) (u : UndoState) : Type 0 where
   pub device : DeviceState
   pub saves : SavesDevice u device
   pub at_position : StandsAtPosition part stream device u.taken
 
--- each record is at most four bytes before the next newer one, and the newest one at most four before position `at`
+-- each record is of a device on the stream, at most four bytes before the next newer one, and the newest one at most
+-- four before position `at`
 abbrev pub LeadBack : PartData → List ℕ → ℕ → List UndoState → Type 0
 LeadBack part stream at [] = Unit {0}
 LeadBack part stream at (u ∷ older) = IsRecord part stream u × (u.taken ≤ at) × (at ≤ u.taken + record_reach) × LeadBack part stream u.taken older
@@ -66,13 +67,13 @@ pub record ComesToPosition (stream : List ℕ) (old new : DeviceState) (j : Jour
   pub part : new.part ≡ old.part
   pub taken : new.taken ≡ n
 
--- a record of the device is the newest one now; of a full room the oldest is not in use any more
+-- a record of the device `d` is the newest one now, and the others stay in use, but the oldest where the room was full
 pub record HasRecorded (d : DeviceState) (old new : JournalState) : Type 0 where
   pub undo : UndoState
   pub saves : SavesDevice undo d
   pub records : records_of new ≡ undo ∷ take (record_room - 1) (records_of old)
 
--- the newest record leads back from a position: it is at most four bytes before it
+-- there is a record, and position `at` is at most four bytes after the newest one
 pub record IsNearNewest (j : JournalState) (at : ℕ) : Type 0 where
   pub undo : UndoState
   pub older : List UndoState
@@ -88,7 +89,7 @@ pub record IsFedAtMost (old new : DeviceState) (count : ℕ) : Type 0 where
 abbrev pub IsFedAsTaken : DeviceState → DeviceState → Type 0
 IsFedAsTaken old new = IsFedAtMost old new (new.taken - old.taken)
 
--- a device and its records went on or back, and the oldest record is at the same position
+-- a device moved, and its records lead back to the position to which they led before the move
 abbrev pub KeepsOldest : DeviceState → JournalState → DeviceState → JournalState → Type 0
 KeepsOldest old j new k = oldest_by new.taken (records_of k) ≡ oldest_by old.taken (records_of j)
 
@@ -104,7 +105,7 @@ pub record MoveCosts (old new : SessionState) : Type 0 where
   pub near_fed : old.oldest ≤ new.at → new.at < old.at → new.fed ≤ old.fed + (record_reach - 1)
   pub far_fed : new.at < old.oldest → new.fed ≤ old.fed + new.at
 
--- a session moved to position n; how many bytes were fed and how far records lead back is as `MoveCosts` says
+-- a session moved to position n; how many bytes its device was fed and how far records lead back is as `MoveCosts` says
 pub record IsMove (old new : SessionState) (n : ℕ) : Type 0 where
   pub there : MovesTo old new n
   pub costs : MoveCosts old new

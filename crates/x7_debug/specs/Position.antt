@@ -1,4 +1,4 @@
--- Positions in a stream: the first bytes of it, taken by a new device (this project's choice).
+-- Positions in a stream: how many of its bytes, from the first on, a new device took (this project's choice).
 use Rattle.std.specs.Prelude.{◌≡◌, ℕ, ◌+◌, ◌-◌, ◌<◌, ◌≤◌, ◌==◌, Bool, true, false, List, take, unwrap_or}
 use Rattle.std.specs.List.{find, range_with_len}
 use Rattle.x7_part.specs.Part.{PartData}
@@ -11,35 +11,35 @@ use Rattle.x7_engine.specs.State.{memory_of_bytes, state_of, taken_of}
 use Rattle.x7_debug.specs.declared.order.Stop.{Stop}
 use Rattle.x7_debug.specs.declared.order.Stop.TheVariants as stop
 
--- the last position: all bytes, or those up to the first stop
+-- the last position: how many bytes the stream has, or how many up to and with the one at which the device stops
 abbrev pub last_of : PartData → List ℕ → ℕ
 last_of part stream = taken_of part on_the_bench stream
 
--- the state of the device at a position, without its memory
+-- the state of the device at position n, but its memory; its attempt isn't wrapped (`false`), since no flash boots it
 abbrev pub state_at_position : PartData → List ℕ → ℕ → Regs
 state_at_position part stream n = state_of part on_the_bench false (take n stream)
 
--- the frames at a position
+-- the frames of the device at position n
 abbrev pub memory_at_position : PartData → List ℕ → ℕ → FrameMap
 memory_at_position part stream n = memory_of_bytes part on_the_bench (take n stream)
 
--- the bytes end in a session of the stream: after a sync word, and no DESYNC has ended it
+-- the bytes end in a session of the stream: after a sync word, no DESYNC has ended it, and the device hasn't stopped
 abbrev pub ends_in_session : End → Bool
 ends_in_session at_end.Synced = true
 ends_in_session _ = false
 
--- the bytes end in a gap of the stream, where the sync word is searched
+-- the bytes end in a gap of the stream, where the sync word is searched, and the device hasn't stopped
 abbrev pub ends_in_gap : End → Bool
 ends_in_gap at_end.Searching = true
 ends_in_gap _ = false
 
--- the bytes end at a fault or an obeyed IPROG
+-- the bytes end where a fault or an obeyed IPROG stopped the device
 abbrev pub ends_at_stop : End → Bool
 ends_at_stop (at_end.Iprog wbstar) = true
 ends_at_stop (at_end.Fault fault) = true
 ends_at_stop _ = false
 
--- the stop of an order `until` holds where the bytes end so, in this phase of startup
+-- the stop of an order `until` holds where the bytes end as `end` says, with startup in phase `phase`
 abbrev pub holds_in : Stop → End → ℕ → Bool
 holds_in stop.Synced end phase = ends_in_session end
 holds_in stop.Searching end phase = ends_in_gap end
@@ -50,7 +50,7 @@ holds_in (stop.Phase wanted) end phase = phase == wanted
 abbrev pub holds_at : PartData → List ℕ → Stop → ℕ → Bool
 holds_at part stream stop n = holds_in stop (state_at_position part stream n).end (state_at_position part stream n).phase
 
--- startup begins at this position at the soonest: the phase is 0 before it
+-- startup begins at position n at the soonest: the phase is 0 at each position before n, and n isn't past the last one
 pub record BeginsAtSoonest (part : PartData) (stream : List ℕ) (n : ℕ) : Type 0 where
   pub within : n ≤ last_of part stream
   pub zero : (k : ℕ) → k < n → (state_at_position part stream k).phase ≡ 0
@@ -62,11 +62,11 @@ pub record IsLeastAfter (part : PartData) (stream : List ℕ) (stop : Stop) (at 
   pub holds : holds_at part stream stop n ≡ true
   pub before : (k : ℕ) → at < k → k < n → holds_at part stream stop k ≡ false
 
--- the stop holds at no position after `at`
+-- the stop holds at no position after `at`, up to and with the last
 abbrev pub HoldsNowhereAfter : PartData → List ℕ → Stop → ℕ → Type 0
 HoldsNowhereAfter part stream stop at = (k : ℕ) → at < k → k ≤ last_of part stream → holds_at part stream stop k ≡ false
 
--- the positions after `at`, up to the last
+-- the positions after `at`, up to and with the last
 abbrev pub later_than : PartData → List ℕ → ℕ → List ℕ
 later_than part stream at = range_with_len (at + 1) (last_of part stream - at)
 

@@ -14,14 +14,14 @@ use Rattle.x7_debug.specs.declared.order.Stop.TheVariants as stop
 abbrev pub has_meaning : List ℕ → Bool
 has_meaning line = not (means_nothing line)
 
--- the words after `until`
+-- the words that name a stop after `until`
 abbrev pub stop_text : Stop → List ℕ
 stop_text stop.Synced = codes "synced"
 stop_text stop.Searching = codes "searching"
 stop_text stop.Stopped = codes "stopped"
 stop_text (stop.Phase phase) = codes "phase " ++ decimal phase
 
--- the line of an order: numbers in decimal, an address in eight upper-case digits
+-- the line of an order: numbers in decimal, an address in eight upper-case hexadecimal digits
 abbrev pub order_text : Order → List ℕ
 order_text (order.Step count) = codes "step " ++ decimal count
 order_text (order.Back count) = codes "back " ++ decimal count
@@ -46,7 +46,7 @@ FitsOrder order.Regs = Unit {0}
 FitsOrder order.Phase = Unit {0}
 FitsOrder (order.Frame far) = far < 2 ^ 32
 
--- the lines that have a meaning are those of these orders
+-- of `lines` those that have a meaning are those of `orders`, in order
 pub record AreOrders (lines : List (List ℕ)) (orders : List Order) : Type 0 where
   pub texts : filter has_meaning lines ≡ map order_text orders
   pub fit : AllByRecursion FitsOrder orders
@@ -56,7 +56,7 @@ pub record IsNoOrder (line : List ℕ) : Type 0 where
   pub meaning : has_meaning line ≡ true
   pub no_order : (order : Order) → FitsOrder order → line ≢ order_text order
 
--- line n is the first line that has a meaning and is no order's
+-- line n, counted from 1, is the first line that has a meaning and is no order's
 pub record IsFirstBadLine (text : List ℕ) (n : ℕ) : Type 0 where
   pub before : List (List ℕ)
   pub bad : List ℕ

@@ -8,8 +8,8 @@ use Rattle.x7_engine.specs.Standing.{DeviceState, DeviceStandsFor, NoWordDue}
 use Rattle.x7_engine.specs.State.{taken_of}
 use Rattle.x7_debug.specs.Position.{last_of}
 
--- the part, the bytes of the stream, the position, the least one that the records lead back to, and how many bytes the
--- device was ever fed
+-- the part, the bytes of the stream, the position, the least position that the records lead back to, and how many bytes
+-- the device was ever fed
 pub record SessionState : Type 0 where
   pub part : PartData
   pub stream : List ℕ
@@ -25,7 +25,7 @@ pub record IsNewSession (part : PartData) (stream : List ℕ) (s : SessionState)
   pub oldest : s.oldest ≡ 0
   pub fed : s.fed ≡ 0
 
--- the session keeps its part and its stream, and stands at this position
+-- the session keeps its part and its stream, and stands at position n
 pub record MovesTo (old new : SessionState) (n : ℕ) : Type 0 where
   pub part : new.part ≡ old.part
   pub stream : new.stream ≡ old.stream
@@ -38,7 +38,7 @@ pub record StandsAtPosition (part : PartData) (stream : List ℕ) (d : DeviceSta
   pub within : n ≤ last_of part stream
   pub no_word_due : NoWordDue d
 
--- a device takes a piece, up to what stops it, and no word that it read out is due
+-- a device takes `piece`, up to and with the byte at which it stops, and no word that it read out is due
 abbrev pub TakesUpToStop : DeviceState → DeviceState → List ℕ → Type 0
 TakesUpToStop old new piece =
     ForEachPast old (λ p. DeviceStandsFor p.part p.kept p.wrapped new (take (taken_of p.part p.kept (p.bytes ++ piece)) (p.bytes ++ piece)) × NoWordDue new)

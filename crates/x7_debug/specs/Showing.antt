@@ -21,22 +21,22 @@ position_after part stream at order.Regs = at
 position_after part stream at order.Phase = at
 position_after part stream at (order.Frame far) = at
 
--- the position that orders bring a session to which begins at position 0
+-- the position to which orders bring a session that begins at position 0
 abbrev pub final_position : PartData → List ℕ → List Order → ℕ
 final_position part stream orders = fold (position_after part stream) 0 orders
 
--- a session moved to where these orders lead from position 0 on
+-- a session moved to where `orders` lead from position 0 on
 abbrev pub FollowsOrders : SessionState → SessionState → List Order → Type 0
 FollowsOrders old new orders = MovesTo old new (final_position old.part old.stream orders)
 
--- a session moved to where some of the orders lead from position 0 on: the first of them, none or all
+-- a session moved to where the first orders lead from position 0 on: none of `orders`, some, or all
 pub record FollowsSomeOrders (old new : SessionState) (orders : List Order) : Type 0 where
   pub done : List Order
   pub left : List Order
   pub all : orders ≡ done ++ left
   pub follows : FollowsOrders old new done
 
--- where a move led: the position, and where the bytes up to it end
+-- the line of where a move led: the position, and where the bytes up to it end
 unfoldable pub position_text : Regs → List ℕ
 position_text r = codes "at " ++ (decimal r.taken ++ (codes " " ++ (end_text r.end ++ codes "\n")))
 
@@ -44,12 +44,12 @@ position_text r = codes "at " ++ (decimal r.taken ++ (codes " " ++ (end_text r.e
 unfoldable pub none_text : ℕ → List ℕ
 none_text far = codes "none " ++ (hex_word far ++ codes "\n")
 
--- what is shown of the frame at an address, or that there is none
+-- the line of the frame at address `far`, or the line that says that there is none
 abbrev pub frame_shown : ℕ → Option (List ℕ) → List ℕ
 frame_shown far None = none_text far
 frame_shown far (Some words) = frame_text far words
 
--- what an order shows of these registers and frames
+-- what an order shows where the device has the state `r` and these frames
 abbrev pub shown_by : Order → Regs → FrameMap → List ℕ
 shown_by (order.Step count) r frames = position_text r
 shown_by (order.Back count) r frames = position_text r

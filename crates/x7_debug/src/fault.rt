@@ -4,7 +4,7 @@ use thiserror::Error;
 /// Why a script was refused. Lines count from 1.
 #[derive(Clone, Copy, Debug, Drop, Error)]
 pub enum ScriptFault {
-    /// The first line that is neither empty, nor a comment, nor an order.
+    /// The number of the first line that is neither empty, nor a comment, nor an order.
     #[error("line {0} is no order")]
     Line(u64),
     /// There was no memory for the script.

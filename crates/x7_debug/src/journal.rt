@@ -68,8 +68,8 @@ impl Journal {
         }
     }
 
-    /// Feeds a piece of up to four bytes to a device, up to what stops it, with a record. Where all records are in use,
-    /// the oldest one is used again.
+    /// Feeds a piece of up to four bytes to a device, up to and with the byte at which it stops, and records the device
+    /// as it was before the piece. Where all records are in use, the oldest one is used again.
     pub(crate) fn feed(&mut self, device: &mut Device, piece: &[u8])
         requires one_record { length piece.now ≤ record_reach }
         requires fits { CanBeGiven device.old (length piece.now) }

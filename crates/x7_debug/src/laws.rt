@@ -24,8 +24,8 @@ pub fn every_script_is_read()
     ensures { (text : List ℕ) → HasScript text }
 {}
 
-/// `until` leads to the least later position where its stop holds, and to the last one where there is none. What stops
-/// a device comes at the last position alone.
+/// `until` leads to the least later position where its stop holds, and to the last one where there is none. `until
+/// stopped` leads to the last one always, since what stops a device comes there alone.
 pub fn until_leads_to_the_least()
     ensures holds { (part : PartData) (stream : List ℕ) (stop : Stop) (at n : ℕ) → IsLeastAfter part stream stop at n → until_of part stream stop at ≡ n }
     ensures holds_nowhere { (part : PartData) (stream : List ℕ) (stop : Stop) (at : ℕ) → at ≤ last_of part stream → HoldsNowhereAfter part stream stop at

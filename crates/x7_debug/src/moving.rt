@@ -17,11 +17,11 @@ pub(crate) const RECORD_REACH: u64 = UNDO_REACH;
 /// newest, which may be one byte before the position. After several shorter moves they may lead back less.
 pub(crate) const REACH: u64 = (RECORD_ROOM as u64 - 1) * RECORD_REACH + 1;
 
-/// How many bytes before its end a move forward makes records, one each four bytes: as many as there is room for, so
-/// that a move back by a multiple of four bytes feeds none.
+/// How many bytes before its end a longer move forward begins to make records, one each four bytes: as many as there is
+/// room for. After such a move, one back by a multiple of four bytes, up to this many, feeds none.
 const RECORDED_SIZE: u64 = RECORD_ROOM as u64 * RECORD_REACH;
 
-/// Feeds a piece to a device, up to what stops it. Words read out are dropped.
+/// Feeds a piece to a device, up to and with the byte at which it stops. Words read out are dropped.
 pub(crate) fn feed_piece(device: &mut Device, piece: &[u8])
     requires { CanBeGiven device.old (length piece.now) }
     ensures takes { TakesUpToStop device.old device.new piece.now }
@@ -31,7 +31,7 @@ pub(crate) fn feed_piece(device: &mut Device, piece: &[u8])
     device.feed(piece, &mut read);
 }
 
-/// Feeds a device the bytes of the stream up to a position.
+/// Feeds a device the bytes of the stream up to position `to`.
 pub(crate) fn feed_to(device: &mut Device, stream: &[u8], to: u64)
     requires at_position { StandsAtPosition device.old.part stream.now device.old device.old.taken }
     requires within { to ≤ last_of device.old.part stream.now }
@@ -43,7 +43,7 @@ pub(crate) fn feed_to(device: &mut Device, stream: &[u8], to: u64)
     feed_piece(device, &stream[from..to as usize]);
 }
 
-/// Feeds a device up to four bytes of the stream, with a record of it before them.
+/// Feeds a device the bytes of the stream up to position `to`, four at most, with a record of the device before them.
 pub(crate) fn feed_recorded(device: &mut Device, journal: &mut Journal, stream: &[u8], to: u64)
     requires may_move { MayMoveForward stream.now device.old journal.old to }
     requires one_record { to ≤ device.old.taken + record_reach }
@@ -54,7 +54,7 @@ pub(crate) fn feed_recorded(device: &mut Device, journal: &mut Journal, stream: 
     journal.feed(device, &stream[from..to as usize]);
 }
 
-/// Brings a device forward by pieces of four bytes, the last one shorter, each with a record.
+/// Brings a device forward by pieces of four bytes, the last of which may be shorter, each with a record.
 fn go_by_words(device: &mut Device, journal: &mut Journal, stream: &[u8], to: u64)
     requires { MayMoveForward stream.now device.old journal.old to }
     ensures at_position { ComesForwardRecorded stream.now device.old device.new journal.new to }
@@ -77,7 +77,8 @@ pub(crate) fn leap(device: &mut Device, journal: &mut Journal, stream: &[u8], to
     journal.forget();
 }
 
-/// Brings a device forward: by one piece up to where records begin, and from there by pieces of four bytes.
+/// Brings a device forward: by one piece up to `RECORDED_SIZE` bytes before `to`, where that is ahead, and from there
+/// by pieces of four bytes, with records.
 fn go_forward(device: &mut Device, journal: &mut Journal, stream: &[u8], to: u64)
     requires { MayMoveForward stream.now device.old journal.old to }
     ensures at_position { ComesForwardRecorded stream.now device.old device.new journal.new to }
@@ -99,7 +100,7 @@ fn begin_again(device: &mut Device, journal: &mut Journal, stream: &[u8])
     journal.forget();
 }
 
-/// Resets a device and brings it to an earlier position from the first byte on.
+/// Resets a device, and brings it to position `to` from the first byte on.
 fn replay(device: &mut Device, journal: &mut Journal, stream: &[u8], to: u64)
     requires { MayMove stream.now device.old journal.old to }
     ensures at_position { ComesToPosition stream.now device.old device.new journal.new to }
@@ -125,7 +126,7 @@ fn take_back(device: &mut Device, journal: &mut Journal, stream: &[u8], to: u64)
     }
 }
 
-/// Takes a device back by records, and the few bytes up to the position forward again.
+/// Takes a device back by records to position `to`, or to at most three bytes before it, and from there forward again.
 fn go_back(device: &mut Device, journal: &mut Journal, stream: &[u8], to: u64)
     requires { MayMoveBack stream.now device.old journal.old to }
     ensures at_position { ComesToPosition stream.now device.old device.new journal.new to }
@@ -138,7 +139,7 @@ fn go_back(device: &mut Device, journal: &mut Journal, stream: &[u8], to: u64)
     }
 }
 
-/// Brings a device that stands at a position of the stream to another one.
+/// Brings a device that stands at a position of the stream to position `to`.
 pub(crate) fn move_to(device: &mut Device, journal: &mut Journal, stream: &[u8], to: u64)
     requires { MayMove stream.now device.old journal.old to }
     ensures at_position { ComesToPosition stream.now device.old device.new journal.new to }

@@ -8,7 +8,7 @@ use x7_engine::Device;
 use x7_part::Part;
 use x7_words::NoMemory;
 
-/// What one play of a stream shows: its last position, and one before which startup hasn't begun.
+/// What one play of a stream shows: its last position, and one before which startup hasn't begun (phase 0).
 #[derive(Clone, Copy)]
 pub(crate) struct Outline {
     pub(crate) last: u64,

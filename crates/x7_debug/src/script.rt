@@ -34,7 +34,7 @@ impl Script {
     }
 }
 
-/// Takes the line of this number: the order of a line that has a meaning goes after those of the lines before it.
+/// Takes line `line_number`, counted from 1: where it has a meaning, its order goes after those of the lines before.
 fn take_line(orders: &mut Vec<Order>, line_number: u64, line: &[u8]) -> Result<(), ScriptFault>
     ensures taken { OnOk result ((before : List (List ℕ)) → AreOrders before orders.old.items → AreOrders (before ++ line.now ∷ []) orders.new.items) }
     ensures fault { IfErr result (λ fault. (fault ≡ ScriptFault.NoMemory) ⊎ ((fault ≡ ScriptFault.Line line_number) × IsNoOrder line.now)) }
@@ -51,12 +51,12 @@ fn take_line(orders: &mut Vec<Order>, line_number: u64, line: &[u8]) -> Result<(
     }
 }
 
-/// The script of a text, or its first line that is none of a script's.
+/// The script of a text, or the number of its first line that is none of a script's.
 ///
 /// A line is empty, a comment that `#` begins, or an order: `step N`, `back N`, `go N`, with a number of 32 bits in
 /// decimal without leading zeros; `until synced`, `until searching`, `until stopped`, `until phase P` with P from 0 to
-/// 7; `regs`; `phase`; `frame FAR`, the address in eight upper-case digits (this project's choice). One space stands
-/// between the words, and the last line may lack its end.
+/// 7; `regs`; `phase`; `frame FAR`, the address in eight upper-case hexadecimal digits (this project's choice). One
+/// space stands between the words, and the last line may lack its end.
 pub fn script_of(alloc: Global, text: &[u8]) -> Result<Script, ScriptFault>
     ensures script { IfOk result (λ script. IsScriptOf text.now (Ok script)) }
     ensures fault { IfErr result (λ fault. (fault ≡ ScriptFault.NoMemory) ⊎ IsScriptOf text.now (Err fault)) }

@@ -74,7 +74,7 @@ impl Session {
         self.device.taken()
     }
 
-    /// The last position: all bytes of the stream, or those up to the one that stops the device.
+    /// The last position: how many bytes the stream has, or how many up to and with the one at which the device stops.
     pub fn last(&self) -> u64
         ensures { result ≡ last_of self.now.part self.now.stream }
     {

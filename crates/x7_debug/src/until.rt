@@ -1,4 +1,4 @@
-//! A device is brought forward to the first position where a stop holds.
+//! A device is brought forward to the first later position where a stop holds.
 ghost use Rattle.std.specs.Prelude.{◌≡◌, ◌≤◌, ◌<◌, ◌+◌, ◌-◌, ℕ, true, false, max};
 ghost use Rattle.x7_debug.specs.Journal.{ComesToPosition, HasRecorded, IsNearNewest, MoveCosts, reach, record_reach};
 ghost use Rattle.x7_debug.specs.SessionFields.{SessionFits, session_of};
@@ -12,7 +12,7 @@ use crate::order::Stop;
 use crate::outline::Outline;
 use x7_engine::{Device, End};
 
-/// Whether a stop holds where the bytes end so, in this phase of startup.
+/// Whether a stop holds where the bytes end as `end` says, with startup in phase `phase`.
 fn holds_in(stop: Stop, end: End, phase: u8) -> bool
     ensures { result ≡ holds_in stop end phase }
 {
@@ -26,8 +26,8 @@ fn holds_in(stop: Stop, end: End, phase: u8) -> bool
     }
 }
 
-/// Brings a device forward byte by byte to the first position where the stop holds, or to `bound`, which is at most
-/// four bytes after the newest record. Says whether the stop holds there.
+/// Brings a device forward byte by byte to the first position where the stop holds, which may be where it stands, or
+/// else to `bound`, at most four bytes after the newest record. Says whether the stop holds there.
 fn seek(device: &mut Device, journal: &Journal, stream: &[u8], bound: u64, stop: Stop) -> bool
     requires may_move { MayMoveForward stream.now device.old journal.now bound }
     requires near_newest { IsNearNewest journal.now bound }
@@ -51,8 +51,8 @@ fn seek(device: &mut Device, journal: &Journal, stream: &[u8], bound: u64, stop:
     }
 }
 
-/// Brings a device forward by up to four bytes, with a record, to the first later position where the stop holds. Says
-/// whether it holds there.
+/// Brings a device forward, with a record, to the first later position where the stop holds, or else by four bytes, or
+/// to the last position where fewer are left. Says whether the stop holds there.
 fn seek_word(
     device: &mut Device,
     journal: &mut Journal,
@@ -89,8 +89,9 @@ fn forward_until(device: &mut Device, journal: &mut Journal, stream: &[u8], last
     }
 }
 
-/// Feeds a device in one piece up to a position from which records reach to `begins`, where startup may begin; a device
-/// that is past it already stays.
+/// Feeds a device in one piece up to 254 bytes before `begins`, the soonest position where startup may begin, and
+/// forgets its records: those made from there on lead back at least `REACH` bytes from each position from `begins` on.
+/// A device that is there or past it already stays, with its records.
 fn leap_near(device: &mut Device, journal: &mut Journal, stream: &[u8], begins: u64)
     requires { MayMove stream.now device.old journal.old begins }
     ensures at_position { ComesForward stream.now device.old device.new journal.new device.new.taken }
@@ -103,8 +104,8 @@ fn leap_near(device: &mut Device, journal: &mut Journal, stream: &[u8], begins: 
     }
 }
 
-/// Brings a device forward to the first later position in this phase of startup, or else to the last one. Positions at
-/// which startup hasn't begun are passed over, where the phase isn't 0.
+/// Brings a device forward to the first later position with startup in phase `phase`, or else to the last one. Where
+/// `phase` isn't 0, positions up to 254 bytes before where startup may begin are passed over in one piece.
 fn go_to_phase(
     device: &mut Device,
     journal: &mut Journal,

@@ -1,5 +1,5 @@
--- Playing statements: their clocks, up to the first scan whose TDO differs from the wanted bits (this project's profile
--- of SVF).
+-- Playing statements: their clocks, up to and with the first scan whose TDO differs from the wanted bits (this
+-- project's profile of SVF). Statements count from 1, bits and clocks of a scan from 0.
 use Rattle.std.specs.Prelude.{ℕ, zero, suc, ◌+◌, ◌-◌, ◌&&◌, not, Bool, true, false, if◌then◌else◌, List, [], ◌∷◌, ◌++◌, length, take, map, fold, Option, Some, None, ◌≡◌, ◌≤◌, ◌^◌}
 use Rattle.std.specs.List.{slice_get}
 use Rattle.x7_part.specs.Part.{PartData}
@@ -18,7 +18,7 @@ abbrev pub bit_or_0 : Option Bool → Bool
 bit_or_0 None = false
 bit_or_0 (Some b) = b
 
--- bit i of a scan, and 0 past the last
+-- bit i of a scan's bits, and 0 past the last
 abbrev pub scan_bit : List Bool → ℕ → Bool
 scan_bit bits i = bit_or_0 (slice_get bits i)
 
@@ -32,11 +32,11 @@ abbrev pub bits_differ : Bool → Bool → Bool
 bits_differ true b = not b
 bits_differ false b = b
 
--- the port after clocks
+-- the port after clocks, where `p` is the port before the first
 abbrev pub after_clocks : PartData → Port → List PortClock → Port
 after_clocks part p cs = fold (after_clock part) p cs
 
--- TDO at shift clock i of a scan, where the port is in Shift-DR or Shift-IR before the first
+-- TDO at shift clock i of a scan of the bits `tdi`, where the port `p` before shift clock 0 is in Shift-DR or Shift-IR
 abbrev pub tdo_at : PartData → Port → List Bool → ℕ → Bool
 tdo_at part p tdi i = tdo_of part (after_clocks part p (take i (shift_clocks tdi)))
 
@@ -50,20 +50,20 @@ abbrev pub first_found : Option ℕ → Bool → ℕ → Option ℕ
 first_found None differs i = if differs then Some i else None
 first_found (Some first) differs i = Some first
 
--- the least of this many places from `from` on at which something holds
+-- the least number at which `holds` is true, of a count of numbers from `from` on
 abbrev pub least : (ℕ → Bool) → ℕ → ℕ → Option ℕ
 least holds from zero = None
 least holds from (suc n) = if holds from then Some from else least holds (from + 1) n
 
--- whether TDO differs at shift clock i from what is wanted
+-- whether TDO differs at shift clock i from what is wanted, where `p` is the port before shift clock 0
 abbrev pub differs_at : PartData → Port → Scan → ℕ → Bool
 differs_at part p s i = differs_from_wanted s.tdo s.mask i (tdo_at part p s.tdi i)
 
--- the least bit from `first` on at which a scan differs
+-- the least bit from `first` on at which TDO of a scan differs, where `p` is the port before shift clock 0
 abbrev pub difference_from : PartData → Port → Scan → ℕ → Option ℕ
 difference_from part p s first = least (differs_at part p s) first (length s.tdi - first)
 
--- the least differing bit of a statement, by the port before it
+-- the least differing bit of a statement, where `p` is the port before it; none but a scan has one
 abbrev pub difference : PartData → Port → Statement → Option ℕ
 difference part p (statement.Scan s) = difference_from part (after_clocks part p (from_reset p.state ++ to_shift s.register)) s 0
 difference part p _ = None
@@ -73,7 +73,7 @@ abbrev pub first_by : Option ℕ → ℕ → Option Differ → Option Differ
 first_by None n later = later
 first_by (Some bit) n later = Some (record { statement = n; bit = bit })
 
--- the first of statements that differs, counted from n, with its least differing bit
+-- the first of statements that differs, with its least differing bit, where the first of all has number n
 abbrev pub first_from : PartData → Port → ℕ → List Statement → Option Differ
 first_from part p n [] = None
 first_from part p n (s ∷ ss) = first_by (difference part p s) n (first_from part (after_clocks part p (clocks_of p.state s)) (n + 1) ss)
@@ -82,7 +82,7 @@ first_from part p n (s ∷ ss) = first_by (difference part p s) n (first_from pa
 abbrev pub first_difference : PartData → List Statement → Option Differ
 first_difference part ss = first_from part new_port 1 ss
 
--- the statements that are played: all, or those up to the one that differs
+-- the statements that are played: all, or those up to and with the one that differs
 abbrev pub statements_played : List Statement → Option Differ → List Statement
 statements_played ss None = ss
 statements_played ss (Some differ) = take differ.statement ss
@@ -95,7 +95,7 @@ clocks_played ss result = clocks test_logic_reset (statements_played ss result)
 abbrev pub port_played : PartData → List Statement → Port
 port_played part ss = port_after part (clocks_played ss (first_difference part ss))
 
--- clocks that walk from state to state, by their TMS
+-- clocks of TDI 0 that walk from state to state, with the values `path` of TMS
 abbrev pub walk_clocks : List Bool → List PortClock
 walk_clocks path = map (λ tms. clock tms false) path
 
@@ -106,8 +106,8 @@ abbrev pub FindsBit : TapState → DeviceState → (PartData → Port → Option
 FindsBit tap device sought found =
     (part : PartData) (cs : List PortClock) → TapStandsFor part tap device cs → found ≡ sought part (port_after part cs)
 
--- what holds of the clocks before `made`, for each list of clocks that a tap and its device may have made and that ends
--- with `made`
+-- `Fact` holds of the clocks before `made`, for each list of clocks that a tap and its device may have made and that
+-- ends with `made`
 abbrev pub AfterClocks : TapState → DeviceState → List PortClock → (PartData → List PortClock → Type 0) → Type 0
 AfterClocks tap device made Fact =
     (part : PartData) (cs : List PortClock) → TapStandsFor part tap device (cs ++ made) → Fact part cs
@@ -126,8 +126,8 @@ count_limit = 2 ^ 32
 abbrev pub statement_limit : ℕ
 statement_limit = 2 ^ 33
 
--- a tap and its device, which were new before some clocks, may make this many more: a device takes at most a byte a
--- clock, and so never more bytes than it can count
+-- a tap and its device, which were new before some clocks, may make `more` clocks more: 2^62 in all, and a device takes
+-- no more bytes than there were clocks, so never more than it can count
 pub record MayClock (tap : TapState) (device : DeviceState) (more : ℕ) : Type 0 where
   pub part : PartData
   pub before : List PortClock

@@ -13,8 +13,8 @@ use Rattle.x7_jtag.specs.Instruction.{instruction_of}
 use Rattle.x7_jtag.specs.Queue.{Queue, bit_shown, empty_queue, offered, shifted_out}
 use Rattle.x7_jtag.specs.State.{PortClock, next_of, test_logic_reset}
 
--- the state, the instruction, the register between TDI and TDO, how many there were of the eight bits of a byte or of
--- eight clocks of startup, and the queue
+-- the state, the instruction, the register between TDI and TDO, a count from 0 to 7 of the bits of a byte under CFG_IN
+-- or of clocks in Run-Test/Idle under JSTART, and the queue
 pub record Port : Type 0 where
   pub state : State
   pub instruction : Instruction
@@ -22,7 +22,7 @@ pub record Port : Type 0 where
   pub count : ℕ
   pub queue : Queue
 
--- the words that a device of this part reads out of bytes given since a reset on the bench
+-- the words that a device of the part reads out where it is given the bytes `given` since a reset on the bench
 abbrev pub words_read_out : PartData → List ℕ → List ℕ
 words_read_out part given = reads_of part on_the_bench given
 
@@ -30,7 +30,7 @@ words_read_out part given = reads_of part on_the_bench given
 abbrev pub next_of_eight : ℕ → ℕ
 next_of_eight count = (count + 1) % 8
 
--- one more completes eight
+-- whether the next bit or clock is the eighth, where `count` came before it
 abbrev pub is_eighth : ℕ → Bool
 is_eighth count = count == 7
 
@@ -38,7 +38,7 @@ is_eighth count = count == 7
 abbrev pub lowest_bit : ℕ → Bool
 lowest_bit register = register % 2 == 1
 
--- one shift: the lowest bit goes out, and TDI comes in as the highest, which is worth `top`
+-- a register after one shift: its lowest bit is gone, and TDI is its highest, which is worth `top`
 abbrev pub register_shifted : ℕ → ℕ → Bool → ℕ
 register_shifted top register tdi = register / 2 + top * number_of_bit tdi
 
@@ -74,7 +74,8 @@ init_b_bit_value = 16
 abbrev pub lowest_bits_of_ir : ℕ
 lowest_bits_of_ir = 1
 
--- INIT_B in a word of STAT: bit 12
+-- INIT_B in a word of STAT: bit 12 (that Capture-IR loads this bit is this project's choice: a note of UG470 names
+-- INIT_COMPLETE)
 abbrev pub init_b_of : ℕ → Bool
 init_b_of stat = stat / 2 ^ 12 % 2 == 1
 
@@ -83,13 +84,13 @@ init_b_of stat = stat / 2 ^ 12 % 2 == 1
 abbrev pub ir_status_with : Bool → Bool → ℕ
 ir_status_with done init_b = done_bit_value * number_of_bit done + init_b_bit_value * number_of_bit init_b + lowest_bits_of_ir
 
--- what Capture-IR loads for a device of the part to which these bytes were given
+-- what Capture-IR loads for a device of the part to which the bytes `given` were given since a reset on the bench
 abbrev pub ir_status : PartData → List ℕ → ℕ
 ir_status part given = ir_status_with (state_of part on_the_bench false given).lines.done (init_b_of (state_of part on_the_bench false given).stat)
 
 -- ---- the actions of the states
 
--- the byte that eight clocks of startup offer
+-- the byte that eight clocks in Run-Test/Idle under JSTART offer
 abbrev pub startup_byte : ℕ
 startup_byte = 0xFF
 
@@ -110,9 +111,9 @@ after_capture part instruction.Usercode p = record p { register = user_code }
 after_capture part instruction.CfgIn p = record p { register = 0; count = 0 }
 after_capture part _ p = record p { register = 0 }
 
--- the port after one bit in Shift-DR: under CFG_IN each eighth completes a byte, which is offered; under CFG_OUT one of
--- the words read out goes out; IDCODE and USERCODE shift the register of 32 bits, and any other instruction the one bit
--- of bypass
+-- the port after one bit in Shift-DR: under CFG_IN each eighth bit completes a byte, which is offered; under CFG_OUT a
+-- bit of the words read out goes out, where one waits; IDCODE and USERCODE shift the register of 32 bits, and any other
+-- instruction the one bit of bypass
 abbrev pub after_shift : PartData → Instruction → Port → Bool → Port
 after_shift part instruction.CfgIn p tdi = record p {
   register = with_bit p.register tdi;
@@ -124,16 +125,16 @@ after_shift part instruction.Idcode p tdi = record p { register = register_shift
 after_shift part instruction.Usercode p tdi = record p { register = register_shifted top_bit_of_word p.register tdi }
 after_shift part _ p tdi = record p { register = register_shifted top_bit_of_bypass p.register tdi }
 
--- what an instruction does as it comes: JPROGRAM resets the device
+-- the queue after Update-IR made this the port's instruction: JPROGRAM resets the device, and so leaves an empty queue
 abbrev pub queue_at_update : Instruction → Queue → Queue
 queue_at_update instruction.Jprogram q = empty_queue
 queue_at_update _ q = q
 
--- the port after Update-IR: the register becomes the instruction
+-- the port after Update-IR: the register becomes the instruction, the count begins at 0, and JPROGRAM resets the device
 abbrev pub after_update : Port → Port
 after_update p = record p { instruction = instruction_of p.register; count = 0; queue = queue_at_update (instruction_of p.register) p.queue }
 
--- the port after the action of a state
+-- the port after the action of a state, before it moves to the next one
 abbrev pub after_action : PartData → State → Port → Bool → Port
 after_action part state.TestLogicReset p tdi = record p { instruction = instruction.Idcode }
 after_action part state.RunTestIdle p tdi = after_idle part p.instruction p
@@ -146,19 +147,19 @@ after_action part _ p tdi = p
 
 -- ---- TDO
 
--- TDO in Shift-DR
+-- TDO in Shift-DR, by the instruction
 abbrev pub data_shown : PartData → Instruction → Port → Bool
 data_shown part instruction.CfgIn p = false
 data_shown part instruction.CfgOut p = bit_shown (words_read_out part) p.queue
 data_shown part _ p = lowest_bit p.register
 
--- TDO in a state
+-- TDO in a state: 0 in each but Shift-DR and Shift-IR
 abbrev pub shown_in : PartData → State → Port → Bool
 shown_in part state.ShiftDr p = data_shown part p.instruction p
 shown_in part state.ShiftIr p = lowest_bit p.register
 shown_in part _ p = false
 
--- TDO of a clock
+-- TDO at the next clock, where `p` is the port before it
 abbrev pub tdo_of : PartData → Port → Bool
 tdo_of part p = shown_in part p.state p
 
@@ -172,6 +173,6 @@ after_clock part p c = record (after_action part p.state p c.tdi) { state = next
 abbrev pub new_port : Port
 new_port = record { state = test_logic_reset; instruction = instruction.Idcode; register = 0; count = 0; queue = empty_queue }
 
--- the port after clocks
+-- the port after clocks, which was new before the first
 abbrev pub port_after : PartData → List PortClock → Port
 port_after part cs = fold (after_clock part) new_port cs

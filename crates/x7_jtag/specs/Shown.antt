@@ -14,16 +14,15 @@ use Rattle.x7_jtag.specs.Port.{Port, words_read_out}
 abbrev pub bytes_taken : PartData → Port → List ℕ
 bytes_taken part p = take (taken_of part on_the_bench p.queue.given) p.queue.given
 
--- the number of words that are due: those after the one whose bits go out
+-- the number of words that are due: of those read out, the ones after the word whose bits go out
 abbrev pub port_words_due : PartData → Port → ℕ
 port_words_due part p = length (words_read_out part p.queue.given) - (p.queue.out / 32 + 1)
 
--- the device's registers and the rest of its state, where `due` words of frame data are due
+-- the device's state but its memory, where `due` words of frame data are due
 abbrev pub state_with_due : PartData → Port → ℕ → Regs
 state_with_due part p due = state_owing part on_the_bench false (bytes_taken part p) due
 
--- the device's registers and the rest of its state; FAR is that after the words of frame data whose bits went out, and
--- the one whose bits go out
+-- the device's state but its memory; FAR counts the words of frame data that went out, and the one whose bits go out
 abbrev pub state_shown : PartData → Port → Regs
 state_shown part p = state_with_due part p (frames_among (history_taken part on_the_bench (bytes_taken part p)) (port_words_due part p))
 

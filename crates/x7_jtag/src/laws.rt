@@ -16,17 +16,17 @@ pub fn five_ones_reset()
     ensures { (s : State) (a b c d e : Bool) → state_after s (tms_one a ∷ tms_one b ∷ tms_one c ∷ tms_one d ∷ tms_one e ∷ []) ≡ test_logic_reset }
 {}
 
-/// The device of a tap took the bytes that its port gives, or those up to its stop; the words due are those after the
-/// one whose bits go out; and its state (`Device::state`) is that of these bytes, where FAR counts the words that the
-/// port took.
+/// The device of a tap took the bytes that its port gave, or those up to the device's stop; as many words are due as
+/// come after the one whose bits go out; and the device's state (`Device::state`) is that of the bytes it took, where
+/// FAR counts the words of frame data that the port took.
 pub fn devices_take_what_is_given()
     ensures taken { ForEachPort (λ part d p. DeviceStandsFor part on_the_bench false d (bytes_taken part p)) }
     ensures due { ForEachPort (λ part d p. due_count d.registers.due ≡ port_words_due part p) }
     ensures shows { ForEachPort (λ part d p. state_with_due part p (frames_due d.registers.due) ≡ state_shown part p) }
 {}
 
-/// After any clocks a port has no more bits out than were read out, holds at most 64 bytes, and holds them only while a
-/// word waits.
+/// After any clocks a new port has no more bits out than were read out, holds at most 64 bytes, and none unless a word
+/// waits; what it gave and holds are bytes.
 pub fn queues_are_sound()
     ensures { (part : PartData) (cs : List PortClock) → QueueIsSound (words_read_out part) (port_after part cs).queue }
 {}

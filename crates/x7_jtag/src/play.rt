@@ -14,16 +14,16 @@ use crate::tap::Tap;
 use x7_engine::Device;
 use x7_svf::{Bits, Scan, ScannedRegister, Statement, Svf};
 
-/// The first scan whose TDO differs from the wanted bits.
+/// Where TDO first differs from the wanted bits.
 #[derive(Clone, Copy)]
 pub struct Differ {
-    /// The statement, from 1.
+    /// The number, from 1, of the scan among the statements.
     pub statement: u32,
-    /// The statement's least differing bit, from 0.
+    /// The scan's least differing bit, from 0.
     pub bit: u32,
 }
 
-/// Walks from state to state by clocks with these values of TMS, and TDI 0.
+/// Walks from state to state by clocks with the values `path` of TMS, and TDI 0.
 fn walk(tap: &mut Tap, device: &mut Device, path: &[bool])
     requires { MayClock tap.old device.old (length path.now) }
     ensures { MakesClocks tap.old device.old tap.new device.new (λ p. walk_clocks path.now) }
@@ -46,7 +46,7 @@ fn run(tap: &mut Tap, device: &mut Device, count: u32)
     }
 }
 
-/// One clock of TMS 0 where in Test-Logic-Reset.
+/// Goes from Test-Logic-Reset to Run-Test/Idle by one clock of TMS 0; in any other state makes no clock.
 fn leave_reset(tap: &mut Tap, device: &mut Device)
     requires { MayClock tap.old device.old 1 }
     ensures { MakesClocks tap.old device.old tap.new device.new (λ p. from_reset p.state) }
@@ -57,7 +57,7 @@ fn leave_reset(tap: &mut Tap, device: &mut Device)
     }
 }
 
-/// From Run-Test/Idle to Shift-IR or Shift-DR.
+/// Goes from Run-Test/Idle to Shift-IR, for the instruction register, or to Shift-DR, for a data register.
 fn to_shift(tap: &mut Tap, device: &mut Device, register: ScannedRegister)
     requires { MayClock tap.old device.old 4 }
     ensures { MakesClocks tap.old device.old tap.new device.new (λ p. to_shift_clocks register) }
@@ -116,8 +116,8 @@ fn first_found(found: Option<u32>, differs: bool, index: u32) -> Option<u32>
     }
 }
 
-/// The clocks of the first bits of a scan, byte by byte, as many whole bytes as come before the last bit, where the
-/// device takes them and no bit is wanted. Says how many bits.
+/// Makes the clocks of a scan's first bits by whole bytes, as many as come before the last bit, where the tap takes
+/// bytes and no bit is wanted; else none. Says of how many bits.
 fn shift_bytes(tap: &mut Tap, device: &mut Device, scan: &Scan<'_>) -> u32
     requires { MayClock tap.old device.old count_limit }
     ensures within { result ≤ length scan.now.tdi }
@@ -172,7 +172,7 @@ fn shift(tap: &mut Tap, device: &mut Device, scan: &Scan<'_>) -> Option<u32>
     shift_from(tap, device, scan, first)
 }
 
-/// A scan of a register, and the least bit at which TDO differs from what is wanted.
+/// Plays a scan, and finds the least bit at which TDO differs from what is wanted.
 fn play_scan(tap: &mut Tap, device: &mut Device, scan: &Scan<'_>) -> Option<u32>
     requires { MayClock tap.old device.old statement_limit }
     ensures clocks { MakesClocks tap.old device.old tap.new device.new (λ p. clocks_of p.state (StatementData.Scan scan.now)) }
@@ -186,7 +186,7 @@ fn play_scan(tap: &mut Tap, device: &mut Device, scan: &Scan<'_>) -> Option<u32>
     found
 }
 
-/// The clocks of a statement, and the least bit at which TDO differs from what is wanted.
+/// Makes the clocks of a statement, and finds the least bit at which TDO differs from what is wanted.
 fn play_statement(statement: &Statement<'_>, tap: &mut Tap, device: &mut Device) -> Option<u32>
     requires { MayClock tap.old device.old statement_limit }
     ensures clocks { MakesClocks tap.old device.old tap.new device.new (λ p. clocks_of p.state statement.now) }
@@ -212,7 +212,8 @@ fn play_statement(statement: &Statement<'_>, tap: &mut Tap, device: &mut Device)
     }
 }
 
-/// The clocks of statement `index` of a text, from 0, and the least bit at which TDO differs from what is wanted.
+/// Makes the clocks of statement `index` of a text, from 0, and finds the least bit at which TDO differs from what is
+/// wanted.
 fn play_at(svf: &Svf, index: usize, tap: &mut Tap, device: &mut Device) -> Option<u32>
     requires { MayClock tap.old device.old statement_limit }
     ensures clocks { (x : StatementData) → slice_get svf.now index ≡ Some x → MakesClocks tap.old device.old tap.new device.new (λ p. clocks_of p.state x) }
@@ -226,7 +227,7 @@ fn play_at(svf: &Svf, index: usize, tap: &mut Tap, device: &mut Device) -> Optio
 }
 
 /// Plays statements on a new tap and a new device, up to the first scan whose TDO differs from the wanted bits, that
-/// scan included. It takes no memory.
+/// scan included. Answers where TDO first differs, or `None`. It takes no memory.
 pub fn play_svf(svf: &Svf, tap: &mut Tap, device: &mut Device) -> Option<Differ>
     requires { AreNew tap.old device.old }
     ensures clocks { (part : PartData) → TapStandsFor part tap.old device.old [] → TapStandsFor part tap.new device.new (clocks_played svf.now result) }

@@ -36,7 +36,8 @@ impl Model for Queue {
     ghost invariant = { λ q. q.bits_left ≤ 32 };
 }
 
-/// How many of a piece's `length` bytes count as given, by what a feed of the piece answers: after a stop all of them.
+/// How many of a piece's `length` bytes count as given, by what a feed of the piece answers: those taken, where a word
+/// is due, and else all, also those after a stop.
 fn given_of(fed: Fed, length: usize) -> usize
     ensures { result ≡ given_by fed length }
 {
@@ -83,7 +84,7 @@ impl Queue {
         self.keep(read.words());
     }
 
-    /// Takes a byte in its turn.
+    /// Takes a byte in its turn: gives it to the device where no word waits, and else holds it.
     fn take(&mut self, byte: u8, device: &mut Device)
         requires room { 0 < self.old.bits_left → length self.old.held < most_bytes_held }
         requires fits { CanBeGiven device.old 1 }
@@ -99,7 +100,7 @@ impl Queue {
         }
     }
 
-    /// Drops what waits, gives the held bytes, and drops what they read out.
+    /// Drops all words that wait, gives the held bytes, and drops what they read out.
     fn drop_all(&mut self, device: &mut Device)
         requires fits { CanBeGiven device.old most_bytes_held }
         ensures taken { device.new.taken ≤ device.old.taken + length self.old.held }
@@ -113,7 +114,7 @@ impl Queue {
         self.bits_left = 0;
     }
 
-    /// Whether the queue has no room for a byte that should be held.
+    /// Whether a word waits and the most bytes are held, so that there is no room for a byte that should be held.
     fn overflows(&self) -> bool
         ensures value { result ≡ (nat_lt 0 self.now.bits_left && length self.now.held == most_bytes_held) }
         ensures room { result ≡ false → 0 < self.now.bits_left → length self.now.held < most_bytes_held }
@@ -121,7 +122,7 @@ impl Queue {
         self.bits_left > 0 && self.held.is_full()
     }
 
-    /// Makes room for a byte that should be held, where the most bytes are.
+    /// Makes room for a byte that should be held, where the most bytes are held already.
     fn make_room(&mut self, device: &mut Device)
         requires fits { CanBeGiven device.old most_bytes_held }
         ensures at_most { AreGivenAtMost self.old device.old self.new device.new 0 }
@@ -144,7 +145,8 @@ impl Queue {
         self.take(byte, device);
     }
 
-    /// Gives bytes to the device, where no word waits, up to the one with which a word is read out. Says how many.
+    /// Gives bytes to the device, where no word waits, up to and with the one at which a word is read out. Says how
+    /// many count as given: all of them after a stop, and none where a word waits.
     fn give(&mut self, bytes: &[u8], device: &mut Device) -> usize
         requires fits { CanBeGiven device.old (length bytes.now) }
         ensures within { result ≤ length bytes.now }
@@ -160,7 +162,7 @@ impl Queue {
         count
     }
 
-    /// Takes the first of bytes that are offered, as many as go at once. Says how many.
+    /// Takes the first of bytes that are offered, as many as go at once and at least one. Says how many.
     fn offer_some(&mut self, bytes: &[u8], device: &mut Device) -> usize
         requires not_empty { 0 < length bytes.now }
         requires fits { CanAllBeOffered self.old device.old (length bytes.now) }
@@ -189,7 +191,7 @@ impl Queue {
         }
     }
 
-    /// Gives held bytes in order until a word waits.
+    /// Gives held bytes in order until a word waits, and holds the rest again.
     fn give_held(&mut self, device: &mut Device)
         requires fits { CanBeGiven device.old most_bytes_held }
         ensures queue { QueueBecomes self.old device.old self.new device.new (λ reads q. give_held_by reads q) }
@@ -202,7 +204,7 @@ impl Queue {
         }
     }
 
-    /// The next bit of the word, which is then out.
+    /// The next bit of the latest word, from the highest on, which is then out.
     fn next_bit(&mut self) -> bool
         requires { 0 < self.old.bits_left }
         ensures one_out { self.new ≡ record self.old { bits_left = self.old.bits_left - 1 } }
@@ -212,7 +214,8 @@ impl Queue {
         (self.word >> self.bits_left) % 2 == 1
     }
 
-    /// Takes the next word as soon as the last bit of the one before is out; where there is none, held bytes go on.
+    /// Takes the next word as soon as the last bit of the one before is out; where no word is due, gives held bytes
+    /// until one is read out.
     fn refill(&mut self, device: &mut Device)
         requires none_waits { self.old.bits_left ≡ 0 }
         requires fits { CanBeGiven device.old most_bytes_held }

@@ -17,7 +17,7 @@ use crate::state::State;
 use std::marker::Model;
 use x7_engine::Device;
 
-/// The byte that eight clocks of startup offer.
+/// The byte that eight clocks in Run-Test/Idle under JSTART offer.
 const STARTUP_BYTE: u8 = 0xFF;
 /// The user code, which no stream sets here.
 const USER_CODE: u32 = 0xFFFF_FFFF;
@@ -45,7 +45,7 @@ pub struct Tap {
     instruction: Instruction,
     // the register between TDI and TDO
     register: u32,
-    // how many there were of the eight bits of a byte, or of eight clocks of startup
+    // a count from 0 to 7 of the bits of a byte under CFG_IN, or of clocks in Run-Test/Idle under JSTART
     count: u32,
     queue: Queue,
 }
@@ -76,7 +76,7 @@ fn lowest_bit(register: u32) -> bool
     register % 2 == 1
 }
 
-/// One shift: the lowest bit goes out, and TDI comes in as the highest, which is worth `top`.
+/// A register after one shift: its lowest bit is gone, and TDI is its highest, which is worth `top`.
 fn register_shifted(top: u32, register: u32, tdi: bool) -> u32
     requires { top ≤ top_bit_of_word }
     ensures { result ≡ shifted_in top register tdi }
@@ -101,7 +101,7 @@ fn ir_status_with(is_done: bool, stat: u32) -> u32
         + LOWEST_BITS_OF_IR
 }
 
-/// What Capture-IR loads.
+/// What Capture-IR loads, by the state of the device.
 fn ir_status(device: &Device) -> u32
     ensures { (part : PartData) (given bytes : List ℕ) → DeviceStandsFor part on_the_bench false device.now bytes → TookOfGiven part given bytes → result ≡ ir_status part given }
 {
@@ -109,7 +109,7 @@ fn ir_status(device: &Device) -> u32
     ir_status_with(state.lines.done, state.stat)
 }
 
-/// The last of bytes, or what was there before them where there is none.
+/// The last of bytes, or `before` where there is none.
 fn last_or(bytes: &[u8], before: u32) -> u32
     ensures { result ≡ last_or before bytes.now }
 {
@@ -147,7 +147,7 @@ impl Tap {
         self.instruction
     }
 
-    /// Counts to eight, and says whether it has.
+    /// Counts one bit or clock more, from 0 to 7 and then from 0 again, and says whether it was the eighth.
     fn count_to_eight(&mut self) -> bool
         ensures counted { self.new ≡ record self.old { count = next_of_eight self.old.count } }
         ensures eighth { result ≡ is_eighth self.old.count }
@@ -220,7 +220,7 @@ impl Tap {
         }
     }
 
-    /// The clocks of TMS 0 that shift the bits of these bytes, each from its highest bit.
+    /// Makes the clocks of TMS 0 that shift in the bits of `bytes`, each byte from its highest bit.
     pub(crate) fn shift_bytes(&mut self, bytes: &[u8], device: &mut Device)
         requires takes { TakesBytes self.old }
         requires fits { CanAllBeOffered self.old.queue device.old (length bytes.now) }
@@ -249,7 +249,7 @@ impl Tap {
         }
     }
 
-    /// Update-IR: the register becomes the instruction, and JPROGRAM resets the device.
+    /// Update-IR: the register becomes the instruction, the count begins at 0, and JPROGRAM resets the device.
     fn update(&mut self, device: &mut Device)
         ensures port { PortBecomes self.old device.old self.new device.new (λ part p. after_update p) }
     {
@@ -296,8 +296,8 @@ impl Tap {
 
     /// One clock: gives TDO, does the action of the present state, and moves to the next.
     ///
-    /// The clauses speak of a tap and a device that were new together, and of which the tap was clocked with this device
-    /// alone since.
+    /// The clauses speak of a tap and a device that were new together, and since then had only these clocks: the tap
+    /// before no other device, and the device by no other call.
     pub fn clock(&mut self, tms: bool, tdi: bool, device: &mut Device) -> bool
         requires { CanBeOffered device.old }
         ensures clocks { MakesClocks self.old device.old self.new device.new (λ p. clock_of tms tdi ∷ []) }
