@@ -18,7 +18,8 @@ use x7_files::{FileFlash, FileInputs, StdSink};
 use x7_tool::{Status, run};
 use x7_words::{Flash, Inputs, Sink, write_all};
 
-/// The program's end where the system gives no list of words, as where one of them isn't UTF-8.
+/// The exit status where the system gives no list of words, as where one of them isn't UTF-8; where memory is wanting
+/// for the list, it is that of `Status::NoMemory`.
 const NO_WORDS: u8 = 12;
 
 /// A file that gives no byte, and takes none where it is opened to be read.
@@ -40,7 +41,7 @@ fn end_of(status: Status) -> ExitCode
     ExitCode::from(status.number())
 }
 
-/// Writes a page, and answers the program's end.
+/// Writes a page, and answers the exit status.
 fn show<O: Sink>(out: &mut O, page: &str) -> ExitCode
     ensures { WritesPage page.now (O.state out.old) (O.state out.new) (exit_status result) }
 {
@@ -50,7 +51,7 @@ fn show<O: Sink>(out: &mut O, page: &str) -> ExitCode
     }
 }
 
-/// Does what the words ask for, of the program itself or of the command, and answers the program's end.
+/// Does what the words ask for, of the program itself or of the command, and answers the exit status.
 fn command<I: Inputs, O: Sink, E: Sink, F: Flash>(
     alloc: Global,
     words: &Vec<String>,
@@ -68,7 +69,7 @@ fn command<I: Inputs, O: Sink, E: Sink, F: Flash>(
     }
 }
 
-/// Does what the words ask for over the system's files, and answers the program's end.
+/// Does what the words ask for over the system's files, and answers the exit status.
 fn with_files(rt: &HostRuntime, words: &Vec<String>) -> ExitCode {
     let mut inputs = FileInputs::new(rt);
     let mut flash = FileFlash::new(rt);

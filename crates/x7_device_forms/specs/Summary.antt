@@ -7,6 +7,6 @@ use Rattle.x7_forms.specs.Known.{reads_limit}
 use Rattle.x7_playing.specs.Playing.{HasPlayed}
 use Rattle.x7_playing.specs.declared.player.Player.{Player}
 
--- a player was given a stream of `size` bytes, which reads out no more words than a play may
+-- a player was given a stream of `size` bytes, which reads out at most `reads_limit` words
 abbrev pub TookStream : PartData → List ℕ → Player → ℕ → Type 0
 TookStream part stream player size = HasPlayed part stream player × (size ≡ length stream) × (length (reads_of part on_the_bench stream) ≤ reads_limit)

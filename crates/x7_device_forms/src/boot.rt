@@ -24,7 +24,8 @@ use x7_text::put_text;
 use x7_words::{Flash, Inputs, NoMemory};
 
 /// The text of a boot (this project's choice): `boot NAME`; for each attempt `attempt N KIND ADDRESS ENDING`; `end` and
-/// how the boot ended; and the report of the device, as the last attempt left it.
+/// how the boot ended; and the report of the device, as the last attempt left it, without words read out. N counts from
+/// 1, and ADDRESS is in bytes, in eight hexadecimal digits.
 pub fn boot_text(alloc: Global, booted: &Booted) -> Result<Vec<u8>, NoMemory>
     ensures { IfOk result (λ text. ForLastAttemptOf booted.now (λ part last. text.items ≡ boot_text part booted.now.attempts booted.now.end last)) }
 {
@@ -51,7 +52,7 @@ fn has_failed(end: BootEnd) -> bool
     }
 }
 
-/// The text of a boot, as `boot_text`, ready to be written, and whether it ended without a start.
+/// The text of a boot, as `boot_text`, ready to be written, and whether the boot ended without a start.
 fn ready_text(alloc: Global, booted: Booted) -> Result<PlayText, NoMemory>
     ensures { IfOk result (λ text. ForLastAttemptOf booted (λ part last. text ≡ record { stopped = has_failed booted.end; text = boot_text part booted.attempts booted.end last })) }
 {

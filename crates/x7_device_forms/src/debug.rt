@@ -42,7 +42,7 @@ fn refusal_of<'w>(name: &'w str, fault: ScriptFault) -> Refusal<'w>
     }
 }
 
-/// Reads the inputs in the order of the words.
+/// Reads the part, the stream and the script, in this order.
 fn read_given<'w, I: Inputs>(
     alloc: Global,
     inputs: &mut I,
@@ -79,7 +79,8 @@ fn orders_of<'w>(alloc: Global, text: Vec<u8>, name: &'w str) -> Result<Script, 
     }
 }
 
-/// What a script shows of a session at its first position, and whether the device has a fault where the script ends.
+/// What a script shows of the stream of a session that stands at position 0, and as `stopped` whether the device has a
+/// fault where the script ends; an obeyed IPROG is none.
 fn shown<'w>(alloc: Global, session: &mut Session, script: &Script) -> Result<Text, Refusal<'w>>
     requires { session.old.at ≡ 0 }
     ensures text { IfOk result (λ text. shown_of session.old.part session.old.stream script.now ≡ text_answer text) }
@@ -92,7 +93,8 @@ fn shown<'w>(alloc: Global, session: &mut Session, script: &Script) -> Result<Te
     })
 }
 
-/// What a script shows of a stream of a new device of the part, and whether the device has a fault where it ends.
+/// What a script shows of a stream on a new device of the part, and as `stopped` whether the device has a fault where
+/// the script ends.
 fn shown_of<'w>(
     alloc: Global,
     part: &Part,

@@ -50,7 +50,7 @@ fn count_up(frame: &mut Vec<u32>, first: u32)
     }
 }
 
-/// Adds what is planned for an address by its number. `frame` is room for its words.
+/// Adds what is planned for the address `far` by `number`. `frame` is room for the words of a frame.
 fn push_row(draft: &mut Draft, frame: &mut Vec<u32>, far: u32, number: u32) -> Result<(), NoMemory>
     requires width { length frame.old.items ≡ draft.old.width }
     ensures added { OnOk result (draft.new.rows ≡ draft.old.rows ++ row_by draft.old.width far number) }
@@ -94,7 +94,7 @@ fn sum_of(words: &[u32]) -> u32
     total
 }
 
-/// The sum of the words of the frame at an address, modulo 2^32.
+/// The sum of the words of the frame at the address `far`, modulo 2^32; 0 where there is no frame.
 fn frame_sum(part: &Part, memory: &Memory, far: u32) -> u32
     requires { AreFramesOf part.now memory.now }
     ensures { result ≡ sum (unwrap_or (frame_at part.now memory.now far) []) % 2 ^ 32 }
@@ -120,7 +120,7 @@ fn memory_sum(part: &Part, memory: &Memory) -> u32
     total
 }
 
-/// Plays a stream piece by piece, and answers how many bytes it has. `piece` is room for a piece.
+/// Plays a stream piece by piece, and answers how many bytes the stream has. `piece` is room for a piece.
 fn play_all(
     stream: FullStream<'_>,
     player: &mut Player,
@@ -145,8 +145,8 @@ fn play_all(
     Ok(size)
 }
 
-/// Plays the full stream of a plan at the part's addresses on a new device, and answers how many bytes it has. No more
-/// than a piece of the stream is held.
+/// Plays the full stream of a plan at the part's addresses on a new device, and answers how many bytes the stream has.
+/// No more than a piece of the stream is held.
 fn play_full(alloc: Global, part: &Part, plan: &Plan, player: &mut Player) -> Result<u64, NoMemory>
     requires width { plan.now.width ≡ frame_words part.now }
     requires addresses { AreAddressed part.now plan.now.rows }
@@ -177,7 +177,7 @@ struct Summary {
     sum: u32,
 }
 
-/// Appends the line of a number: its key, and its decimal digits.
+/// Appends the line of a number: its key, which ends with a blank, and its decimal digits.
 fn put_count(text: &mut Vec<u8>, key: &[u8], number: u64) -> Result<(), NoMemory>
     ensures { OnOk result (text.new.items ≡ text.old.items ++ count_line key.now number) }
 {
@@ -216,7 +216,7 @@ fn put_summary(text: &mut Vec<u8>, name: &str, seed: u32, summary: Summary) -> R
     put_sum(text, summary.sum)
 }
 
-/// The summary of a stream of `size` bytes that was played, of `planned` frames.
+/// The summary of a stream of `size` bytes that was played, whose plan has `planned` frames.
 fn summarized(
     alloc: Global,
     seed: u32,

@@ -43,7 +43,7 @@ fn refusal_of<'w>(name: &'w str, fault: SvfFault) -> Refusal<'w>
     }
 }
 
-/// Reads the inputs in the order of the words.
+/// Reads the part and the SVF text, in this order.
 fn read_given<'w, I: Inputs>(
     alloc: Global,
     inputs: &mut I,

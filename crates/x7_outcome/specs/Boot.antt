@@ -11,10 +11,10 @@ use Rattle.x7_boot.specs.Text.{boot_lines}
 use Rattle.x7_boot.specs.declared.boots.BootEnd.{BootEnd}
 use Rattle.x7_boot.specs.declared.boots.Tried.{Tried}
 
--- `Holds` is true of the part and the last attempt of a boot, whose device has no word due
+-- `Holds` is true of the part and the last attempt of a boot, where the boot's device has no word due
 abbrev pub ForLastAttemptOf : BootedState → (PartData → AttemptCourse → Type 0) → Type 0
 ForLastAttemptOf boot Holds = (part : PartData) (last : AttemptCourse) → IsDeviceOf part boot.device last → NoWordDue boot.device → Holds part last
 
--- the whole text of a boot, by its last attempt
+-- the whole text of a boot, by its attempts, how it ended, and the course of the last attempt
 unfoldable pub boot_text : PartData → List Tried → BootEnd → AttemptCourse → List ℕ
 boot_text part attempts end last = boot_lines part.name attempts end ++ report_text part (state_of part last.kept last.wrapped last.bytes) [] (memory_of_bytes part last.kept last.bytes)

@@ -38,8 +38,9 @@ GivesIfKnown (Some known) form end = FormGives known form end
 abbrev pub ReportsMishap : AskedForm → Outside → Outside → Event → Type 0
 ReportsMishap form old new event = IsOfMishap Answer (known_in old) (CameInRun (Some form) old new) (λ known end. FormGives known form end) event
 
--- At this place of the flash another byte was read than an update with the stream's data writes there, and it is the
--- first such byte of the update or of its slot's switch word. Where the contents aren't known, it is so for some data.
+-- At `place` of the flash another byte was read than an update with the stream's data writes there, and it is the first
+-- such byte of these data and the FF after them, or of the switch word of the slot that is opened. Where the contents
+-- aren't known, it is so for some data.
 pub record ReadsWrongAt (known : Option Known) (stream : List ℕ) (new : FlashState) (place : ℕ) : Type 0 where
   pub bytes : List ℕ
   pub has_data : HasData known stream bytes
@@ -48,13 +49,13 @@ pub record ReadsWrongAt (known : Option Known) (stream : List ℕ) (new : FlashS
   pub wrong : IsReadWrong new.extent bytes place wrote read
   pub first : IsFirstRead new wrong.from wrong.piece place read
 
--- the event is a byte that differs, of a flash that the form updates and whose bytes aren't known
+-- the event says that a byte differs, of a flash that the form updates and whose bytes aren't known
 abbrev pub IsDifference : AskedForm → Outside → Outside → Event → Type 0
 IsDifference (UpdatingFlash name stream) old new event = (place : ℕ) × (event ≡ differs name place) × (old.flash.bytes ≡ None) × ReadsWrongAt (known_in old) stream new.flash place
 IsDifference _ old new event = ⊥
 
--- A write of the flash of a form failed once all else was done: the flash is within the limit, and over
--- what is known the form comes to its whole text, which is empty.
+-- A write of the flash of a form failed: the flash is within the limit, and where the contents are known, the form
+-- comes over them to its whole text, which is empty.
 abbrev pub WritesLast : AskedForm → Outside → Outside → Type 0
 WritesLast form old new = WritesFail (updated_by (Some form)) old.flash new.flash × (new.flash.extent ≤ flash_limit) × GivesIfKnown (known_in old) form (Ok no_text)
 
@@ -68,15 +69,15 @@ CausedBy Want form old new event = event ≡ no_memory
 CausedBy Fault form old new event = ReportsMishap form old new event
 -- it reports a name that was missing, by the count of absences; or by known contents the name isn't there
 CausedBy Absence form old new event = ReportsMishap form old new event ⊎ IsKnownToGive (known_in old) form (Err event)
--- the output failed, or the flash at a write once all else was done
+-- the output failed, or a write of the flash, as `WritesLast` says
 CausedBy Break form old new event = (event ≡ writing_failed) × (SinkFails old.out new.out ⊎ WritesLast form old new)
--- a byte of a flash whose bytes aren't known differs, and known contents give the event
+-- a byte of a flash whose bytes aren't known differs, and where the contents are known, they give the event
 CausedBy Difference form old new event = IsDifference form old new event × GivesIfKnown (known_in old) form (Err event)
--- known contents give the event
+-- where the contents are known, they give the event
 CausedBy Contents form old new event = GivesIfKnown (known_in old) form (Err event)
 
--- why a command ended so: words without a form are a wrong usage, a whole text is that of the
--- known contents, and an event has its cause
+-- why a command ended so: words without a form are a wrong usage, a whole text is that of the contents where they are
+-- known, and an event has its cause
 abbrev pub EndIsCaused : Option AskedForm → Outside → Outside → Result Answer Event → Type 0
 EndIsCaused None old new end = end ≡ Err usage
 EndIsCaused (Some form) old new (Ok answer) = GivesIfKnown (known_in old) form (Ok answer)
@@ -154,27 +155,28 @@ OutputGets form old new (Err event) = OutputByCause (cause_of_event event) form 
 -- ---- how large a flash is
 
 -- By the number of its bytes, known or not, the flash of a form is within the limit where the form's text is whole, and
--- over the limit where the event is that a name of the flash is too large, unless an input of the form has that name too.
+-- over the limit where the event is that a name of the flash is too large, unless an input of the form has that name
+-- too.
 abbrev pub IsMeasured : Option AskedForm → FlashState → Result Answer Event → Type 0
 IsMeasured form new (Ok answer) = (name : List ℕ) → Among (flash_names form) name → new.extent ≤ flash_limit
 IsMeasured form new (Err event) = (name : List ℕ) → Among (flash_names form) name → event ≡ too_large name → (flash_limit < new.extent) ⊎ Among (names_of form) name
 
 -- ---- when a flash fails
 
--- a form has all that it needs but for its flash, which is within the limit: whatever that holds, there
--- is a whole text over what the inputs hold
+-- a form has all that it needs but for its flash, which is within the limit: where the inputs are known, the form may
+-- come to a whole text over them and a flash of which nothing is known
 abbrev pub NeedsOnlyFlash : AskedForm → InputsState → FlashState → Type 0
 NeedsOnlyFlash form old new = (new.extent ≤ flash_limit) × ((answer : Answer) × GivesIfKnown (with_inputs old.contents None) form (Ok answer))
 
--- a fault of a form's flash that is attached comes once the form needs only the flash; it may
--- be that of an input of the same name too
+-- a fault of a form's flash that is attached comes once the form needs only the flash; the event may be that of an
+-- input of the flash's name too
 abbrev pub FailsLast : Option AskedForm → InputsState → FlashState → Result Answer Event → Type 0
 FailsLast None old new end = Unit {0}
 FailsLast (Some form) old new (Ok answer) = Unit {0}
 FailsLast (Some form) old new (Err event) =
     (name : List ℕ) → Among (flash_names (Some form)) name → event ≡ reading_failed name → new.attached ≡ true → NeedsOnlyFlash form old new ⊎ Among (names_of (Some form)) name
 
--- a flash of this name isn't there, was not attached, or is too large
+-- the event is that the flash `name` isn't there or is too large, or that it failed, and it is not attached
 abbrev pub IsUnusable : List ℕ → FlashState → Event → Type 0
 IsUnusable name now event = (event ≡ missing name) ⊎ ((event ≡ too_large name) ⊎ ((event ≡ reading_failed name) × (now.attached ≡ false)))
 
@@ -183,8 +185,8 @@ IsUnusable name now event = (event ≡ missing name) ⊎ ((event ≡ too_large n
 abbrev pub TouchesFlashLast : List ℕ → FlashState → FlashState → Event → Type 0
 TouchesFlashLast name old new event = (event ≡ no_memory) ⊎ ((event ≡ writing_failed) ⊎ ((event.concerned ≡ name) ⊎ (new ≡ old)))
 
--- An update whose flash can't be used asks for no stream; the event may be that of a stream of its name too. A boot
--- touches its flash only once its part is good.
+-- An update whose flash can't be used asks for no stream, unless the stream has the flash's name. A boot touches its
+-- flash only once its part is good.
 abbrev pub JudgesFlash : {A : Type 0} → Option AskedForm → Sources → Sources → Result A Event → Type 0
 JudgesFlash (Some (UpdatingFlash flash stream)) old new (Err event) = IsUnusable flash new.flash event → (new.inputs.selects ≤ old.inputs.selects) ⊎ (flash ≡ stream)
 JudgesFlash (Some (Booting part flash)) old new (Err event) = TouchesFlashLast flash old.flash new.flash event
@@ -254,7 +256,7 @@ pub record MakesReady (form : AskedForm) (old new : InputsState) (got : Result A
   pub stays : InputsStay old new
 
 -- A form that reads a flash too made its text ready, or not: the text has its cause in inputs and flash, the flash's
--- size and its faults fit the answer, the flash was touched in its turn, and the rest is as in `MakesReady`.
+-- size and its faults fit the answer, the flash was touched as `JudgesFlash` says, and the rest is as in `MakesReady`.
 pub record MakesReadyFrom (form : AskedForm) (old new : Sources) (got : Result Answer Event) : Type 0 where
   pub caused : AnswersFrom form old new got
   pub stops : StopsReading (Some form) old.inputs new.inputs got

@@ -22,12 +22,13 @@ counted count first = map (λ i. (first + i) % 2 ^ 32) (range_with_len 0 count)
 abbrev pub least_planned : ℕ
 least_planned = 2 ^ 31
 
--- what is planned for an address by its number: nothing where that is below the least
+-- what is planned for the address `far` by `number`: nothing where that is below the least, and else `width` words that
+-- count up from it
 abbrev pub row_by : ℕ → ℕ → ℕ → List PlanRow
 row_by width far number = if nat_lt number least_planned then [] else record { far = far; words = counted width number } ∷ []
 
--- what is planned for these addresses: the first one's number is that after `number`, each other's that after the one
--- before
+-- what is planned for these addresses: the number of the first is the one after `number`, that of each other the one
+-- after the number of the address before it
 abbrev pub rows_after : ℕ → ℕ → List ℕ → List PlanRow
 rows_after width number [] = []
 rows_after width number (far ∷ fars) = row_by width far (next_number number) ++ rows_after width (next_number number) fars
@@ -36,7 +37,7 @@ rows_after width number (far ∷ fars) = row_by width far (next_number number) +
 abbrev pub plan_of_seed : PartData → ℕ → PlanData
 plan_of_seed part seed = record { width = frame_words part; rows = rows_after (frame_words part) seed (addresses_in part) }
 
--- the words of the frames at these addresses, added up
+-- the words of the frames at these addresses, added up; an address without a frame adds nothing
 abbrev pub words_sum : FrameMap → List ℕ → ℕ
 words_sum memory [] = 0
 words_sum memory (far ∷ fars) = sum (unwrap_or (memory far) []) + words_sum memory fars
@@ -53,8 +54,8 @@ count_line key n = key ++ decimal n ++ codes "\n"
 abbrev pub sum_line : ℕ → List ℕ
 sum_line n = codes "sum " ++ hex_word n ++ codes "\n"
 
--- what a summary says of a stream that was played: the planned frames, the bytes of the stream, and the phase and the
--- sum of all words of a device that took it
+-- what a summary says of a stream that was played: how many frames are planned, how many bytes the stream has, and of a
+-- device that took it the phase and the sum of all words of its memory
 pub record SummaryData : Type 0 where
   pub planned : ℕ
   pub size : ℕ
@@ -66,7 +67,7 @@ unfoldable pub summary_text : List ℕ → ℕ → SummaryData → List ℕ
 summary_text name seed s =
     gen_line name seed ++ count_line (codes "planned ") s.planned ++ count_line (codes "stream ") s.size ++ count_line (codes "phase ") s.phase ++ sum_line s.sum
 
--- the summary of a plan's stream, played on a new device; the sum is modulo 2^32
+-- the summary of a stream, played on a new device, whose plan has `planned` frames; the sum is modulo 2^32
 abbrev pub played_summary : PartData → ℕ → ℕ → List ℕ → List ℕ
 played_summary part seed planned stream =
     summary_text part.name seed (record {
@@ -80,8 +81,8 @@ played_summary part seed planned stream =
 unfoldable pub gen_text : PartData → ℕ → List ℕ
 gen_text part seed = played_summary part seed (length (plan_of_seed part seed).rows) (full_stream part (plan_of_seed part seed))
 
--- the summary by what was planned: the bytes of the plan's full stream, phase 7, and the sum modulo 2^32 of the words
--- of the plan over zeros
+-- the summary by what was planned: how many frames the plan has and how many bytes its full stream, phase 7, and the
+-- sum modulo 2^32 of the words of the plan over zeros
 abbrev pub planned_summary : PartData → ℕ → List ℕ
 planned_summary part seed =
     summary_text part.name seed (record {

@@ -133,7 +133,8 @@ shown_of part stream orders = record {
   text = transcript_of part stream orders;
 }
 
--- `debug PART STREAM SCRIPT`: what the script shows of the stream, or its first line that is none
+-- `debug PART STREAM SCRIPT`: what the script shows of the stream, or the event of the script's first line that is no
+-- order
 abbrev pub DebuggedAs : List ℕ → Result DebugInputs Event → Result Answer Event → Type 0
 DebuggedAs name (Err event) end = Err event ≡ end
 DebuggedAs name (Ok d) (Ok answer) = (orders : List Order) × (IsScriptOf d.script (Ok orders) × (shown_of d.part d.stream orders ≡ answer))
@@ -146,8 +147,8 @@ abbrev pub svf_event : List ℕ → SvfFault → Event
 svf_event name (svf.Line line) = bad_input name (input.Line line)
 svf_event name svf.NoMemory = no_memory
 
--- the text of `svf`: the line of the first scan that differs, or that none does, and the report of the device of the
--- port, with no words read out
+-- the answer of `svf`: the line of the first scan that differs, or that none does, and the report of the device of the
+-- port, with no words read out; what it reports stopped where a scan differs or the device has a fault
 abbrev pub svf_shown : PartData → Option Differ → Port → Answer
 svf_shown part differ p = record {
   stopped = is_some differ || is_some (fault_shown part p);
@@ -158,7 +159,8 @@ svf_shown part differ p = record {
 abbrev pub svf_answer : PartData → List Statement → Answer
 svf_answer part statements = svf_shown part (first_difference part statements) (port_played part statements)
 
--- `svf PART TEXT`: the answer of the text's statements, or the event of its first line that is no statement
+-- `svf PART TEXT`: the answer of the text's statements, or the event of the line on which its first bad statement
+-- begins
 abbrev pub PlayedSvf : List ℕ → Result PartAndText Event → Result Answer Event → Type 0
 PlayedSvf name (Err event) end = Err event ≡ end
 PlayedSvf name (Ok texts) (Ok answer) = (statements : List Statement) × IsSvfOf texts.text (Ok statements) × (svf_answer texts.part statements ≡ answer)
@@ -186,7 +188,7 @@ planner_event name (planner.Foreign far) = bad_input name input.Foreign
 planner_event name (planner.Range n) = bad_input name input.Range
 planner_event name _ = no_memory
 
--- the plan of a frames text has no partial stream
+-- the plan of a frames text has no partial stream, as the event says
 abbrev pub IsUnplanned : List ℕ → PartAndText → Event → Type 0
 IsUnplanned name texts event = (plan : PlanData) × IsPlanOf texts.part texts.text (Ok plan) × (fault : PlanFault) × IsPartialFault texts.part plan fault × (planner_event name fault ≡ event)
 
@@ -204,7 +206,7 @@ PlannedRead name far n (Err event) end = Err event ≡ end
 PlannedRead name far n (Ok part) (Ok answer) = (answer.stopped ≡ false) × CanRead part far n × (answer.text ≡ read_stream part far n)
 PlannedRead name far n (Ok part) (Err event) = (fault : PlanFault) × IsReadFault part far n fault × (planner_event name fault ≡ event)
 
--- the summary of the plan of a seed, played on a new device of the part
+-- the answer of `gen`: the summary of the full stream of a seed's plan, played on a new device of the part
 abbrev pub gen_answer : PartData → ℕ → Answer
 gen_answer part seed = record { stopped = false; text = gen_text part seed }
 
@@ -223,8 +225,9 @@ pub record ImageStreams : Type 0 where
 abbrev pub image_streams : Known → List ℕ → List ℕ → Result ImageStreams Event
 image_streams known golden_name update_name = and_so (stream_data known golden_name) (λ golden. and_so (stream_data known update_name) (λ update. Ok (record { golden = golden; update = update })))
 
--- the image of a golden and an update stream, for parts of which one step of the start address is `unit` bytes, where
--- it is no larger than a flash may be
+-- the image of a golden and an update stream, for parts of which one step of the start address is `unit` bytes; where
+-- the image would have more than `flash_limit` bytes, the event is a bad input of the name `name`, that of the update
+-- stream
 abbrev pub image_by : List ℕ → ℕ → ImageStreams → Result Answer Event
 image_by name unit s =
     if nat_lt flash_limit (image_size (length s.golden) (length s.update)) then Err (bad_input name input.Image)
@@ -257,8 +260,8 @@ pub record IsBootText (part : PartData) (flash : List ℕ) (answer : Answer) : T
   pub stopped : answer.stopped ≡ has_failed end
   pub text : answer.text ≡ boot_text part (reverse (map tried (last ∷ older))) end last
 
--- the boot of a part from what is found under the name of a flash; where nothing is known of it, any text, or that it
--- is too large
+-- the boot of a part from what is found under the name of a flash; where nothing is known of the flash, any text, or
+-- that it is too large
 abbrev pub FlashBoots : List ℕ → PartData → Option Found → Result Answer Event → Type 0
 FlashBoots name part None (Ok answer) = Unit {0}
 FlashBoots name part None (Err event) = event ≡ too_large name
@@ -298,8 +301,8 @@ update_event names (update_fault.NoLayout place) = bad_input names.flash (input.
 update_event names (update_fault.Differs place wrote read) = differs names.flash place
 update_event names update_fault.NoMemory = no_memory
 
--- why a flash isn't updated with a stream, by its bytes where they are known; a byte that is verified may be
--- another than the one written there only where they aren't
+-- why a flash isn't updated with a stream, by its bytes where they are known; a byte that is verified may be another
+-- than the one written there only where the flash's bytes aren't known
 abbrev pub IsUpdateFault : Option (List ℕ) → List ℕ → UpdateFault → Type 0
 IsUpdateFault bytes stream (update_fault.NoLayout place) = IfKnown bytes (λ flash. NoLayoutAt (length flash) flash place)
 IsUpdateFault bytes stream update_fault.TooLong = IfKnown bytes (IsTooLong stream)
@@ -307,13 +310,13 @@ IsUpdateFault bytes stream (update_fault.Differs place wrote read) = ((size : �
 IsUpdateFault bytes stream (update_fault.Failed writing) = ⊥
 IsUpdateFault bytes stream update_fault.NoMemory = ⊥
 
--- the update of a flash of these bytes, where they are known, with the data of a stream
+-- the update of a flash that holds `bytes`, where these are known, with the data of a stream
 abbrev pub UpdatesWith : UpdateNames → Option (List ℕ) → Result (List ℕ) Event → Result Answer Event → Type 0
 UpdatesWith names bytes (Err event) end = Err event ≡ end
 UpdatesWith names bytes (Ok stream) (Ok answer) = (answer ≡ no_text) × IfKnown bytes (CanBeUpdatedWith stream)
 UpdatesWith names bytes (Ok stream) (Err event) = (fault : UpdateFault) × IsUpdateFault bytes stream fault × (update_event names fault ≡ event)
 
--- the update of a flash of any size: one that is larger than a flash may be is refused before the stream is read
+-- the update of a flash of any size: one of more than `flash_limit` bytes is refused before the stream is read
 abbrev pub UpdatesBytes : UpdateNames → Option (List ℕ) → Result (List ℕ) Event → Result Answer Event → Type 0
 UpdatesBytes names bytes stream end =
     (IfKnown bytes (λ flash. flash_limit < length flash) × (end ≡ Err (too_large names.flash)))

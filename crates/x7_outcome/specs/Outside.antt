@@ -24,7 +24,7 @@ pub record Sources : Type 0 where
 abbrev pub sources : InputsState → FlashState → Sources
 sources inputs flash = record { inputs = inputs; flash = flash }
 
--- what is known of the inputs and of the flash of these sources
+-- what is known of the inputs and of the flash of these sources; nothing where the inputs aren't known
 abbrev pub known_from : Sources → Option Known
 known_from s = with_inputs s.inputs.contents s.flash.bytes
 
@@ -49,37 +49,39 @@ with_transfer o t = record o { inputs = t.inputs; out = t.out }
 abbrev pub outside : InputsState → FlashState → SinkState → SinkState → Outside
 outside inputs flash out err = record { inputs = inputs; flash = flash; out = out; err = err }
 
--- what is known of the inputs and of the flash
+-- what is known of the inputs and of the flash; nothing where the inputs aren't known
 abbrev pub known_in : Outside → Option Known
 known_in o = with_inputs o.inputs.contents o.flash.bytes
 
--- a flash of one of these names failed: it was asked for, and its count of faults rose
+-- the flash `name`, one of `names`, failed: it may have been asked for by that name, and its count of faults rose
 pub record FlashFailsAmong (names : List (List ℕ)) (old new : FlashState) (name : List ℕ) : Type 0 where
   pub among : Among names name
   pub asked : IsTrue (new.names name)
   pub risen : FlashFails old new
 
--- a flash of one of these names was missing, by its count of absences
+-- the flash `name`, one of `names`, was missing: it may have been asked for by that name, and its count of absences
+-- rose
 pub record FlashLacksAmong (names : List (List ℕ)) (old new : FlashState) (name : List ℕ) : Type 0 where
   pub among : Among names name
   pub asked : IsTrue (new.names name)
   pub risen : HasRisen old.absences new.absences
 
--- the input of a name that the form gives failed, or its flash of that name
+-- the input `name` failed, which the form reads, or the flash `name`, which it reads or updates
 abbrev pub FormFails : Option AskedForm → Outside → Outside → List ℕ → Type 0
 FormFails form old new name = FailsAmong (names_of form) old.inputs new.inputs name ⊎ FlashFailsAmong (flash_names form) old.flash new.flash name
 
--- the input of a name that the form gives was missing, or its flash of that name, by the counts of absences
+-- the input `name` was missing, which the form reads, or the flash `name`, which it reads or updates; by the counts of
+-- absences
 abbrev pub FormLacks : Option AskedForm → Outside → Outside → List ℕ → Type 0
 FormLacks form old new name = LacksAmong (names_of form) old.inputs new.inputs name ⊎ FlashLacksAmong (flash_names form) old.flash new.flash name
 
--- a mishap came: an input or the flash of a name that the form gives failed, after the bytes that
--- were given of the last input, or was missing
+-- a mishap came: an input or the flash of a name that the form gives failed, after as many bytes as were given of the
+-- last input, or was missing
 abbrev pub CameInRun : Option AskedForm → Outside → Outside → Mishap → Type 0
 CameInRun form old new (Failing name given) = (given ≡ new.inputs.given) × FormFails form old new name
 CameInRun form old new (Lacking name) = FormLacks form old new name
 
--- a write of the flash failed, which only a form with a stream for it writes
+-- a write of the flash failed; never where the form has no stream for a flash, and so writes none
 abbrev pub WritesFail : Option (List ℕ) → FlashState → FlashState → Type 0
 WritesFail None old new = ⊥
 WritesFail (Some stream) old new = WriteFails old new
@@ -91,8 +93,8 @@ NothingFailed form old new =
 
 -- ---- the flash
 
--- A flash was read at most: its bytes stay and nothing was written, no count falls, and
--- it was asked for no other name than this.
+-- A flash was read at most: its bytes stay and nothing was written, no count falls, and it was asked for no name but
+-- `name`.
 pub record ReadsFlash (name : List ℕ) (old new : FlashState) : Type 0 where
   pub bytes : new.bytes ≡ old.bytes
   pub write_faults : new.write_faults ≡ old.write_faults
@@ -101,14 +103,14 @@ pub record ReadsFlash (name : List ℕ) (old new : FlashState) : Type 0 where
   pub absences : old.absences ≤ new.absences
   pub no_other : (other : List ℕ) → IsTrue (new.names other) → IsTrue (old.names other) ⊎ (other ≡ name)
 
--- A flash was read and written: no count falls, and it was asked for no other name than this.
+-- A flash may have been read and written: no count falls, and it was asked for no name but `name`.
 pub record WritesFlash (name : List ℕ) (old new : FlashState) : Type 0 where
   pub faults : old.faults ≤ new.faults
   pub absences : old.absences ≤ new.absences
   pub write_faults : old.write_faults ≤ new.write_faults
   pub no_other : (other : List ℕ) → IsTrue (new.names other) → IsTrue (old.names other) ⊎ (other ≡ name)
 
--- by what a form does with a flash: it is untouched, read at most, or read and written
+-- by what a form does with a flash: it is untouched, read at most, or may be read and written
 abbrev pub UsesFlashAs : FlashUse → FlashState → FlashState → Type 0
 UsesFlashAs Unused old new = new ≡ old
 UsesFlashAs (Read name) old new = ReadsFlash name old new

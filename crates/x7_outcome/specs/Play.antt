@@ -8,14 +8,14 @@ use Rattle.x7_report.specs.Reports.{PlayTextState, report_text}
 use Rattle.x7_forms.specs.Event.{Event, too_many_reads}
 use Rattle.x7_forms.specs.Known.{Answer, Known, and_so, streams_known, part_known, reads_limit, stream_limit}
 
--- the report of a new device of the part that took the data, and whether a fault stopped it
+-- the report of a new device of the part that took `bytes`, and whether a fault stopped the device
 abbrev pub report_of : PartData → List ℕ → Answer
 report_of part bytes = record {
   stopped = is_some (fault_of_stop (why_stopped (first_stop_of_bytes part on_the_bench bytes)));
   text = report_text part (state_of part on_the_bench false bytes) (reads_of part on_the_bench bytes) (memory_of_bytes part on_the_bench bytes);
 }
 
--- the report of a play of these data, or that they read out more words than a play may
+-- the report of a play of `bytes`, or the event that these read out more than `reads_limit` words
 unfoldable pub reported : PartData → List ℕ → Result Answer Event
 reported part bytes = if nat_lt reads_limit (length (reads_of part on_the_bench bytes)) then Err too_many_reads else Ok (report_of part bytes)
 

@@ -1,5 +1,5 @@
--- Where reading stops: which input is asked for last, how often inputs were asked for till then, and how much is given
--- of the last (this project's choice).
+-- Where reading stops: which input is asked for last, how often inputs were asked for till then, and how many bytes are
+-- given of the last (this project's choice).
 use Rattle.std.specs.Prelude.{◌≡◌, ℕ, List, [], ◌∷◌, Option, None, Some, Result, Ok, Err, ◌⊎◌}
 use Rattle.x7_words.specs.Input.{InputsState}
 use Rattle.x7_boot.specs.Image.{flash_limit}
@@ -9,7 +9,8 @@ use Rattle.x7_forms.specs.Known.{part_limit, stream_limit, script_limit, text_li
 use Rattle.x7_forms.specs.Step.{Among}
 use Rattle.x7_forms.specs.ReadingStops.{Limited, StopsAt, limited, limited_together}
 
--- the inputs that a form reads, in the order of its words, each with the most bytes that it may have
+-- the inputs that a form reads, in the order of its words, each with the most bytes that it may have: the streams of
+-- `play` have one limit together
 abbrev pub inputs_of : Option (List ℕ → Option (List ℕ)) → AskedForm → List Limited
 inputs_of contents (Listing stream) = limited stream_limit stream ∷ []
 inputs_of contents (Assembling text) = limited text_limit text ∷ []
@@ -27,7 +28,8 @@ inputs_of contents (UpdatingFlash flash stream) = limited stream_limit stream �
 inputs_of contents (ToMcs image) = limited flash_limit image ∷ []
 inputs_of contents (FromMcs text) = limited text_limit text ∷ []
 
--- an event names the form's flash, the words that were read out, or the input at which reading stopped
+-- the event names the form's flash, or is that too many words were read out, or names the input at which reading
+-- stopped
 abbrev pub NamesItsStop : AskedForm → InputsState → InputsState → Event → Type 0
 NamesItsStop form old now event = Among (flash_names (Some form)) event.concerned ⊎ ((event ≡ too_many_reads) ⊎ StopsAt (inputs_of old.contents form) old now event)
 
@@ -39,8 +41,8 @@ StopsBy Absence form old now event = NamesItsStop form old now event
 StopsBy Contents form old now event = NamesItsStop form old now event
 StopsBy _ form old now event = Unit {0}
 
--- where an input ends a command, no later one was asked for, no earlier one twice, and no more
--- than a byte over its limit was given of it
+-- where an input ends a command, it is the last that was asked for, no more inputs were asked for than stand up to it,
+-- and at most one byte over its limit was given of it
 abbrev pub StopsReading : {A : Type 0} → Option AskedForm → InputsState → InputsState → Result A Event → Type 0
 StopsReading None old now end = Unit {0}
 StopsReading (Some form) old now (Ok a) = Unit {0}

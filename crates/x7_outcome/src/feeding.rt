@@ -12,7 +12,7 @@ use x7_forms::{Refusal, TEXT_LIMIT, TURN_SIZE, next_turn, open};
 use x7_text::{LineReader, TakesLines};
 use x7_words::Inputs;
 
-/// Takes the next piece, where no fault was found before it.
+/// Feeds the next piece of a text to its reader. A fault that was found before the piece stays.
 fn take_turn<T: TakesLines>(
     read: Result<LineReader<T>, T::Fault>,
     piece: &[u8],
@@ -26,7 +26,7 @@ fn take_turn<T: TakesLines>(
     }
 }
 
-/// Ends a text, where no fault was found in it.
+/// Ends a text: what its lines give, or the fault that was found in it.
 fn end_text<T: TakesLines>(read: Result<LineReader<T>, T::Fault>) -> Result<T::Out, T::Fault>
     ensures { (first : T) (text : List ℕ) → length text < taken_bytes_limit → IsFed (T.took first) (T.fails first) read text
         → LinesGive (T.gives first) (T.fails first) result text }
@@ -37,7 +37,7 @@ fn end_text<T: TakesLines>(read: Result<LineReader<T>, T::Fault>) -> Result<T::O
     }
 }
 
-/// Reads a whole text line by line while it comes, to its end also where there is a fault.
+/// Reads a text of at most `TEXT_LIMIT` bytes line by line while it comes, to its end also where a line is at fault.
 pub fn feed_whole<'w, I: Inputs, T: TakesLines>(
     alloc: Global,
     inputs: &mut I,

@@ -33,7 +33,7 @@ pub fn attach<'w, F: Flash>(flash: &mut F, name: &'w str) -> Result<(), Refusal<
     }
 }
 
-/// Attaches the flash of this name, and refuses one that is larger than a flash may be.
+/// Attaches the flash of this name, and refuses one of more than `FLASH_LIMIT` bytes.
 pub fn open_flash<'w, F: Flash>(flash: &mut F, name: &'w str) -> Result<(), Refusal<'w>>
     ensures attached { OnOk result ((F.state flash.new).attached ≡ true) }
     ensures within { OnOk result (IfKnown (F.state flash.new).bytes (λ all. length all ≤ flash_limit)) }

@@ -1,5 +1,5 @@
-//! What each form of the command comes to, and what the forms share: the flash of a name, streams and texts that are read,
-//! and texts that are ready to be written.
+//! What each form of the command comes to, and what the forms share: the flash of a name, streams and texts that are
+//! read, and texts that are ready to be written.
 #![tactic(auto)]
 
 mod feeding;

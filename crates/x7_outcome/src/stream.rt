@@ -1,4 +1,4 @@
-//! Streams that are read whole, each within the limit of a stream, whatever the others have.
+//! Streams that are read whole, each with a limit of its own, of `STREAM_LIMIT` bytes.
 ghost use Rattle.std.specs.Prelude.{◌≡◌, ◌≤◌, [], ◌∷◌, IfErr, IfOk, length};
 ghost use Rattle.x7_outcome.specs.Outcome.{stream_data};
 ghost use Rattle.x7_forms.specs.Known.{stream_limit};
@@ -20,7 +20,7 @@ pub struct Stream {
     pub start: usize,
 }
 
-/// Reads a stream whole: one that is too large is refused before its header is looked at.
+/// Reads a stream whole: one of more than `STREAM_LIMIT` bytes is refused before its header is looked at.
 pub fn read_stream<'w, I: Inputs>(
     alloc: Global,
     inputs: &mut I,
@@ -52,7 +52,7 @@ fn into_data(stream: Stream) -> Vec<u8>
     bytes
 }
 
-/// Reads a stream, and keeps its data alone: what follows its header, where it has one.
+/// Reads a stream, and keeps its data alone: the bytes after its header, or all where it has none.
 pub fn read_data<'w, I: Inputs>(
     alloc: Global,
     inputs: &mut I,

@@ -21,7 +21,7 @@ pub trait Ready {
     fn is_stopped(&self) -> bool
         ensures { result ≡ (answer self.now).stopped };
 
-    /// Writes the text. After an error a prefix of it was written.
+    /// Writes the text. After an error the sink has failed, and a prefix of the text was written.
     fn write<O: Sink>(&mut self, out: &mut O) -> Result<(), Failed>
         ensures whole { OnOk result ((O.state out.new).written ≡ appended (O.state out.old).written (answer self.old).text) }
         ensures prefix { PutsPrefix (O.state out.old).written (answer self.old).text (O.state out.new).written }
@@ -33,7 +33,7 @@ pub trait Ready {
 pub struct Text {
     /// Whether what it reports stopped.
     pub stopped: bool,
-    /// The bytes.
+    /// The bytes of the text.
     pub text: Vec<u8>,
 }
 
@@ -62,7 +62,7 @@ impl Ready for Vec<u8> {
     }
 }
 
-/// The text of a flash image, which is made as it is written.
+/// The Intel HEX text of a flash image, which is made as it is written.
 impl Ready for McsText {
     ghost answer = { mcs_answer };
 
@@ -88,7 +88,8 @@ impl Ready for PlayText {
     }
 }
 
-/// Writes a text that is ready, and nothing where none is. The answer says whether what it reports stopped.
+/// Writes a text that is ready, and answers whether what the text reports stopped. Where there is a refusal in place of
+/// a text, nothing is written, and the refusal is the answer.
 pub fn put_whole<'w, T: Ready + Drop, O: Sink>(
     whole: Result<T, Refusal<'w>>,
     out: &mut O,

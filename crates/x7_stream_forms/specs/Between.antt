@@ -9,7 +9,7 @@ use Rattle.x7_listing.specs.Lister.{ListerState, ListerStandsFor}
 use Rattle.x7_forms.specs.Turn.{longest_beginning}
 use Rattle.x7_forms.specs.Event.{Event, no_memory, writing_failed}
 
--- What was put after `first` is the listing so far of these bytes, and the lister keeps no text of it.
+-- What was put after `first` is the listing so far of `bytes`, and the lister's own text is empty.
 pub record ListsInTurns (l : ListerState) (first now : Option (List ℕ)) (bytes : List ℕ) : Type 0 where
   pub given : List ℕ
   pub stands : ListerStandsFor l given [] bytes
@@ -20,15 +20,16 @@ pub record ListsInTurns (l : ListerState) (first now : Option (List ℕ)) (bytes
 abbrev pub IsUnlisted : SinkState → SinkState → Event → Type 0
 IsUnlisted old new event = ((event ≡ no_memory) × (new.written ≡ old.written)) ⊎ ((event ≡ writing_failed) × SinkFails old new)
 
--- The listing stopped in a piece: whatever was listed before, and may follow, a
--- prefix of the listing of all of it was put.
+-- The listing stopped in a piece: whatever bytes came before it and may come after it, what was put is a prefix of the
+-- listing of them all.
 abbrev pub StopsIn : ListerState → Option (List ℕ) → List ℕ → Option (List ℕ) → Type 0
 StopsIn l old piece new =
     (first : Option (List ℕ)) (bytes rest : List ℕ) → ListsInTurns l first old bytes → AreBytes (bytes ++ (piece ++ rest))
     → PutsPrefix first (listing_of (bytes ++ (piece ++ rest))) new
 
--- What was put after the first bytes is so far the listing of each stream that begins with these bytes: a header's line
--- or nothing, and the listing of the content, which is the data of the stream so far.
+-- What was put after `first` begins the listing of each stream that begins with `bytes`: `line`, a header's line or
+-- nothing, and the listing so far of `content`, the data among `bytes`. What stands before the data is at most
+-- `longest_beginning` bytes.
 pub record ListsStream (l : ListerState) (first now : Option (List ℕ)) (bytes : List ℕ) : Type 0 where
   pub line : List ℕ
   pub content : List ℕ

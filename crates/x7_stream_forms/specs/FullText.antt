@@ -11,7 +11,7 @@ pub record PlanFor : Type 0 where
   pub part : PartData
   pub plan : PlanData
 
--- the plan is one for the part, and there is room for a piece of its stream
+-- the plan is one for the part, and `capacity`, in bytes, is room for a piece of its stream
 pub record IsPlanned (t : PlanFor) (capacity : ℕ) : Type 0 where
   pub width : t.plan.width ≡ frame_words t.part
   pub addresses : AreAddressed t.part t.plan.rows

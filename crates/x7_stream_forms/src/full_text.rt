@@ -62,7 +62,8 @@ impl FullText {
     }
 }
 
-/// Writes a full stream piece by piece, each once it is made. `piece` is room for one.
+/// Writes a full stream, of which no piece was given yet, piece by piece, each once it is made. `piece` is room for a
+/// piece, `PIECE_LIMIT` bytes.
 fn write_stream<O: Sink>(
     stream: FullStream<'_>,
     piece: &mut Vec<u8>,
@@ -88,7 +89,8 @@ fn write_stream<O: Sink>(
     }
 }
 
-/// Writes the full stream of a plan, and takes no memory. `piece` is room for a piece of the stream.
+/// Writes the full stream of a plan, and takes no memory. `piece` is room for a piece of the stream, `PIECE_LIMIT`
+/// bytes.
 fn write_full<O: Sink>(
     part: &Part,
     plan: &Plan,

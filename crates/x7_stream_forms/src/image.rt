@@ -57,7 +57,7 @@ fn read_streams<'w, I: Inputs>(
     Ok(Streams { golden, update })
 }
 
-/// The refusal of an update stream of this name, with which the image would be larger than a flash may be.
+/// The refusal of an update stream of this name, with which the image would have more bytes than a flash may.
 fn too_long<'w>(name: &'w str) -> Refusal<'w>
     ensures { event_of result ≡ bad_input name.now input.Image }
 {

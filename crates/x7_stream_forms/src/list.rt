@@ -35,7 +35,8 @@ fn put_turn<'w, O: Sink>(lister: &mut Lister, out: &mut O, piece: &[u8]) -> Resu
     Ok(())
 }
 
-/// Writes the listing of a stream that was read whole: the line of its header, or nothing, and the listing of its data.
+/// Writes the listing of a stream that was read whole: `line`, that of its header or nothing, and the listing of
+/// `content`, its data.
 fn put_short<'w, O: Sink>(
     lister: &mut Lister,
     out: &mut O,
@@ -59,7 +60,7 @@ fn put_short<'w, O: Sink>(
     Ok(())
 }
 
-/// Writes the line of a stream's header, or nothing, and what is listed of its first data.
+/// Writes `line`, that of a stream's header or nothing, and what is listed so far of `content`, its first data.
 fn put_beginning<'w, O: Sink>(
     lister: &mut Lister,
     out: &mut O,

@@ -43,7 +43,7 @@ pub fn mcs<'w, I: Inputs>(
     Ok(McsText::new(alloc, bytes)?)
 }
 
-/// The image of `unmcs TEXT`, which is read line by line while it comes.
+/// The image of `unmcs TEXT`, whose text is read line by line while it comes.
 pub fn unmcs<'w, I: Inputs>(
     alloc: Global,
     inputs: &mut I,

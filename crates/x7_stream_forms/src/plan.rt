@@ -57,7 +57,7 @@ fn planner_refusal<'w>(name: &'w str, fault: PlanFault) -> Refusal<'w>
     }
 }
 
-/// The plan of a frames text, which is read turn by turn, so that it is never held whole.
+/// The plan of a frames text, which is read turn by turn, so that the text is never held whole.
 fn read_plan<'w, I: Inputs>(
     alloc: Global,
     inputs: &mut I,

@@ -9,7 +9,7 @@ use Rattle.x7_outcome.specs.Outcome.{stream_data}
 use Rattle.x7_outcome.specs.Outside.{Sources, known_from}
 use Rattle.x7_outcome.specs.Leaving.{MayBeFound}
 
--- what a power loss at any moment of a run may leave of its flash, where the bytes of that are known
+-- what a power loss at any moment of a run may leave of its flash, where the flash's bytes are known before the run
 abbrev pub PowerLossMayLeave : Option AskedForm → Sources → List ℕ → Type 0
 PowerLossMayLeave form old found = IfKnown old.flash.bytes (λ all. MayBeFound (known_from old) (updated_by form) all found)
 
@@ -24,7 +24,7 @@ pub record IsUpdateOf (form : Option AskedForm) (old : Sources) (u : UpdatingByA
   pub bytes : old.flash.bytes ≡ Some u.flash
   pub prepared : IsPreparedByAttempt u
 
--- where a run is such an update and these bytes are found, each boot from them is that of the flash before it, or
--- starts as the golden stream does, or is that of the updated flash
+-- where a run is an update as `IsUpdateOf` says, each boot from the bytes `found` is that of the flash before the
+-- update, or starts as the golden stream does, or is that of the updated flash
 abbrev pub EachBoots : Option AskedForm → Sources → List ℕ → Type 0
 EachBoots form old found = (u : UpdatingByAttempt) (b : BootedState) → IsUpdateOf form old u → IsBoot u.part found b → BootsAlike u found b

@@ -28,7 +28,8 @@ use Rattle.x7_forms.specs.Known.{Answer, Held, Known, streams_known, part_known,
 use Rattle.x7_outcome.specs.Play.{report_of}
 use Rattle.x7_outcome.specs.Outcome.{ImageStreams, PartAndText, image_streams, part_and_text, svf_answer, IsBootText}
 
--- The report of `play`: it is that of the streams' data, and startup has begun only where these made their checks.
+-- The report of `play`: it is that of the streams' data, and startup has begun only where these made their checks
+-- (`HasChecked`).
 pub record PromisesPlayed (known : Known) (part : List ℕ) (streams : List (List ℕ)) (answer : Answer) : Type 0 where
   pub device : PartData
   pub bytes : List ℕ
@@ -47,8 +48,8 @@ pub record PromisesPort (known : Known) (part text : List ℕ) (answer : Answer)
   pub shows : answer ≡ svf_answer texts.part statements
   pub checked : 0 < (state_shown texts.part (port_played texts.part statements)).phase → HasChecked texts.part on_the_bench (bytes_taken texts.part (port_played texts.part statements))
 
--- The stream of `plan full`: after any bytes at rest it leaves the plan of the frames text over zeros and ends startup,
--- and the device is at rest again.
+-- The stream of `plan full`: on any device of the part at rest it leaves the plan of the frames text over zeros and
+-- ends startup, and the device is at rest again.
 pub record PromisesFull (known : Known) (part frames stream : List ℕ) : Type 0 where
   pub texts : PartAndText
   pub plan : PlanData
@@ -56,8 +57,8 @@ pub record PromisesFull (known : Known) (part frames stream : List ℕ) : Type 0
   pub planned : IsPlanOf texts.part texts.text (Ok plan)
   pub plays : (kept : Kept) (bytes : List ℕ) → AreBytes bytes → AtRest texts.part kept bytes → PlaysFull (device_after texts.part kept bytes) stream plan
 
--- The stream of `plan partial`: after any bytes at rest it overrides just the frames of the plan of the frames text;
--- the phase stays, and the device is at rest again.
+-- The stream of `plan partial`: on any device of the part at rest it overrides just the frames of the plan of the
+-- frames text; the phase stays, and the device is at rest again.
 pub record PromisesPartial (known : Known) (part frames stream : List ℕ) : Type 0 where
   pub texts : PartAndText
   pub plan : PlanData
@@ -65,8 +66,8 @@ pub record PromisesPartial (known : Known) (part frames stream : List ℕ) : Typ
   pub planned : IsPlanOf texts.part texts.text (Ok plan)
   pub plays : (kept : Kept) (bytes : List ℕ) → AreBytes bytes → AtRest texts.part kept bytes → PlaysPartial (device_after texts.part kept bytes) stream plan
 
--- The stream of `plan read`: after any bytes at rest it reads out a frame of zeros and the frames along the slots;
--- memory and phase stay, and the device is at rest again.
+-- The stream of `plan read`: on any device of the part at rest it reads out a frame of zeros and the words of `n` slots
+-- from the address `far` on; memory and phase stay, and the device is at rest again.
 pub record PromisesRead (known : Known) (part : List ℕ) (far n : ℕ) (stream : List ℕ) : Type 0 where
   pub device : PartData
   pub read : part_known known part ≡ Ok device
@@ -81,14 +82,15 @@ pub record PromisesSummary (known : Known) (part : List ℕ) (seed : ℕ) (text 
   pub played : text ≡ planned_summary device seed
 
 -- The bytes of `image GOLDEN UPDATE`: a flash that begins with them has both streams, for each part whose start address
--- counts bytes: a boot from it tries the update, and where that fails and CTL0 allows it, it falls back.
+-- counts bytes: a boot from it tries the update, and where that fails and CTL0 allows a fallback, a golden stream that
+-- `BootsOpen` names starts.
 pub record PromisesImage (known : Known) (golden update image : List ℕ) : Type 0 where
   pub streams : ImageStreams
   pub read : image_streams known golden update ≡ Ok streams
   pub boots : (device : PartData) (more : List ℕ) → IsPart device → device.start_unit ≡ 1 → HasStreams device streams.golden streams.update (image ++ more)
 
 -- The bytes of `image PART GOLDEN UPDATE`: a flash that begins with them has both streams for the part, and a boot from
--- it tries the update, and where that fails and CTL0 allows it, it falls back.
+-- it tries the update, and where that fails and CTL0 allows a fallback, a golden stream that `BootsOpen` names starts.
 pub record PromisesImageFor (known : Known) (part golden update image : List ℕ) : Type 0 where
   pub device : PartData
   pub streams : ImageStreams
@@ -96,8 +98,8 @@ pub record PromisesImageFor (known : Known) (part golden update image : List ℕ
   pub read : image_streams known golden update ≡ Ok streams
   pub boots : (more : List ℕ) → HasStreams device streams.golden streams.update (image ++ more)
 
--- a boot from a flash of these bytes: its last attempt made its checks where startup has begun in it, even if the attempt
--- failed, and where the text says that the boot started
+-- a boot from a flash of these bytes: its last attempt made its checks where startup has begun in it, even if the
+-- attempt failed, and where the text says that the boot started
 pub record StartsChecked (part : PartData) (flash : List ℕ) (answer : Answer) : Type 0 where
   pub boot : IsBootText part flash answer
   pub checked : 0 < (end_state part boot.last).phase → HasChecked part boot.last.kept boot.last.bytes
@@ -117,8 +119,8 @@ pub record BootsFromOpen (o : OpenFlash) (answer : Answer) : Type 0 where
   pub comes : BootsOpen o (course_along boot.last boot.older boot.end)
 
 -- The text of `boot`: over a flash whose bytes are known startup has begun in the last attempt only where that made its
--- checks. Over one with an open slot the text reports the update's start, or the fallback and its start, where the
--- golden stream is one that starts so.
+-- checks. Over one with an open slot for the part the text reports what `BootsOpen` says: the update's start, or a stop
+-- where CTL0 forbids a fallback, or the fallback and its start, where the golden stream is one that starts so.
 pub record PromisesStart (known : Known) (part flash : List ℕ) (answer : Answer) : Type 0 where
   pub device : PartData
   pub read : part_known known part ≡ Ok device
@@ -138,7 +140,7 @@ PromiseOf known (ImagingFor part golden update) answer = PromisesImageFor known 
 PromiseOf known (Booting part flash) answer = PromisesStart known part flash answer
 PromiseOf known form answer = Unit {0}
 
--- what a whole text promises where all that its form needs is known
+-- what a whole text promises where the inputs are known
 abbrev pub Promise : Option Known → Option AskedForm → Result Answer Event → Type 0
 Promise (Some known) (Some form) (Ok answer) = PromiseOf known form answer
 Promise known form end = Unit {0}

@@ -32,7 +32,7 @@ abbrev pub SaysEnd : SinkState → SinkState → Result Answer Event → Type 0
 SaysEnd old new (Ok answer) = new.written ≡ old.written
 SaysEnd old new (Err event) = PutsOrFails old (event_line event) new
 
--- an input has this text
+-- the input `name` is known, and has this text
 abbrev pub HasText : Outside → List ℕ → List ℕ → Type 0
 HasText o name text = (contents : List ℕ → Option (List ℕ)) × ((o.inputs.contents ≡ Some contents) × (contents name ≡ Some text))
 
@@ -40,13 +40,14 @@ HasText o name text = (contents : List ℕ → Option (List ℕ)) × ((o.inputs.
 abbrev pub LeadsBack : Status → Result Answer Event → List ℕ → Type 0
 LeadsBack s end bytes = (s ≡ status.NoMemory) ⊎ (end ≡ Ok (record { stopped = false; text = bytes }))
 
--- where nothing failed, the listing of a stream assembles to the stream, its header included
+-- where nothing failed, the listing of a stream of at most `stream_limit` bytes assembles to the stream, its header
+-- included
 abbrev pub ListingAssembles : List ℕ → Outside → Outside → Status → Result Answer Event → Type 0
 ListingAssembles name old new s end =
     (bytes text : List ℕ) → AreBytes bytes → length bytes ≤ stream_limit → stream_listing bytes ≡ Ok text
     → HasText old name text → NothingFailed (Some (Assembling name)) old new → LeadsBack s end bytes
 
--- where nothing failed, the Intel HEX text of an image gives the image
+-- where nothing failed, the Intel HEX text of an image of at most `flash_limit` bytes gives the image
 abbrev pub GivesImage : List ℕ → Outside → Outside → Status → Result Answer Event → Type 0
 GivesImage name old new s end =
     (bytes : List ℕ) → AreBytes bytes → length bytes ≤ flash_limit
@@ -81,23 +82,24 @@ pub record Runs (form : Option AskedForm) (old new : Outside) (s : Status) : Typ
   -- where the inputs are known, nothing failed and the bytes are within their limit, `asm` of the listing of a stream
   -- gives the stream, and `unmcs` of the Intel HEX text of an image the image; or memory was wanting
   pub back : TextsLeadBack form old new s end
-  -- where the contents are known, a whole text is theirs, and an event has its cause in them; or a fault or an absence
-  -- came; or memory was wanting
+  -- where the contents are known, a whole text is theirs, and an event has its cause in them; or the event reports a
+  -- fault, an absence, a failed write or a byte that differs, which came; or memory was wanting
   pub cause : EndIsCaused form old new end
   -- an event that lies in an input names the last one that was asked for, and no more than a byte over its limit was
   -- given of that
   pub stops : StopsReading form old.inputs new.inputs end
   -- no more inputs were asked for than the words name, and no more ends of inputs were read
   pub asks : AsksAtMost old.inputs (length (names_of form)) new.inputs
-  -- where the stream and the output are known and `list` ends by an event, it has read its stream little further than it
-  -- has listed it, or than the byte at which its header is refused
+  -- where the stream and the output are known and `list` ends by an event, it has read at most `most_bytes_ahead` bytes
+  -- more of its stream than it has listed, or, where the header is refused at a byte, none after that byte
   pub near : StaysNear s form old new
   -- every input keeps its bytes, and the counts of faults and of absences of inputs don't fall
   pub stays : InputsStay old.inputs new.inputs
   -- the flash is untouched, read or written as the form says, and was asked for no name but the form's
   pub flash : UsesFlashAs (flash_use form) old.flash new.flash
-  -- an update that is done leaves the flash as it is after one with the stream's data; one that isn't leaves its bytes,
-  -- unless a write or a read of the flash failed, or a byte differs
+  -- an update that is done leaves the flash as it is after one with the stream's data, or with some bytes where the
+  -- inputs aren't known; one that isn't leaves the flash's bytes, unless a write or a read of the flash failed, or a
+  -- byte differs
   pub updates : UpdateLeaves (updated_by form) old new end
   -- the flash of the form is within the limit after a whole text, and over it where it is told as too large, whether
   -- its bytes are known or not; unless an input has its name

@@ -35,7 +35,8 @@ fn unstopped<'w>(done: Result<(), Refusal<'w>>) -> Result<bool, Refusal<'w>>
     }
 }
 
-/// Writes the whole text of a form, and says whether what it reports stopped (`Status::Stopped`).
+/// Does what a form asks for, writes its whole text, and answers whether what the text reports stopped
+/// (`Status::Stopped`).
 fn answer<'w, I: Inputs, O: Sink, F: Flash>(
     alloc: Global,
     form: Form<'w>,
@@ -104,15 +105,15 @@ fn carry_out<I: Inputs, O: Sink, E: Sink, F: Flash>(
     }
 }
 
-/// Runs the command that the words ask for, without the program's own name.
+/// Runs the command that `words` ask for, those of the command line after the program's name.
 ///
 /// The text goes to `out`, that of `list` while the stream is read, and any other once it is ready; where a command has
 /// no whole text, one line goes to `err`.
 ///
 /// Power may be lost at any moment. Where the bytes of the flash are known, what is found of it then is what it held,
-/// or what an update may leave of it. Where the stream is known too, and the golden stream, whoever made it, starts
-/// after an erased first sector and ends at the update's place or before it, a boot from what is found is the one
-/// before the update, or starts as the golden stream does, or is the one after the update.
+/// or what an update may leave of it. Where the stream is known too, the flash can be updated, and the golden stream,
+/// whoever made it, starts after an erased first sector and ends at the update's place or before it, a boot from what
+/// is found is the one before the update, or starts as the golden stream does, or is the one after the update.
 ///
 /// The full stream of a plan is such a golden stream (`x7_recovery::full_streams_start`).
 pub fn run<I: Inputs, O: Sink, E: Sink, F: Flash>(

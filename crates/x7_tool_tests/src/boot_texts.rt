@@ -6,15 +6,16 @@ use x7_part::{Part, part_of};
 use x7_tool::boot_text;
 use x7_words::Flash;
 
-/// Four frames of 101 words, two in each half.
+/// A part file: four frames of 101 words, two in each half.
 const TINY: &[u8] =
     b"name = \"tiny\"\nidcode = 0x0362D093\nmode = 1\nrow = [{block = 0, half = 0, row = 0, minors = [2]}, {block = 0, half = 1, row = 0, minors = [2]}]\n";
 
-/// A sync word and a wrong check.
+/// A stream: the sync word, and a write of a wrong check to CRC.
 const WRONG_CHECK: &[u8] = b"\xAA\x99\x55\x66\x30\0\0\x01\0\0\0\x01";
 
-/// The text of a boot whose two attempts end at a wrong check. In STAT stand MODE 1, INIT_COMPLETE and CRC_ERROR; in
-/// BOOTSTS of the fallback VALID, FALLBACK and CRC_ERROR, and of the attempt before VALID and CRC_ERROR.
+/// The text of a boot whose two attempts end at a wrong check. In STAT stand MODE 1, INIT_COMPLETE, DCI_MATCH,
+/// MMCM_LOCK and CRC_ERROR; in BOOTSTS of the fallback VALID, FALLBACK and CRC_ERROR, and of the attempt before VALID
+/// and CRC_ERROR.
 const STOPPED: &[u8] =
     b"boot tiny\nattempt 1 power 00000000 crc\nattempt 2 fallback 00000000 crc\nend stopped\npart tiny\ntaken 12\nend fault Crc 00000000 00000001\nphase 0 done 0 gts 0 gwe 0\nreg CRC 00000000\nreg FAR 00000000\nreg CMD 00000000\nreg CTL0 00000000\nreg MASK 00000000\nreg STAT 0000090D\nreg COR0 00000000\nreg IDCODE 0362D093\nreg AXSS 00000000\nreg COR1 00000000\nreg WBSTAR 00000000\nreg TIMER 00000000\nreg BOOTSTS 00002123\nreg CTL1 00000000\nreg BSPI 00000000\nreads 0\nframes 0\n";
 

@@ -1,12 +1,13 @@
-//! A flash whose bytes aren't known, and that forgets what is programmed from a place on.
+//! A flash whose bytes aren't known, and that forgets what is programmed at a place or after it.
 ghost use Rattle.std.specs.Prelude.{None};
 
 use x7_words::{Failed, Flash, SelectFault};
 
-/// The place from which on nothing is programmed: that of the update.
+/// The place, in bytes from 0, from which on nothing is programmed: that of the update.
 const FORGETS_FROM: u64 = 131_072;
 
-/// A flash whose bytes aren't known and that programs nothing from `FORGETS_FROM` on, though it says so.
+/// A flash whose bytes aren't known, and of which a program that begins at `FORGETS_FROM` or after it writes nothing,
+/// though it answers as if it did.
 #[derive(Drop)]
 pub(crate) struct Forgetful<F: Flash> {
     pub(crate) flash: F,

@@ -19,17 +19,19 @@ const FREE: [u8; 4] = [0xFF; 4];
 /// The switch word of a spent slot.
 const SPENT: [u8; 4] = [0; 4];
 
-/// A free slot: its switch word, and the words that lead to 131,072.
+/// A free slot: its switch word, and the words that lead to byte 131,072, from 0.
 #[rattlefmt::skip]
 const SLOT: [u8; 32] = [
     0xFF, 0xFF, 0xFF, 0xFF, 0x20, 0x00, 0x00, 0x00, 0x30, 0x02, 0x00, 0x01, 0x00, 0x02, 0x00, 0x00, //
     0x30, 0x00, 0x80, 0x01, 0x00, 0x00, 0x00, 0x0F, 0x30, 0x00, 0x80, 0x01, 0x00, 0x00, 0x00, 0x0D,
 ];
 
-/// What stands after the slots: up to a length a byte again and again. A golden stream, an update, and erased bytes.
+/// What stands after the slots, as lengths of the image, in bytes, each with the byte that fills it up to there: a
+/// golden stream, an update, and erased bytes.
 const AFTER_SLOTS: [(usize, u8); 3] = [(131_072, 0x11), (131_172, 0x22), (262_144, 0xFF)];
 
-/// A flash of four sectors: slots, of which the first is open, a golden stream of 65,536 bytes 11, an update of 22.
+/// The image of a flash of four sectors: 2,048 slots, of which the first is open, a golden stream of 65,536 bytes 11,
+/// an update of 100 bytes 22, and bytes FF. None without memory.
 fn image(alloc: Global) -> Option<Vec<u8>> {
     let mut all = Vec::new(alloc);
     for _ in 0..2048 {
@@ -42,7 +44,7 @@ fn image(alloc: Global) -> Option<Vec<u8>> {
     Some(all)
 }
 
-/// Whether the bytes at each of these places are those beside it.
+/// Whether `all` has at each place of `pieces`, in bytes from 0, the bytes that stand beside the place.
 fn have_all(all: &[u8], pieces: &[(usize, &[u8])]) -> bool {
     for (place, bytes) in pieces {
         let Some(rest) = all.get(*place..) else {
@@ -55,7 +57,7 @@ fn have_all(all: &[u8], pieces: &[(usize, &[u8])]) -> bool {
     true
 }
 
-/// The words of `update NAME n`.
+/// The words of `update NAME n`. None without memory.
 fn words_of(alloc: Global, name: &str) -> Option<Vec<String>> {
     let mut words = Vec::new(alloc);
     for word in ["update", name, "n"] {
@@ -64,7 +66,8 @@ fn words_of(alloc: Global, name: &str) -> Option<Vec<String>> {
     Some(words)
 }
 
-/// Inputs that have the stream of an update under the name `n`: 70,000 bytes.
+/// Inputs that have the stream of an update under the name `n`: 70,000 bytes, the first 16 of them FF, as an erase
+/// leaves them. None without memory.
 fn inputs_of(alloc: Global) -> Option<MemoryInputs> {
     let mut stream = [0x35; 70_000];
     stream[..16].fill(0xFF);
@@ -75,10 +78,10 @@ fn inputs_of(alloc: Global) -> Option<MemoryInputs> {
     }
 }
 
-/// What the command comes to: its status, and whether it wrote the message that it should, and no text.
+/// What the command comes to: the number of its status, and whether it wrote the message that it should, and no text.
 type Answer = (u8, bool);
 
-/// Runs `update NAME n` over the flash, which should write this message. None without memory.
+/// Runs `update NAME n` over the flash; `message` is what the command should write. None without memory.
 fn updated<F: Flash>(alloc: Global, flash: &mut F, name: &str, message: &[u8]) -> Option<Answer> {
     let words = words_of(alloc, name)?;
     let mut inputs = inputs_of(alloc)?;
@@ -90,7 +93,8 @@ fn updated<F: Flash>(alloc: Global, flash: &mut F, name: &str, message: &[u8]) -
     Some((status, text.is_empty() && told.as_slice() == message))
 }
 
-/// A flash in memory that holds the image, with room for an update.
+/// A flash in memory that holds the image, with room for the writes of an update: 20, of 1,000,000 bytes in all. None
+/// without memory.
 fn flash_of(alloc: Global) -> Option<MemoryFlash> {
     let image = image(alloc)?;
     let mut flash = MemoryFlash::new(alloc, "i", &image).ok()?;
@@ -98,8 +102,8 @@ fn flash_of(alloc: Global) -> Option<MemoryFlash> {
     Some(flash)
 }
 
-/// Updates a flash in memory that forgets the update: the status, whether it was so with this message, and whether the
-/// first slot is then spent and the second one free. None without memory.
+/// Updates a flash in memory that forgets the update: what the command comes to, which should write `message`, and
+/// whether the first slot is then spent and the second one free. None without memory.
 fn updated_in_vain(alloc: Global, message: &[u8]) -> Option<(Answer, bool)> {
     let mut flash = Forgetful {
         flash: flash_of(alloc)?,
@@ -116,7 +120,8 @@ fn a_byte_that_was_lost_differs(rt: HostRuntime) {
     assert!(rt; updated_in_vain(rt.alloc(), message) == Some(((11, true), true)));
 }
 
-/// A path of this kind in the folder of temporary files.
+/// A path in the folder of temporary files, whose name has `kind` and the number of the process. None where that can't
+/// be had.
 fn path_of(rt: &HostRuntime, kind: &str) -> Option<PathBuf> {
     let folder = env::temp_dir(rt).ok()?;
     let name = format!(in rt.alloc(); "x7-{kind}-{}", process::id(rt.process())).ok()?;
@@ -140,8 +145,8 @@ fn taken(rt: &HostRuntime, name: &str) -> Option<Vec<u8>> {
     }
 }
 
-/// Updates a flash in memory: the status, whether it was so without a message, and whether the flash then holds these
-/// bytes.
+/// Updates a flash in memory: what the command comes to, which should write no message, and whether the flash then
+/// holds `bytes`. None without memory.
 fn updated_in_memory(alloc: Global, bytes: &[u8]) -> Option<(Answer, bool)> {
     let mut flash = flash_of(alloc)?;
     let answer = updated(alloc, &mut flash, "i", b"")?;
@@ -169,7 +174,7 @@ fn a_file_is_updated_as_a_flash_in_memory(rt: HostRuntime) {
 }
 
 /// What updates come to by a link to a new file, by the link once it is removed, and of a folder, and whether the
-/// file's first free slot is then open; none where that can't be done.
+/// file's second slot, the first free one before, is then open. None where that can't be done.
 fn updated_by_link(rt: &HostRuntime, name: &str, link: &str) -> Option<([Answer; 3], bool)> {
     put_image(rt, name)?;
     symlink(rt, name, link).ok()?;
@@ -192,15 +197,16 @@ fn links(rt: &HostRuntime) -> Option<([Answer; 3], bool)> {
 
 #[test]
 fn a_link_is_its_file_and_a_folder_is_none(rt: HostRuntime) {
-    // done, missing, a read fault, each of these two with a message; and the slot is open
+    // done; missing and a read fault, each with a message; and the slot is open
     assert!(rt; links(&rt) == Some(([(0, true), (3, false), (6, false)], true)));
 }
 
 /// What an update of a file came to, how many bytes the file has then, and whether it has those that it should.
 type Left = (Result<(), UpdateFault>, usize, bool);
 
-/// Attaches a new file that holds the image, writes these bytes in its place, and updates it: what the update comes to,
-/// and what the file has then of these pieces. None where that can't be done.
+/// Attaches a new file that holds the image, replaces what the file holds by `bytes`, and updates the file with the
+/// stream `new`: what the update comes to, how many bytes the file has then, and whether it has `pieces`. None where
+/// that can't be done.
 fn changed(rt: &HostRuntime, name: &str, bytes: &[u8], pieces: &[(usize, &[u8])]) -> Option<Left> {
     put_image(rt, name)?;
     let mut file = FileFlash::new(rt);
@@ -212,7 +218,7 @@ fn changed(rt: &HostRuntime, name: &str, bytes: &[u8], pieces: &[(usize, &[u8])]
     Some((answer, left.len(), have_all(&left, pieces)))
 }
 
-/// What `changed` leaves of a file that is cut to five bytes.
+/// What `changed` leaves of a file that shrinks to five bytes.
 fn shrunk(rt: &HostRuntime) -> Option<Left> {
     let path = path_of(rt, "shrank")?;
     changed(rt, path.as_path().as_str(), b"short", &[(0, b"short")])
