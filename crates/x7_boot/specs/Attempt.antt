@@ -49,7 +49,7 @@ pub record AttemptCourse : Type 0 where
 abbrev pub attempt_end : AttemptCourse → ℕ
 attempt_end t = t.address + length t.bytes
 
--- nothing ends an attempt at fewer than n of the bytes from its address on
+-- nothing ends an attempt at fewer than `n` of `from`, the flash's bytes from the attempt's address on
 abbrev pub NoneBefore : PartData → Kept → List ℕ → ℕ → Type 0
 NoneBefore part kept from n = (k : ℕ) → k < n → ending_at part kept (take k from) ≡ None
 
@@ -69,7 +69,7 @@ pub record RunsOut (part : PartData) (from : List ℕ) (t : AttemptCourse) : Typ
   pub failed : t.ending ≡ Failed Wrap
   pub past_end : t.wrapped ≡ true
 
--- an attempt over a flash of these bytes; at an address past the flash's end there are no bytes to take
+-- an attempt over a flash of these bytes; at the flash's end or past it there are no bytes to take
 abbrev pub IsFlashAttempt : PartData → List ℕ → AttemptCourse → Type 0
 IsFlashAttempt part flash t = EndsFirst part (drop t.address flash) t ⊎ RunsOut part (drop t.address flash) t
 
@@ -97,8 +97,8 @@ StepsTo part kept bytes Stops = IsSome (first_stop_of_bytes part kept bytes) × 
 abbrev pub past_in_flash : PartData → Kept → List ℕ → Past
 past_in_flash part kept bytes = record { part = part; kept = kept; wrapped = false; bytes = bytes }
 
--- a device with this past took the first bytes of a piece, up to what ended its attempt or stopped it: all of the piece
--- where the attempt goes on
+-- a device with this past took the first `count` bytes of a piece, up to what ended its attempt or stopped it: all of
+-- the piece where the attempt goes on
 pub record TookPiece (p : Past) (d : DeviceState) (piece : List ℕ) (step : AttemptStep) : Type 0 where
   pub count : ℕ
   pub within : count ≤ length piece

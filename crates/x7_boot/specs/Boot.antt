@@ -55,7 +55,7 @@ next_by part number t ending.Iprog =
 next_by part number t (ending.Failed cause) =
     if is_fallback t.kept.kind || forbids_fallback (end_state part t).ctl0 then Ends boot_end.Stopped else Again (kept_after part t.kept t.wrapped t.bytes Fallback) 0
 
--- what the first attempt has kept, which begins as power comes: nothing
+-- what the device of the first attempt kept over its reset: nothing but the kind, since power has just come
 abbrev pub at_power : Kept
 at_power = record { wbstar = 0; timer = 0; bspi = 0; kind = Power; before = None }
 

@@ -10,8 +10,8 @@ use Rattle.x7_engine.specs.Checked.{HasStartAndDesync, StandsIn}
 use Rattle.x7_engine.specs.State.{history_taken, taken_of}
 use Rattle.x7_engine.specs.declared.kept.Kept.{Kept}
 
--- START was executed on a device whose IDCODE was written and DESYNC after it, and before the last byte every write to
--- CRC had the running check and every write to IDCODE the part's idcode
+-- START was executed on a device whose IDCODE was written before, and DESYNC after START; and before the last byte
+-- every write to CRC had the running check and every write to IDCODE the part's idcode
 pub record HasChecked (part : PartData) (kept : Kept) (bytes : List ℕ) : Type 0 where
   pub started : HasStartAndDesync part.idcode (history_taken part kept bytes) (taken_of part kept bytes)
   pub checks : (word place : ℕ) (older : History) → StandsIn (history_taken part kept bytes) (Write (number_of Crc) word) place older

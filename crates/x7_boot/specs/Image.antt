@@ -2,11 +2,13 @@
 -- choice).
 --
 --     place     what stands there
---     0         2,048 slots of 32 bytes, the first open: each sets WBSTAR to the update's place and obeys IPROG
+--     0         2,048 slots of 32 bytes, the first open, the others free: each writes the start address of the update's
+--               place to WBSTAR, and then asks for IPROG
 --     65,536    the golden stream
---     U         the update stream, U being the first multiple of 65,536 after the golden stream, and at least 131,072
+--     U         the update stream, U being the first multiple of 65,536 at or after the golden stream's end, and at
+--               least 131,072
 --
--- All else, up to the next multiple of 65,536, is FF.
+-- All else, up to the first multiple of 65,536 at or after the update's end, is FF.
 use Rattle.std.specs.Prelude.{ℕ, ◌+◌, ◌-◌, ◌*◌, ◌/◌, max, List, ◌++◌, length, replicate}
 use Rattle.std.specs.List.{repeat}
 use Rattle.x7_words.specs.Word.{bytes_of_word}
@@ -39,7 +41,7 @@ free_slot start = slot dummy_word start
 unfoldable pub free_slots : ℕ → List ℕ
 free_slots start = repeat (flash_slot_count - 1) (free_slot start)
 
--- bytes, and FF after them up to a place
+-- bytes, and FF after them up to `place` bytes in all
 abbrev pub filled_to : ℕ → List ℕ → List ℕ
 filled_to place bytes = bytes ++ replicate (place - length bytes) erased_byte
 
@@ -47,7 +49,7 @@ filled_to place bytes = bytes ++ replicate (place - length bytes) erased_byte
 abbrev pub first_sector : ℕ → List ℕ
 first_sector start = open_slot start ++ free_slots start
 
--- the size of the image in bytes, by those of both streams
+-- the size of the image in bytes, by the sizes of both streams in bytes
 abbrev pub image_size : ℕ → ℕ → ℕ
 image_size golden update = sector_from (place_after_golden golden + update)
 

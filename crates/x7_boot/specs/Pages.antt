@@ -17,7 +17,7 @@ FaultsCounted old new (Err Failed) = HasRisen old new
 FaultsCounted old new (Err NoMemory) = new ≡ old
 FaultsCounted old new (Err TooLarge) = ⊥
 
--- how many bytes a page has; a flash's last one may have fewer
+-- how many bytes a page has; a flash's last one may have fewer, and pages are numbered from 0
 abbrev pub page_size : ℕ
 page_size = 4096
 
@@ -34,18 +34,18 @@ pub record IsRestOfPage (flash : FlashState) (place : ℕ) (bytes : List ℕ) : 
   pub long : length bytes ≡ page_end place flash.extent - place
   pub bytes_are : IfKnown flash.bytes (λ all. bytes ≡ slice_range all place (page_end place flash.extent))
 
--- where `count` pages from a number on end, or the flash where it ends before
+-- where `count` pages from page `number` on end, or the flash where it ends before
 abbrev pub block_end : ℕ → ℕ → ℕ → ℕ
 block_end number count extent = min ((number + count) * page_size) extent
 
--- `bytes` are those of `count` pages of a flash from a number on, as far as the flash goes
+-- `bytes` are those of `count` pages of a flash from page `number` on, as far as the flash goes
 pub record IsBlock (flash : FlashState) (number count : ℕ) (bytes : List ℕ) : Type 0 where
   pub within : number * page_size < flash.extent
   pub long : length bytes ≡ block_end number count flash.extent - number * page_size
   pub bytes_are : IfKnown flash.bytes (λ all. bytes ≡ slice_range all (number * page_size) (block_end number count flash.extent))
 
--- what loading the page of a number came to: the page was there, or it begins `count` pages that were read into the
--- block
+-- what loading page `number` came to: the page was there, or it is the first of `count` pages that were read into
+-- `block`
 abbrev pub IsLoaded : FlashState → ℕ → List ℕ → Loaded → Type 0
 IsLoaded flash number block Cached = Unit {0}
 IsLoaded flash number block (Read count) = (0 < count) × IsBlock flash number count block
@@ -69,8 +69,8 @@ Pages = List (ℕ × Vec ℕ Global)
 abbrev pub ArePages : FlashState → Pages → Type 0
 ArePages flash pages = (page : ℕ × Vec ℕ Global) → Contains pages page → IsRestOfPage flash (page.0 * page_size) page.1.items
 
--- of whatever flash the block is `count` pages from `number` on: where the old pages are the flash's, the new ones are
--- too
+-- of whatever flash the block is `count` pages from page `number` on: where the old pages are the flash's, the new ones
+-- are too
 abbrev pub KeepsPages : List ℕ → ℕ → ℕ → Pages → Pages → Type 0
 KeepsPages block number count old new = (flash : FlashState) → IsBlock flash number count block → ArePages flash old → ArePages flash new
 

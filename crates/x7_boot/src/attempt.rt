@@ -28,7 +28,7 @@ pub(crate) enum AttemptStep {
     Stops,
 }
 
-/// The cause by which a device's fault ends an attempt, none for a fault that doesn't end it.
+/// The cause by which a device's fault ends an attempt; none without a fault, or for one that doesn't end it.
 fn failure_of(fault: Option<Fault>) -> Option<Cause>
     ensures { result ≡ failure_of fault false }
 {

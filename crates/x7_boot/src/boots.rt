@@ -102,7 +102,7 @@ impl Booted {
     }
 }
 
-/// What the device of the first attempt keeps over its reset: nothing, since power has just come.
+/// What the device of the first attempt keeps over its reset: nothing but the kind, since power has just come.
 const AT_POWER: Kept = Kept {
     wbstar: 0,
     timer: 0,

@@ -31,7 +31,7 @@ pub(crate) struct PageCache {
     pages: LruCache<u64, Vec<u8>>,
     /// What was read from the flash last.
     block: Vec<u8>,
-    /// The memory of the page that was evicted last.
+    /// The memory of the page that was evicted last, until a page takes it; then empty.
     spare: Vec<u8>,
     alloc: Global,
 }
@@ -63,7 +63,7 @@ impl PageCache {
     }
 
     /// Puts the page of a number into the cache, where it isn't there: it is read from the flash together with the
-    /// pages after it that the cache hasn't either, up to sixteen in all.
+    /// pages after it up to the first that the cache has, sixteen in all at most.
     pub(crate) fn load<F: Flash>(&mut self, flash: &mut F, number: u64) -> Result<Loaded, BootFault>
         requires attached { (F.state flash.old).attached ≡ true }
         requires within { number * page_size < (F.state flash.old).extent }

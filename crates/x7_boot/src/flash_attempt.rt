@@ -21,7 +21,7 @@ use x7_engine::{Device, Kept};
 use x7_regs::Cause;
 use x7_words::Flash;
 
-/// Ends an attempt whose flash has come to its end: it has failed by the wrap of its address.
+/// Ends an attempt that nothing ended up to the flash's end: the attempt has failed by the wrap of its address.
 fn run_out(device: &mut Device) -> Ending
     requires { MayWrap device.old }
     ensures ending { result ≡ ending.Failed Wrap }

@@ -39,7 +39,8 @@ pub enum Next {
     Ends(BootEnd),
 }
 
-/// The place in the flash, in bytes, that WBSTAR names, for a part whose start addresses count steps of `unit` bytes.
+/// The place in the flash, in bytes, that WBSTAR names, for a part of which one step of the start address stands for
+/// `unit` bytes: `LARGE_START_UNIT`, or else 1.
 fn start_address(unit: u32, wbstar: u32) -> u32
     ensures { result ≡ start_address unit wbstar }
 {
@@ -81,7 +82,7 @@ pub(crate) fn next_by(device: &Device, kind: Kind, number: u32, ending: Ending) 
     }
 }
 
-/// What an attempt of this kind keeps over the reset of `device`, with which the attempt before it ended.
+/// What an attempt of this kind keeps over the reset of `device`, which is as the attempt before left it.
 fn kept_after(device: &Device, kind: Kind) -> Kept
     ensures kind { result.kind ≡ kind }
     ensures kept { (part : PartData) (t : AttemptCourse) → IsDeviceOf part device.now t → result ≡ kept_after part t.kept t.wrapped t.bytes kind }

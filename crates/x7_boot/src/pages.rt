@@ -7,13 +7,14 @@ ghost use Rattle.x7_boot.specs.Pages.{IsBlock, FaultsCounted, most_pages_at_once
 use crate::fault::BootFault;
 use x7_words::Flash;
 
-/// How many bytes a page has.
+/// How many bytes a page has; a flash's last one may have fewer.
 pub(crate) const PAGE_SIZE: u64 = 4_096;
 
 /// How many pages are read at once at most.
 pub(crate) const MOST_PAGES_AT_ONCE: u64 = 16;
 
-/// Reads `count` pages of a flash, from page `number` on, up to the flash's end where that comes first.
+/// Reads `count` pages of a flash into `block`, from page `number`, from 0, on, up to the flash's end where that comes
+/// first.
 pub(crate) fn read_block<F: Flash>(
     flash: &mut F,
     number: u64,

@@ -57,7 +57,8 @@ fn boot_end_text(end: BootEnd) -> &'static [u8]
     }
 }
 
-/// How many bytes an attempt's line has at most: 20 of its number, eight of each other word, and those between.
+/// How many bytes an attempt's line has at most: seven of `attempt`, 20 of the number, eight each of the kind, the
+/// address and the ending, four blanks, and the line's end.
 const LONGEST_ATTEMPT_LINE: usize = 56;
 
 /// Appends the line of the attempt of this number. After an error the text is as it was.
@@ -96,7 +97,7 @@ fn put_attempts(text: &mut Vec<u8>, attempts: &[Tried]) -> Result<(), NoMemory>
     }
 }
 
-/// Appends the lines of a boot. After an error the first of them may stand there.
+/// Appends the lines of a boot. After an error the first of them may stand there, the last one in part.
 #[tactic(auto, unfolding(crate::specs::Text::boot_lines))]
 fn put_boot(
     text: &mut Vec<u8>,
@@ -116,7 +117,7 @@ fn put_boot(
 }
 
 /// Appends to `text` the lines of a boot (this project's choice): `boot NAME`; for each attempt `attempt N KIND ADDRESS
-/// ENDING`, N from 1; and `end` and how the boot ended. `NoMemory` leaves the items as they were.
+/// ENDING`, N from 1; and `end` and how the boot ended. After `NoMemory` the text is as it was.
 pub fn boot_lines(
     text: &mut Vec<u8>,
     name: &str,

@@ -23,18 +23,18 @@ pub data MayPrecedeRcrc : Access → Type 0 where
   bspi_read : MayPrecedeRcrc (Write (number_of reg.Cmd) (code_of command.BspiRead))
   shutdown : MayPrecedeRcrc (Write (number_of reg.Cmd) (code_of command.Shutdown))
 
--- a history of such accesses alone
+-- a history of which each access is one that may stand before RCRC
 pub data AllPrecedeRcrc : History → Type 0 where
   nothing : AllPrecedeRcrc []
   next : (access : Access) (place : ℕ) (h : History) → MayPrecedeRcrc access → AllPrecedeRcrc h → AllPrecedeRcrc (entry access place ∷ h)
 
--- a history with an RCRC before which such accesses alone stand
+-- a history with a write of RCRC to CMD before which only accesses stand that may precede it
 pub data BeginsClean : History → Type 0 where
   clear : (place : ℕ) (h : History) → AllPrecedeRcrc h → BeginsClean (entry (Write (number_of reg.Cmd) (code_of command.Rcrc)) place ∷ h)
   later : (e : Entry) (h : History) → BeginsClean h → BeginsClean (e ∷ h)
 
--- With the first sector of the flash erased the attempt at power starts with the golden stream, which begins clean, and
--- nothing has stopped the device by then.
+-- With the first sector of the flash erased the attempt at power starts, and nothing has stopped the device by then.
+-- What it took is bytes, and those after the first sector begin clean.
 pub record StartsClean (part : PartData) (flash : List ℕ) (t : AttemptCourse) : Type 0 where
   pub starts : StartsAtPower part (with_first_sector_erased flash) t
   pub going : first_stop_of_bytes part t.kept t.bytes ≡ None

@@ -8,8 +8,8 @@ use Rattle.x7_boot.specs.Boot.{start_address}
 use Rattle.x7_boot.specs.Image.{first_sector, flash_limit, open_slot}
 use Rattle.x7_update.specs.Layout.{four_at, open_switch}
 
--- One slot of the first sector is open, with the start address `start` in the part's unit: no sync word begins in the
--- sector but that of the slot.
+-- One slot of the first sector is open, with the start address `start` in the part's unit: the sector is whole and of
+-- bytes, and no sync word begins in it but that of the slot.
 pub record HasOpenSlot (flash : List ℕ) (slot start : ℕ) : Type 0 where
   pub within : slot < flash_slot_count
   pub stands : take flash_slot_size (drop (flash_slot_size * slot) flash) ≡ open_slot start
@@ -25,7 +25,7 @@ pub record OpenFlash : Type 0 where
   pub start : ℕ
   pub place : ℕ
 
--- the flash has this slot open, which leads to this place
+-- the flash has this slot open, whose start address fits a word and leads to this place
 pub record IsOpenFlash (o : OpenFlash) : Type 0 where
   pub has : HasOpenSlot o.flash o.slot o.start
   pub small : o.start < 2 ^ 32
@@ -33,7 +33,8 @@ pub record IsOpenFlash (o : OpenFlash) : Type 0 where
 
 -- ---- an image
 
--- a flash begins with the first sector of an image for the part, which leads to this place, whatever follows
+-- a flash begins with the first sector of an image for the part, which leads to this place, where a sector begins, and
+-- which isn't past the most bytes of a flash; whatever follows
 pub record BeginsAsImage (part : PartData) (flash : List ℕ) (place : ℕ) : Type 0 where
   pub more : List ℕ
   pub begins : flash ≡ first_sector (place / part.start_unit) ++ more

@@ -14,7 +14,8 @@ place_after part golden = place_after_golden (length (full_stream part golden))
 abbrev pub golden_image : PartData → PlanData → List ℕ → List ℕ
 golden_image part golden update = image_of part.start_unit (full_stream part golden) update
 
--- the golden plan is one for the part, and its image with the update is no larger than a flash may be
+-- the part's numbers are in range, the golden plan is one for it, and the image of the plan's full stream and the
+-- update is no larger than a flash may be
 pub record HasImage (part : PartData) (golden : PlanData) (update : List ℕ) : Type 0 where
   pub is_part : IsPart part
   pub plan : IsPlanFor part golden

@@ -15,8 +15,9 @@ pub data AfterUpdates (flash : List ℕ) : List ℕ → Type 0 where
   none : AfterUpdates flash flash
   one_more : (before found stream : List ℕ) → AfterUpdates flash before → IsUpdatable before → IsAfterUpdate stream before found → AfterUpdates flash found
 
--- A flash for a part whose start address counts bytes was updated, and then with a stream; before that a golden stream
--- of any kind started, and began clean, as one attempt shows.
+-- A flash for a part whose start address counts bytes was updated any number of times, and then once more with a
+-- stream, after which its first sector is bytes; before all updates a golden stream of any kind started and began
+-- clean, as one attempt shows that ended at the update's place or before it.
 pub record IsUpdated (part : PartData) (flash found : List ℕ) (golden : AttemptCourse) : Type 0 where
   pub unit : part.start_unit ≡ 1
   pub starts : GoldenStarts part flash golden

@@ -11,9 +11,9 @@ ghost use Rattle.x7_recovery.specs.Recovery.{IsPrepared, Updating};
 ghost use Rattle.x7_update.specs.After.{IsBetweenSlots, MayBeLeft};
 ghost use Rattle.x7_update.specs.Layout.{IsUpdatable};
 
-/// What stands in a first sector in which no sync word begins makes no difference. Where the attempt at power over one
-/// such flash starts, a boot from any other that has the same bytes after the sector, up to the attempt's end, starts
-/// with its one attempt, at power, and with the same memory and registers.
+/// What stands in a first sector in which no sync word begins makes no difference, in a flash of bytes. Where the
+/// attempt at power over one such flash starts, a boot from any other such flash that has the same bytes after the
+/// sector, up to the attempt's end, starts with its one attempt, at power, and with the same memory and registers.
 pub fn flashes_that_lead_nowhere_start_alike()
     ensures { (part : PartData) (one other : List ℕ) (t : AttemptCourse) (b : BootedState) → HaveSameGolden part one other t
         → (boot : IsBoot part other b) → StartsAlike part t (course_of b boot.last) }

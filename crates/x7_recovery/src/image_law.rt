@@ -14,10 +14,10 @@ ghost use Rattle.x7_recovery.specs.PlannedImage.{HasImage, golden_image, place_a
 ghost use Rattle.x7_recovery.specs.Recovery.{IsPrepared, updating_image};
 ghost use Rattle.x7_update.specs.After.{MayBeLeft};
 
-/// A flash that begins with the image of a golden and an update stream for a part, which is no larger than a flash may
-/// be, has both streams and its first slot open, which leads to the update, whatever follows the image: each boot from
-/// it comes to what one from a flash with an open slot does. Where the golden stream is the full stream of a plan for
-/// the part, that stands after the first sector.
+/// A flash that begins with the image of a golden and an update stream for a part, where the image is no larger than a
+/// flash may be, has both streams and its first slot open, which leads to the update, whatever follows the image: each
+/// boot from it comes to what one from a flash with an open slot does. Where the golden stream is the full stream of a
+/// plan for the part, this full stream stands after the first sector.
 pub fn images_boot()
     ensures streams { (part : PartData) (golden update more : List ℕ) → IsPart part → image_size (length golden) (length update) ≤ flash_limit
         → HasStreams part golden update (image_of part.start_unit golden update ++ more) }

@@ -13,10 +13,10 @@ ghost use Rattle.x7_update.specs.After.{IsAfterUpdate};
 ghost use Rattle.x7_update.specs.Layout.{IsUpdatable, IsOpen, update_place};
 
 /// From a flash with an open slot a boot tries the update at the place to which the slot leads. Where the update starts
-/// the boot ends there; an update that is the full stream of a plan does, with the memory of the plan. Where the update
-/// fails and CTL0 forbids a fallback the boot stops. Where CTL0 allows one the boot falls back, and starts with a
-/// golden stream of these three kinds: the full stream of a plan; one that starts at power after an erased first sector
-/// and begins clean; one with which some fallback over this flash starts.
+/// the boot ends there; an update that is the full stream of a plan starts, with the memory of the plan. Where the
+/// update fails and CTL0 forbids a fallback the boot stops. Where CTL0 allows one the boot falls back, and starts with
+/// a golden stream of these three kinds: the full stream of a plan; one that starts at power after an erased first
+/// sector and begins clean; one with which some fallback over this flash starts.
 pub fn open_slots_boot()
     ensures { (o : OpenFlash) → IsOpenFlash o → EachBootsOpen o }
 {}

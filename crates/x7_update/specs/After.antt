@@ -9,7 +9,7 @@ use Rattle.x7_update.specs.Layout.{IsUpdatable, HasNoOpenSlot, IsNextFreeSlot, I
 abbrev pub with_switch_word : ℕ → List ℕ → List ℕ → List ℕ
 with_switch_word slot word flash = replaced (flash_slot_size * slot) word flash
 
--- the flash with this stream at its place, and FF from the stream's end to the flash's end
+-- the flash with this stream at `place`, and FF from the stream's end to the flash's end
 abbrev pub with_stream : ℕ → List ℕ → List ℕ → List ℕ
 with_stream place stream flash = take place flash ++ (stream ++ replicate (length flash - (place + length stream)) erased_byte)
 
@@ -18,8 +18,8 @@ pub data SpendsOpenSlot (flash spent : List ℕ) : Type 0 where
   already : HasNoOpenSlot flash → spent ≡ flash → SpendsOpenSlot flash spent
   spends : (slot : ℕ) → slot < flash_slot_count → IsOpen flash slot → spent ≡ with_switch_word slot spent_switch flash → SpendsOpenSlot flash spent
 
--- The flash after an update with a stream: its open slot is spent, the stream stands at U with FF after it, and the
--- first slot from which on all are free is open.
+-- The flash after an update with a stream: its open slot, if it has one, is spent, the stream stands at U
+-- with FF after it, and the first slot from which on all are free is open.
 pub record IsAfterUpdate (stream flash after : List ℕ) : Type 0 where
   pub spent : List ℕ
   pub is_spent : SpendsOpenSlot flash spent
@@ -28,9 +28,9 @@ pub record IsAfterUpdate (stream flash after : List ℕ) : Type 0 where
   pub fits : update_place flash + length stream ≤ length flash
   pub is : after ≡ with_switch_word next open_switch (with_stream (update_place flash) stream spent)
 
--- A flash that was left in an update, after its open slot was spent and before the next is opened: no slot is open, all
--- slots lead to U still, each switch word but the open slot's and the next one's stays, the golden stream stands, and
--- from U on there may be anything.
+-- A flash that was left in an update, after its open slot, if it had one, was spent and before the next is opened: no
+-- slot is open, each slot has after its switch word the bytes that it had, each switch word but the open slot's and the
+-- next one's stays, the bytes from the second sector up to U stay, and from U on there may be anything.
 pub record IsBetweenSlots (flash found : List ℕ) : Type 0 where
   pub size : length found ≡ length flash
   pub slots : (i : ℕ) → i < sector_size → switch_size ≤ i % flash_slot_size → get_or found i 0 ≡ get_or flash i 0
@@ -38,8 +38,8 @@ pub record IsBetweenSlots (flash found : List ℕ) : Type 0 where
   pub switches : (slot : ℕ) → slot < flash_slot_count → (IsOpen flash slot → ⊥) → (IsNextFreeSlot flash slot → ⊥) → switch_of found slot ≡ switch_of flash slot
   pub golden : (i : ℕ) → sector_size ≤ i → i < update_place flash → get_or found i 0 ≡ get_or flash i 0
 
--- What a power loss may leave of a flash that is being updated with a stream: itself; and of one that can be updated
--- bytes that are between, or the flash after the update.
+-- What a power loss may leave of a flash that is being updated with a stream: the flash as it was; and, where it can be
+-- updated, a flash of bytes that is between slots, or the flash after the update.
 pub data MayBeLeft (stream flash found : List ℕ) : Type 0 where
   untouched : found ≡ flash → MayBeLeft stream flash found
   between : IsUpdatable flash → AreBytes found → IsBetweenSlots flash found → MayBeLeft stream flash found

@@ -62,10 +62,10 @@ pub record CanBeUpdatedWith (stream flash : List ℕ) : Type 0 where
 
 -- the cause of each refusal
 abbrev pub HasCause : List ℕ → FlashState → FlashState → UpdateFault → Type 0
--- a write failed: its count has risen, the flash's size is good, and known bytes were written only where the flash can
--- be updated and the stream fits
+-- a write failed: the count of write faults has risen, the flash's size is good, and where its bytes are known the
+-- flash can be updated and the stream fits in it
 HasCause stream old new (Failed true) = WriteFails old new × IsUpdatableSize new.extent × IfKnown old.bytes (CanBeUpdatedWith stream)
--- a read failed: its count has risen, and the flash's size is good
+-- a read failed: the count of faults has risen, and the flash's size is good
 HasCause stream old new (Failed false) = FlashFails old new × IsUpdatableSize new.extent
 -- a flash whose bytes are known can be updated, and the stream doesn't fit in it
 HasCause stream old new TooLong = IfKnown old.bytes (IsTooLong stream)

@@ -5,8 +5,8 @@
 --     65,536    the golden stream
 --     U         the update stream, and FF after it
 --
--- A device takes the one slot whose switch word is the sync word: that slot is open. A slot of FFFFFFFF is free, any
--- other is spent.
+-- A device takes the one slot whose switch word is the sync word: that slot is open. A slot whose switch word is
+-- FFFFFFFF is free, and one with any other is spent.
 use Rattle.std.specs.Prelude.{◌≡◌, ◌≢◌, ℕ, suc, ◌+◌, ◌-◌, ◌*◌, ◌%◌, ◌<◌, ◌≤◌, List, [], ◌∷◌, length, get_or}
 use Rattle.x7_words.specs.Flash.{flash_limit}
 use Rattle.x7_words.specs.Word.{word_of_bytes}
@@ -17,7 +17,7 @@ use Rattle.x7_packets.specs.SyncWord.{sync_bytes}
 abbrev pub switch_size : ℕ
 switch_size = 4
 
--- the four bytes from a place on
+-- the four bytes from `place` on; past the flash's end each counts as 0
 abbrev pub four_at : List ℕ → ℕ → List ℕ
 four_at flash place = get_or flash place 0 ∷ get_or flash (place + 1) 0 ∷ get_or flash (place + 2) 0 ∷ get_or flash (place + 3) 0 ∷ []
 
@@ -49,13 +49,13 @@ update_place flash = word_of_bytes (four_at flash start_word_offset)
 abbrev pub first_slot : List ℕ → List ℕ
 first_slot flash = flash_slot open_switch (four_at flash start_word_offset)
 
--- a flash of this size, in bytes, can be updated: it is whole sectors, two at least, and not too large
+-- `size`, in bytes, is one of a flash that can be updated: whole sectors, two at least, and `flash_limit` at most
 pub record IsUpdatableSize (size : ℕ) : Type 0 where
   pub whole : size % sector_size ≡ 0
   pub least : 2 * sector_size ≤ size
   pub most : size ≤ flash_limit
 
--- a place at which an update may stand in a flash of a size
+-- a place at which an update may stand in a flash of `size` bytes; at the flash's end only one of no bytes fits
 pub record CanStandAt (size place : ℕ) : Type 0 where
   pub whole : place % sector_size ≡ 0
   pub least : 2 * sector_size ≤ place

@@ -7,7 +7,8 @@ use Rattle.x7_update.specs.Fault.{OpensAgain}
 use Rattle.x7_update.specs.declared.slots.Slots.{Slots}
 use Rattle.x7_update.specs.declared.slots.UpdateTarget.{UpdateTarget}
 
--- the bytes are those of a sector, and this is what each of its slots has to be after its switch word
+-- `first_sector` has the size of a sector, and `wanted` has, after its switch word, the bytes that each slot has to
+-- have there
 pub record HasFirstSlot (first_sector wanted : List ℕ) : Type 0 where
   pub whole : length first_sector ≡ sector_size
   pub is : wanted ≡ first_slot first_sector
@@ -17,8 +18,8 @@ abbrev pub OpenAmong : List ℕ → ℕ → Option ℕ → Type 0
 OpenAmong flash count None = (slot : ℕ) → slot < count → switch_of flash slot ≢ open_switch
 OpenAmong flash count (Some slot) = (slot < count) × IsOpen flash slot
 
--- the first `count` slots of a flash are these: each leads to U, at most one of them is open, `open_slot`, and from
--- `next` on all are free
+-- of the first `count` slots of a flash each leads to U, at most one is open, `open_slot`, and `next` is the first from
+-- which on all of them are free, or `count` where the last of them isn't free
 pub record SlotsAmong (flash : List ℕ) (count : ℕ) (slots : Slots) : Type 0 where
   pub leads : (slot : ℕ) → slot < count → LeadsToUpdate flash slot
   pub once : (slot : ℕ) → slot < count → OpensAgain flash slot → ⊥

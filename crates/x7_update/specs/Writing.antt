@@ -23,7 +23,8 @@ BecomesBytes Relates (Some all) new = (now : List ℕ) × (new ≡ Some now) × 
 abbrev pub Becomes : FlashState → FlashState → (List ℕ → List ℕ → Type 0) → Type 0
 Becomes old new Relates = BecomesBytes Relates old.bytes new.bytes
 
--- At any moment from one state to the next, and at the end, the bytes are in this relation to those at the start.
+-- Bytes that were known at the start stay known; at any moment from one state to the next, and at the end, the bytes
+-- are in this relation to them.
 pub record AtAnyMoment (old new : FlashState) (past since : ℕ → List ℕ → Type 0) (Relates : List ℕ → List ℕ → Type 0) : Type 0 where
   pub leaves : StaysKnown old new Relates
   pub elapses : TimeElapses old.moments new.moments past since (λ found. IfKnown old.bytes (λ all. Relates all found))
@@ -32,7 +33,8 @@ pub record AtAnyMoment (old new : FlashState) (past since : ℕ → List ℕ →
 abbrev pub CallAtAnyMoment : {F : Type 0} → FlashModel F → F → F → (List ℕ → List ℕ → Type 0) → Type 0
 CallAtAnyMoment f old new Relates = AtAnyMoment (f.state old) (f.state new) (f.found_since old) (f.found_since new) Relates
 
--- the flash is used: nothing changed but its bytes, the moment and the counts of faults, which don't fall
+-- the flash is used: nothing changed but its bytes, what was seen of them, the moment, and the counts of faults and of
+-- write faults, which don't fall
 pub record OnlyUses (old new : FlashState) : Type 0 where
   pub extent : new.extent ≡ old.extent
   pub attached : new.attached ≡ old.attached
@@ -46,7 +48,7 @@ abbrev pub StaysBytes : List ℕ → List ℕ → Type 0
 StaysBytes old found = AreBytes old → AreBytes found
 
 -- A step that writes: at any moment the bytes are in this relation to those at its start, and bytes where these were;
--- nothing else changed but the count of write faults, which doesn't fall.
+-- nothing else changed but what was seen, the moment, and the count of write faults, which doesn't fall.
 pub record IsWriteStep (old new : FlashState) (past since : ℕ → List ℕ → Type 0) (Relates : List ℕ → List ℕ → Type 0) : Type 0 where
   pub any_moment : AtAnyMoment old new past since Relates
   pub bytes : AtAnyMoment old new past since StaysBytes
@@ -115,8 +117,8 @@ wanted_at stream_place stream place = if nat_lt (place - stream_place) (length s
 abbrev pub HasWanted : ℕ → List ℕ → List ℕ → Type 0
 HasWanted stream_place stream flash = (place : ℕ) → stream_place ≤ place → place < length flash → get_or flash place 0 ≡ wanted_at stream_place stream place
 
--- an update with a stream can be verified: the flash is attached, the stream stands at its place with FF after it, and
--- the buffer is of a sector's size
+-- an update with a stream can be verified: the flash is attached and of a good size, the stream fits at its place and
+-- stands there with FF after it where the bytes are known, and the buffer is of a sector's size
 pub record CanVerify (state : FlashState) (stream_place : ℕ) (stream buffer : List ℕ) : Type 0 where
   pub attached : state.attached ≡ true
   pub size : IsUpdatableSize state.extent

@@ -6,12 +6,12 @@ ghost use Rattle.x7_update.specs.Layout.{IsUpdatable, IsNextFreeSlot, four_at, o
 ghost use Rattle.x7_update.specs.Fault.{NoLayoutAt};
 
 /// No place shows that a flash that can be updated can't. `NoLayoutAt` takes a size beside the bytes, since an update
-/// sees those of the first sector alone; here it is the flash's own.
+/// sees those of the first sector alone; here the size is the flash's own.
 pub fn updatable_flashes_are_not_refused()
     ensures { (flash : List ℕ) (place : ℕ) → IsUpdatable flash → NoLayoutAt (length flash) flash place → ⊥ }
 {}
 
-/// An update with a stream of a flash that can be updated has one outcome.
+/// A flash that can be updated has one outcome of an update with one stream.
 pub fn updates_have_one_outcome()
     ensures { (stream flash one other : List ℕ) → IsUpdatable flash → IsAfterUpdate stream flash one → IsAfterUpdate stream flash other → one ≡ other }
 {}

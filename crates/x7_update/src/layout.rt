@@ -20,7 +20,7 @@ pub(crate) const SPENT_SWITCH: [u8; 4] = [0; 4];
 /// Where in a slot its start address stands, in bytes from the slot's first.
 pub(crate) const START_WORD_OFFSET: usize = 12;
 
-/// The four bytes of the first sector from a place on.
+/// The four bytes of the first sector from `place` on.
 pub(crate) fn four_at(first_sector: &[u8], place: usize) -> [u8; 4]
     requires { place + 4 ≤ length first_sector.now }
     ensures { result ≡ four_at first_sector.now place }
@@ -33,8 +33,8 @@ pub(crate) fn four_at(first_sector: &[u8], place: usize) -> [u8; 4]
     ]
 }
 
-/// The 32 bytes of a right first slot, by the start address that the first sector has. Every later slot has the same
-/// bytes after its switch word.
+/// The 32 bytes of a right first slot, by the start address that the first sector has. In a flash that can be
+/// updated every later slot has these bytes after its switch word.
 pub(crate) fn first_slot(first_sector: &[u8]) -> [u8; 32]
     requires { start_word_offset + 4 ≤ length first_sector.now }
     ensures { result ≡ first_slot first_sector.now }
@@ -42,7 +42,7 @@ pub(crate) fn first_slot(first_sector: &[u8]) -> [u8; 32]
     flash_slot(OPEN_SWITCH, four_at(first_sector, START_WORD_OFFSET))
 }
 
-/// Whether a flash of this size, in bytes, can be updated.
+/// Whether `size`, in bytes, is one that a flash that can be updated may have.
 pub(crate) fn has_size(size: u64) -> bool
     ensures { (result ≡ true) ↔ IsUpdatableSize size }
 {

@@ -19,9 +19,10 @@ use x7_words::{Flash, is_same, word_of};
 /// The slots that an update switches, by their numbers.
 #[derive(Clone, Copy, Drop)]
 pub(crate) struct Slots {
-    /// The number of the open slot.
+    /// The number of the open slot, from 0; none where no slot is open.
     pub(crate) open_slot: Option<u64>,
-    /// The number of the first slot from which on all are free.
+    /// The number, from 0, of the first slot from which on all that were looked at are free; where the last of these
+    /// isn't free, one more than its number.
     pub(crate) next: u64,
 }
 
@@ -34,7 +35,7 @@ pub(crate) struct UpdateTarget {
     pub(crate) slots: Slots,
 }
 
-/// The first place in the flash, after a slot's switch word, at which the slot differs from what it has to be.
+/// The first place in the flash, after the switch word of `slot`, at which the slot differs from `wanted`, if it does.
 fn slot_difference(first_sector: &[u8], wanted: &[u8; 32], slot: usize) -> Option<u64>
     requires slot { slot < flash_slot_count }
     requires sector { HasFirstSlot first_sector.now wanted.now }
@@ -87,7 +88,8 @@ fn look_at_slot(
     })
 }
 
-/// The open slot and the next one of the first sector, or the place that shows that a slot isn't as the layout has it.
+/// The open slot and the next one of the first sector, or the place that shows of the first slot that
+/// isn't as the layout has it that it isn't.
 fn look_at_slots(first_sector: &[u8], wanted: &[u8; 32]) -> Result<Slots, u64>
     requires { HasFirstSlot first_sector.now wanted.now }
     ensures slots { IfOk result (SlotsAmong first_sector.now flash_slot_count) }
@@ -104,7 +106,8 @@ fn look_at_slots(first_sector: &[u8], wanted: &[u8; 32]) -> Result<Slots, u64>
     Ok(slots)
 }
 
-/// Where an update goes in a flash of a size, by its first sector, or the first place that breaks the layout.
+/// Where an update goes in a flash of `size` bytes, by its first sector; or the place that shows that the flash can't
+/// be updated, by the first line of `NoLayoutAt` that holds.
 fn target_of(first_sector: &[u8], size: u64) -> Result<UpdateTarget, u64>
     requires first_sector { length first_sector.now ≡ sector_size }
     requires size { IsUpdatableSize size }

@@ -9,7 +9,7 @@ use crate::layout::{OPEN_SWITCH, SPENT_SWITCH};
 use x7_packets::FLASH_SLOT_SIZE;
 use x7_words::{Failed, Flash};
 
-/// Spends an open slot: no slot that is spent is ever free or open again, but by an erase of the first sector.
+/// Spends an open slot: its switch word becomes zeros, of which only an erase of the first sector sets a bit again.
 pub(crate) fn spend_slot<F: Flash>(flash: &mut F, slot: u64) -> Result<(), Failed>
     requires slot { CanSwitch (F.state flash.old) slot }
     requires opened { IfKnown (F.state flash.old).bytes (λ all. IsOpen all slot) }

@@ -44,7 +44,7 @@ fn compare(buffer: &[u8], after: u64, from: u64, piece: &[u8]) -> Result<(), Upd
     Ok(())
 }
 
-/// Reads all from the update's place on, and compares it with the stream and FF after it.
+/// Reads all from `stream_place` up to the flash's end, and compares it with the stream and FF after it.
 pub(crate) fn verify_stream<F: Flash>(
     flash: &mut F,
     stream_place: u64,
@@ -63,7 +63,7 @@ pub(crate) fn verify_stream<F: Flash>(
 }
 
 /// Reads a sector of the update, and compares it with the stream and FF after it. The sectors from the stream's place up
-/// to this one were verified before.
+/// to `sector`, which isn't one of them, were verified before.
 fn verify_sector<F: Flash>(
     flash: &mut F,
     sector: u64,
@@ -93,7 +93,7 @@ fn verify_sector<F: Flash>(
 }
 
 /// Reads the switch word of the slot of this number, which was opened, and compares it with that of an open slot. The
-/// fault doesn't depend on the update's stream, so it is one of an update with any.
+/// fault doesn't depend on the update's stream, so it is one of an update with any stream.
 pub(crate) fn verify_switch<F: Flash>(flash: &mut F, slot: u64) -> Result<(), UpdateFault>
     requires attached { (F.state flash.old).attached ≡ true }
     requires size { IsUpdatableSize (F.state flash.old).extent }
