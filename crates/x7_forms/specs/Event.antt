@@ -16,8 +16,8 @@ use Rattle.x7_forms.specs.declared.refusal.Refusal.{Refusal}
 use Rattle.x7_forms.specs.declared.refusal.Why.{Why}
 use Rattle.x7_forms.specs.declared.refusal.Why.TheVariants as why
 
--- the reason, and the name of the input or of the flash concerned: `reads` for words read out, and no name where the
--- reason concerns none
+-- the reason, and the name of the input or of the flash concerned: `reads` where too many words were read out, and
+-- empty where the reason concerns none
 pub record Event : Type 0 where
   pub reason : Why
   pub concerned : List ℕ
@@ -32,7 +32,7 @@ pub data ReasonCause : Type 0 where
   Wording : ReasonCause
   -- want of memory, which may come at any time
   Want : ReasonCause
-  -- an input or the flash failed, by its count of faults
+  -- an input or the flash could not be opened or read, by its count of faults
   Fault : ReasonCause
   -- a name isn't there, by the contents or by a count of absences
   Absence : ReasonCause
@@ -89,7 +89,8 @@ detail_text (detail.Word word) = hex_word word
 detail_text (detail.Sum line want got) = decimal line ++ (codes " want " ++ (hex_byte want ++ (codes " got " ++ hex_byte got)))
 detail_text (detail.Key place) = which_text place
 
--- a row of the table of reasons: the status and the cause of a reason, and what its line says before and after the name
+-- a row of the table of reasons: the status and the cause of a reason, and what its line says between `x7: ` and the
+-- name, and after the name
 pub record ReasonRow : Type 0 where
   pub ends_as : Status
   pub cause : ReasonCause

@@ -7,7 +7,8 @@ use Rattle.std.specs.Str.{bytes_eq}
 use Rattle.x7_forms.specs.declared.form.Form.{Form}
 use Rattle.x7_forms.specs.declared.form.Form.TheVariants as form
 
--- what the words ask for, with the names that they give; `far` is a frame address
+-- what the words ask for, with the names that they give; `far` is a frame address, `slot_count` a number of slots to
+-- read
 pub data AskedForm : Type 0 where
   Listing : (stream : List ℕ) → AskedForm
   Assembling : (text : List ℕ) → AskedForm
@@ -52,11 +53,11 @@ abbrev pub debug_form : List (List ℕ) → Option AskedForm
 debug_form (part ∷ stream ∷ script ∷ []) = Some (Debugging part stream script)
 debug_form _ = None
 
--- the word of 32 bits that eight upper-case hexadecimal digits write, and none for other digits
+-- the word of 32 bits that eight upper-case hexadecimal digits write, and none for other texts
 abbrev pub word_in : List ℕ → Option ℕ
 word_in digits = if bytes_eq (hex_word (word_value digits)) digits && nat_lt (word_value digits) (2 ^ 32) then Some (word_value digits) else None
 
--- the number below 2^32 that decimal digits without a leading zero write, and none for other digits
+-- the number below 2^32 that decimal digits without a leading zero write, and none for other texts
 abbrev pub number_in : List ℕ → Option ℕ
 number_in digits = if bytes_eq (decimal (digits_value 10 digits)) digits && nat_lt (digits_value 10 digits) (2 ^ 32) then Some (digits_value 10 digits) else None
 
@@ -65,7 +66,7 @@ abbrev pub read_asked : List ℕ → Option ℕ → Option ℕ → Option AskedF
 read_asked part (Some far) (Some slot_count) = Some (PlanningRead part far slot_count)
 read_asked part _ _ = None
 
--- `plan read`, by its three names: a part file, an address and a number of slots
+-- `plan read`, by the three words after it: the name of a part file, an address and a number of slots
 abbrev pub plan_read_form : List (List ℕ) → Option AskedForm
 plan_read_form [] = None
 plan_read_form (part ∷ []) = None
@@ -87,7 +88,7 @@ abbrev pub gen_asked : List ℕ → Option ℕ → Option AskedForm
 gen_asked part (Some seed) = Some (Generating part seed)
 gen_asked part None = None
 
--- `gen`, by its two names: a part file and a number
+-- `gen`, by the two words after it: the name of a part file and a number
 abbrev pub gen_form : List (List ℕ) → Option AskedForm
 gen_form [] = None
 gen_form (part ∷ []) = None
@@ -186,12 +187,12 @@ names_used (Updated name) = name ∷ []
 abbrev pub flash_names : Option AskedForm → List (List ℕ)
 flash_names form = names_used (flash_use form)
 
--- the stream that a form lists as it reads it; every other form writes its whole text at its end
+-- the name of the stream that a form lists as it reads it; every other form writes its whole text at its end
 abbrev pub listed_by : Option AskedForm → Option (List ℕ)
 listed_by (Some (Listing stream)) = Some stream
 listed_by form = None
 
--- the stream with which a form updates its flash; no other form writes a flash
+-- the name of the stream with which a form updates its flash; no other form writes a flash
 abbrev pub updated_by : Option AskedForm → Option (List ℕ)
 updated_by (Some (UpdatingFlash flash stream)) = Some stream
 updated_by form = None

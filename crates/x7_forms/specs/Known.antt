@@ -119,13 +119,13 @@ abbrev pub streams_known : Known → ℕ → List (List ℕ) → Result (List �
 streams_known known limit [] = Ok []
 streams_known known limit (name ∷ names) = and_so (stream_known known limit name) (λ stream. put_before stream.bytes (streams_known known stream.room names))
 
--- the most words that a play reads out
+-- the most words that a play may read out
 abbrev pub reads_limit : ℕ
 reads_limit = 16777216
 
 -- ---- what is known of the outside
 
--- an input by its bytes, where it has any
+-- what is found of an input that has these bytes, or that isn't there
 abbrev pub input_found : Option (List ℕ) → Found
 input_found None = Absent
 input_found (Some bytes) = Held bytes
@@ -146,7 +146,7 @@ with_inputs (Some inputs) flash = Some (known_of inputs flash)
 
 -- ---- what is known, but for one name
 
--- a mishap: a name is otherwise than it is known, and fails after `given` bytes, or isn't there
+-- a mishap: against what is known, the input or the flash of a name fails after `given` bytes, or isn't there
 pub data Mishap : Type 0 where
   Failing : (name : List ℕ) (given : ℕ) → Mishap
   Lacking : (name : List ℕ) → Mishap
@@ -161,7 +161,7 @@ abbrev pub mishap_event : Mishap → Event
 mishap_event (Failing name given) = reading_failed name
 mishap_event (Lacking name) = missing name
 
--- the first bytes of what is found, and then a fault
+-- the first `given` bytes of what is found, or all where it has fewer, and then a fault
 abbrev pub broken_at : ℕ → Found → Found
 broken_at given (Held bytes) = Broken (take given bytes)
 broken_at given Absent = Broken []
@@ -172,7 +172,7 @@ abbrev pub spoiled : Mishap → Found → Found
 spoiled (Failing name given) old = broken_at given old
 spoiled (Lacking name) old = Absent
 
--- what is known, with this mishap
+-- what is known, with this mishap; the flash of its name fails before its first byte, or isn't there
 abbrev pub with_mishap : Mishap → Known → Known
 with_mishap m known = record {
   inputs = λ name. if bytes_eq name (spoiled_name m) then spoiled m (known.inputs name) else known.inputs name;

@@ -33,8 +33,9 @@ limited_together contents limit (name ∷ names) = limited limit name ∷ limite
 abbrev pub IsAbout : List ℕ → Event → Type 0
 IsAbout name event = (event ≡ no_memory) ⊎ (event.concerned ≡ name)
 
--- Reading stopped at one of these inputs, which the event names: it is the last that was asked for, and no more than a
--- byte over its limit was given of it. No more inputs were asked for than stand up to it, nor more ends of inputs read.
+-- Reading stopped at one of these inputs, which the event names: it is the last that was asked for, where that is kept,
+-- and no more than a byte over its limit was given of it. No more inputs were asked for than stand up to and with it,
+-- nor more ends of inputs read.
 pub record StopsAt (inputs : List Limited) (old now : InputsState) (event : Event) : Type 0 where
   pub before : List Limited
   pub input : Limited

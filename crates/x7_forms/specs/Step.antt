@@ -41,7 +41,8 @@ pub record InputStep : Type 0 where
 abbrev pub step_over : List (List ℕ) → InputsState → InputsState → InputStep
 step_over names before after = record { names = names; before = before; after = after }
 
--- a mishap came in a step: an input of one of its names failed after the bytes that were given of it, or was missing
+-- a mishap came in a step: an input of one of the step's names failed after the bytes that were given of it, or was
+-- missing
 abbrev pub CameIn : InputStep → Mishap → Type 0
 CameIn step (Failing name given) = (given ≡ step.after.given) × FailsAmong step.names step.before step.after name
 CameIn step (Lacking name) = LacksAmong step.names step.before step.after name
@@ -70,7 +71,7 @@ abbrev pub IsFromOutside : {A : Type 0} → Option Known → (Mishap → Type 0)
 IsFromOutside known Came Due (Ok a) = ⊥
 IsFromOutside {A} known Came Due (Err event) = (event ≡ no_memory) ⊎ IsOfMishap A known Came Due event
 
--- what known contents may decide
+-- known contents may decide an event of this cause
 abbrev pub DecidedBy : ReasonCause → Type 0
 DecidedBy Absence = Unit {0}
 DecidedBy Contents = Unit {0}
@@ -81,8 +82,8 @@ abbrev pub IsDecided : {A : Type 0} → Result A Event → Type 0
 IsDecided (Ok a) = Unit {0}
 IsDecided (Err event) = DecidedBy (cause_of_event event)
 
--- what contents that are not known may bring about: an event that lies in them; which name it has, and which reason, a
--- step says by a clause of its own
+-- Contents that are not known may bring about an event of this cause: it lies in them. Which name it has, and which
+-- reason, a step says by a clause of its own.
 abbrev pub PossibleBy : ReasonCause → Type 0
 PossibleBy Contents = Unit {0}
 PossibleBy _ = ⊥
@@ -92,7 +93,7 @@ abbrev pub IsPossible : {A : Type 0} → Result A Event → Type 0
 IsPossible (Ok a) = Unit {0}
 IsPossible (Err event) = PossibleBy (cause_of_event event)
 
--- the result is one that is due where the contents are known
+-- the result is one that is due, where the contents are known; else it is one that contents may bring about
 abbrev pub IsDue : {A : Type 0} → Option Known → (Known → Result A Event → Type 0) → Result A Event → Type 0
 IsDue None Due got = IsPossible got
 IsDue (Some known) Due got = IsDecided got × Due known got
@@ -101,13 +102,13 @@ IsDue (Some known) Due got = IsDecided got × Due known got
 abbrev pub IsCausedBy : {A : Type 0} → Option Known → (Mishap → Type 0) → (Known → Result A Event → Type 0) → Result A Event → Type 0
 IsCausedBy known Came Due got = IsFromOutside known Came Due got ⊎ IsDue known Due got
 
--- the result has a cause: it comes from outside, or it is what a function of the known contents says
+-- the result has a cause, as in `IsCausedBy`, where what is due is what the function `due` of the known contents says
 abbrev pub IsCaused : {A : Type 0} → Option Known → (Mishap → Type 0) → (Known → Result A Event) → Result A Event → Type 0
 IsCaused known Came due got = IsCausedBy known Came (λ t result. due t ≡ result) got
 
 -- Whatever the flash holds, the result of a step has a cause: it is due by what the inputs held before, or by that
--- with a mishap that came, or it is want of memory. Where the inputs aren't known, it is a value, or an event that lies
--- in them.
+-- with a mishap that came, or it is want of memory. Where the inputs aren't known, it is a value, an event that lies in
+-- them, the event of a mishap that came, or want of memory.
 abbrev pub AnswersBy : {A : Type 0} → InputStep → (Known → Result A Event → Type 0) → Result A Event → Type 0
 AnswersBy step Due got = (flash : Option (List ℕ)) → IsCausedBy (with_inputs step.before.contents flash) (CameIn step) Due got
 
@@ -118,7 +119,8 @@ AnswersAs step due got = AnswersBy step (λ known end. due known ≡ end) got
 
 -- ---- why a step gives nothing, whatever the inputs hold
 
--- an input of this name isn't read: want of memory, it isn't there, it failed, or it is over its limit
+-- an input of this name isn't read: want of memory, which names none, or it isn't there, it failed, or it is over its
+-- limit
 abbrev pub IsUnread : List ℕ → Event → Type 0
 IsUnread name event = (event ≡ no_memory) ⊎ ((event ≡ missing name) ⊎ ((event ≡ reading_failed name) ⊎ (event ≡ too_large name)))
 
@@ -144,6 +146,6 @@ ReadsWhole old new limit name got = AnswersAs (step_over (name ∷ []) old new) 
 abbrev pub ReadsStream : InputsState → InputsState → ℕ → List ℕ → Result StreamRead Event → Type 0
 ReadsStream old new limit name got = AnswersAs (step_over (name ∷ []) old new) (λ known. stream_known known limit name) got
 
--- a step reads the data of streams, one after the other
+-- a step reads the data of streams, one after the other, which are within the limit of one stream together
 abbrev pub ReadsStreams : InputsState → InputsState → List (List ℕ) → Result (List ℕ) Event → Type 0
 ReadsStreams old new names got = AnswersAs (step_over names old new) (λ known. streams_known known stream_limit names) got

@@ -1,5 +1,5 @@
--- Inputs that are read turn by turn (this project's choice). A turn reads as many bytes as a buffer holds, and what it
--- read is used before the next turn.
+-- Inputs that are read turn by turn (this project's choice). A turn reads as many bytes as a buffer holds, or fewer: up
+-- to the input's end, and at most one byte over its limit. What it read is used before the next turn.
 use Rattle.std.specs.Prelude.{◌≡◌, ◌≢◌, ◌<◌, ◌≤◌, ◌⊎◌, ◌++◌, ℕ, Bool, true, false, List, [], Some, Ok, Err, IfSome, drop, length, take, ◌+◌}
 use Rattle.x7_words.specs.Input.{InputsState, AsksAtMost, AsksForName, AsksOnce, AtEnd, InputsFail, MissesInput, InputsStay, TakesInput, preceded}
 use Rattle.x7_header.specs.Header.{HeaderContents, EndsInHeader, HasOtherLetterAt, FitHeaderFields, fixed_bytes, fixed_size, header_bytes, longest_header}
@@ -24,7 +24,7 @@ longest_beginning = longest_header + turn_size
 abbrev pub play_turn_size : ℕ
 play_turn_size = 266240
 
--- an input was not opened: its name isn't there, or the inputs failed
+-- the input `name` was not opened: it isn't there, or the inputs failed; no input is selected
 abbrev pub Unopened : InputsState → List ℕ → InputsState → Event → Type 0
 Unopened old name new event = (((event ≡ missing name) × MissesInput old name new) ⊎ ((event ≡ reading_failed name) × InputsFail old new)) × (new.selected ≡ false)
 
@@ -34,14 +34,14 @@ pub record BreaksWithin (old : InputsState) (most : ℕ) (new : InputsState) : T
   pub selected : new.selected ≡ false
   pub given : new.given < old.given + most
 
--- the bytes were read of the open input, and the name last asked for stays
+-- `bytes` were read of the open input; the name last asked for stays, and every input keeps its bytes
 pub record ReadsBytes (old : InputsState) (bytes : List ℕ) (new : InputsState) : Type 0 where
   pub takes : TakesInput old bytes new
   pub asked : new.asked ≡ old.asked
   pub stays : InputsStay old new
 
--- No input was asked for, at most this many bytes of the selected one were given, its end was read once at most, and
--- every input keeps its bytes.
+-- No input was asked for, at most `most` bytes of the selected one were given, its end was read once at most, and every
+-- input keeps its bytes.
 pub record GivesAtMost (old : InputsState) (most : ℕ) (new : InputsState) : Type 0 where
   pub asked : new.asked ≡ old.asked
   pub selects : new.selects ≡ old.selects
@@ -49,23 +49,26 @@ pub record GivesAtMost (old : InputsState) (most : ℕ) (new : InputsState) : Ty
   pub given : new.given ≤ old.given + most
   pub stays : InputsStay old new
 
--- of the selected input, of which `left` bytes are within the limit, at most one byte over the limit was given
+-- as `GivesAtMost` says, of the selected input, of which `left` bytes are within the limit, at most one byte over it
+-- was given
 abbrev pub GivesWithinLimit : InputsState → ℕ → InputsState → Type 0
 GivesWithinLimit old left new = GivesAtMost old (left + 1) new
 
--- one input was asked for, of this name, no byte of it was given yet, and every input keeps its bytes
+-- The input `name` is the last that was asked for, where that is kept, and one input was asked for at most; no byte of
+-- it was given and no end read yet, and every input keeps its bytes.
 pub record AsksFor (old : InputsState) (name : List ℕ) (new : InputsState) : Type 0 where
   pub named : AsksForName name new
   pub once : AsksOnce old new
   pub stays : InputsStay old new
 
--- The input of this name is the last that was asked for, and no more than a byte over this limit was given of it.
+-- The input `name` is the last that was asked for, where that is kept, and at most `limit` bytes and one more were
+-- given of it.
 pub record IsLastAsked (name : List ℕ) (limit : ℕ) (now : InputsState) : Type 0 where
   pub asked : IfSome now.asked (λ kept. kept ≡ name)
   pub given : now.given ≤ limit + 1
 
--- No input but that of this name was asked for, and that once at most; no more than a byte over this limit was given of
--- it, its end was read once at most, and every input keeps its bytes.
+-- No input but `name` was asked for, and that once at most; at most `limit` bytes and one more were given of it, its
+-- end was read once at most, and every input keeps its bytes.
 pub record AsksOnlyFor (old : InputsState) (name : List ℕ) (limit : ℕ) (new : InputsState) : Type 0 where
   pub last : IsLastAsked name limit new
   pub once : AsksAtMost old 1 new
@@ -79,8 +82,9 @@ pub record FillsBuffer (old : InputsState) (count : ℕ) (buffer : List ℕ) (ne
   pub end : count < length buffer → AtEnd new.rest
   pub no_end_read : count ≡ length buffer → new.ends ≤ old.ends
 
--- a turn of the open input, of which `left` bytes were within the limit: its bytes stand at the start of the buffer, and
--- are the last of the input, or fill the buffer, and then no end was read
+-- A turn of the open input, of which `left` bytes were within the limit: its bytes, at most `left`, stand at the start
+-- of the buffer. Where `turn.last` is true they are the last of the input; else they fill the buffer, and no end was
+-- read.
 pub record ReadsTurn (old : InputsState) (left : ℕ) (turn : Turn) (buffer : List ℕ) (new : InputsState) : Type 0 where
   pub takes : TakesInput old (take turn.count buffer) new
   pub within_limit : turn.count ≤ left
@@ -103,11 +107,12 @@ pub record StopsTurn (old : InputsState) (name : List ℕ) (left size : ℕ) (ne
   pub fails_early : event ≡ reading_failed name → new.given < old.given + size
   pub over : event ≡ too_large name → left < size
 
--- the rest of the open input, these bytes, was read to its end
+-- the rest of the open input, the bytes `more`, was read to its end
 abbrev pub ReadsRest : InputsState → InputsState → List ℕ → Type 0
 ReadsRest old new more = (old.rest ≡ preceded more new.rest) × AtEnd new.rest
 
--- the rest of the open input, no more than `limit` bytes, was read to its end and appended
+-- the rest of the open input, at most `limit` bytes, was read to its end and appended to the bytes `before`, which
+-- makes `after`
 abbrev pub AppendsRest : InputsState → InputsState → ℕ → List ℕ → List ℕ → Type 0
 AppendsRest old new limit before after = (more : List ℕ) × (after ≡ before ++ more) × (length more ≤ limit) × ReadsRest old new more
 
@@ -115,11 +120,12 @@ AppendsRest old new limit before after = (more : List ℕ) × (after ≡ before 
 abbrev pub UnreadRest : InputsState → List ℕ → InputsState → ℕ → Event → Type 0
 UnreadRest old name new limit event = UnreadToEnd old name new limit event × (new.asked ≡ old.asked)
 
--- where these bytes are the last, nothing follows them
+-- where `last` says that a stream's first bytes are all of it, the `rest` after them is empty
 abbrev pub FollowsUnlessLast : Bool → List ℕ → Type 0
 FollowsUnlessLast last rest = last ≡ true → rest ≡ []
 
--- the data begin at this byte: after a header, or at the first byte where there is none
+-- the data begin at the byte `start` of `bytes`, from 0: after a header, or at byte 0 where `bytes` don't begin with
+-- the fixed bytes of a header
 abbrev pub DataBeginAt : List ℕ → ℕ → Type 0
 DataBeginAt bytes start =
     ((x : HeaderContents) × FitHeaderFields x × (bytes ≡ header_bytes x ++ drop start bytes) × (start ≡ length (header_bytes x)))
@@ -129,11 +135,12 @@ DataBeginAt bytes start =
 abbrev pub HoldsFew : List ℕ → ℕ → Type 0
 HoldsFew bytes start = (start ≡ length bytes) ⊎ ((start ≡ 0) × (length bytes ≤ fixed_size))
 
--- where a header may be refused: at the end of the bytes, or where another letter stands than the header's
+-- where a header may be refused: at the end of the bytes, or where another byte stands in the place of a field's letter
 abbrev pub RefusedAt : List ℕ → ℕ → Type 0
 RefusedAt bytes place = (place ≡ length bytes) ⊎ HasOtherLetterAt bytes place
 
--- the first bytes of a stream, where its header is judged: the header's line or nothing, and where the data begin
+-- whatever follows `bytes`, the first of a stream (nothing where they are the last), the stream's listing is `line`,
+-- the header's or nothing, and then that of its data, from the byte `start` on
 abbrev pub IsBeginning : List ℕ → Bool → List ℕ → ℕ → Type 0
 IsBeginning bytes last line start = (rest : List ℕ) → FollowsUnlessLast last rest → stream_listing (bytes ++ rest) ≡ Ok (line ++ listing_of (drop start bytes ++ rest))
 
@@ -143,12 +150,12 @@ pub record IsJudged (bytes : List ℕ) (last : Bool) (line : List ℕ) (start : 
   pub begins : IsBeginning bytes last line start
   pub data_begin : DataBeginAt bytes start
 
--- bytes that end inside a header, of a stream that may have more
+-- bytes, no more than a header may have, that end inside a header, of a stream that may have more
 abbrev pub HeaderGoesOn : List ℕ → Bool → Type 0
 HeaderGoesOn bytes last = (last ≡ false) × (length bytes ≤ longest_header) × EndsInHeader bytes
 
 -- the first bytes of a stream by which its header was judged, the header's line or nothing, where the data begin, and
--- whether the stream ends after these bytes
+-- whether the stream's end was read after these bytes
 pub record BeginningData : Type 0 where
   pub bytes : List ℕ
   pub line : List ℕ
@@ -169,7 +176,8 @@ pub record ReadsBeginning (first : BeginningData) (old new : InputsState) : Type
   pub holds_few : HoldsFew first.bytes first.start
   pub begins : IsBeginning first.bytes first.last first.line first.start
 
--- the first bytes of a stream whose header is refused at this byte
+-- whatever follows `bytes`, the first of a stream (nothing where they are the last), its header is refused at the byte
+-- `place`, from 0
 abbrev pub IsRefused : List ℕ → Bool → ℕ → Type 0
 IsRefused bytes last place = (rest : List ℕ) → FollowsUnlessLast last rest → stream_listing (bytes ++ rest) ≡ Err place
 

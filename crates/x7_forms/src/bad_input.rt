@@ -40,6 +40,6 @@ pub enum InputFault {
     Image,
     /// The stream would end past the end of the flash.
     Long,
-    /// The flash can't be updated: the first place, in bytes, that shows it, or its size.
+    /// The flash can't be updated: the first place that shows it, or the flash's size in bytes.
     Layout(u64),
 }

@@ -63,7 +63,7 @@ pub struct Beginning {
     pub line: Vec<u8>,
     /// Where the data begin, in bytes from 0.
     pub start: usize,
-    /// Whether the stream ends after these bytes.
+    /// Whether the stream's end was read after these bytes.
     pub last: bool,
 }
 
@@ -78,8 +78,8 @@ impl Drop for Beginning {
     }
 }
 
-/// Reads the first bytes of the open input until its header is judged, field by field: none after a header, nor after a
-/// wrong letter.
+/// Reads the first bytes of the open input until its header is judged, field by field: none after a header, nor after
+/// another byte in the place of a field's letter.
 pub fn read_beginning<'w, I: Inputs>(
     alloc: Global,
     inputs: &mut I,

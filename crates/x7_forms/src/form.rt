@@ -207,7 +207,7 @@ fn plan_partial_form(names: &[String]) -> Option<Form<'_>>
     }
 }
 
-/// The word of 32 bits that eight upper-case hexadecimal digits write.
+/// The word of 32 bits that eight upper-case hexadecimal digits write, and `None` for other texts.
 fn word_in(digits: &str) -> Option<u32>
     ensures { result ≡ word_in digits.now }
 {
@@ -217,7 +217,7 @@ fn word_in(digits: &str) -> Option<u32>
     }
 }
 
-/// The number below 2^32 that decimal digits without a leading zero write.
+/// The number below 2^32 that decimal digits without a leading zero write, and `None` for other texts.
 fn number_in(digits: &str) -> Option<u32>
     ensures { result ≡ number_in digits.now }
 {

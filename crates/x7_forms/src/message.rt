@@ -16,9 +16,9 @@ use x7_words::{Failed, Sink, write_pieces};
 pub(crate) enum Detail {
     /// Nothing more.
     Nothing,
-    /// A number.
+    /// A number, in decimal.
     Number(u64),
-    /// A word.
+    /// A word of 32 bits, in eight hexadecimal digits.
     Word(u32),
     /// A line, the byte that would make the sum of its bytes 0, and the one that stands there.
     Sum {
@@ -95,7 +95,7 @@ fn write_text<'x, E: Sink>(
     write_pieces(err, &[before_name, name.as_bytes(), label, text, b"\n"])
 }
 
-/// Writes the line of a record whose last byte isn't the one that makes the sum 0.
+/// Writes the line of a refusal for a record whose last byte isn't the one that makes the sum of its bytes 0.
 fn write_sum<'x, E: Sink>(
     err: &mut E,
     before_name: &'x [u8],
@@ -126,7 +126,7 @@ fn write_sum<'x, E: Sink>(
     )
 }
 
-/// Writes the line of a fault that names a key of a row of a part file.
+/// Writes the line of a refusal for a fault that names a key of a row of a part file.
 fn write_in_row<'x, E: Sink>(
     err: &mut E,
     before_name: &'x [u8],
@@ -154,7 +154,7 @@ fn write_in_row<'x, E: Sink>(
     )
 }
 
-/// Writes the line of a fault that names a key of a part file, with its row where it is a row's.
+/// Writes the line of a refusal for a fault that names a key of a part file, with its row where it is a row's.
 fn write_key<'x, E: Sink>(
     err: &mut E,
     before_name: &'x [u8],

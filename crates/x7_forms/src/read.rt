@@ -1,4 +1,4 @@
-//! Reading an input in turns: each fills a buffer, which is used before the next turn.
+//! Reading an input in turns: each reads up to as many bytes as a buffer holds, which are used before the next turn.
 ghost use Rattle.std.specs.Prelude.{◌≡◌, ◌+◌, ◌<◌, ◌≤◌, ◌⊎◌, ℕ, List, drop, length, true, vec_len, IfErr, IfOk, OnErr, OnOk};
 ghost use Rattle.x7_words.specs.Input.{AtEnd, OpensInput};
 ghost use Rattle.x7_forms.specs.Event.{bad_input, event_of, no_memory};
@@ -83,12 +83,12 @@ pub fn open<'w, I: Inputs>(inputs: &mut I, name: &'w str) -> Result<(), Refusal<
     }
 }
 
-/// What a turn read: how many bytes stand at the start of the buffer, and whether the input ends after them.
+/// What a turn read: how many bytes stand at the start of the buffer, and whether the input's end was read after them.
 #[derive(Clone, Copy, Drop)]
 pub struct Turn {
     /// How many bytes were read.
     pub count: usize,
-    /// Whether the input ends after these bytes.
+    /// Whether the input's end was read after these bytes; where it wasn't, the next turn may still read none.
     pub last: bool,
 }
 
@@ -200,7 +200,7 @@ pub fn skip_rest<'w, I: Inputs>(
     }
 }
 
-/// The stream of this name has a header that is refused at this byte, from 0.
+/// The refusal of a stream of this name whose header is refused at the byte `place`, from 0.
 pub(crate) fn refused_at<'w>(name: &'w str, place: usize) -> Refusal<'w>
     ensures { event_of result ≡ bad_input name.now (input.Byte place) }
 {
@@ -210,7 +210,8 @@ pub(crate) fn refused_at<'w>(name: &'w str, place: usize) -> Refusal<'w>
     }
 }
 
-/// Where the data of a stream begin, in bytes from 0: after its header, or at its first byte where it has none.
+/// Where the data of a stream begin, in bytes from 0: after its header, or at its first byte where it has none. A
+/// header that is cut, or that has another byte in a letter's place, is refused.
 pub fn data_start<'w>(name: &'w str, bytes: &[u8]) -> Result<usize, Refusal<'w>>
     ensures data { result_by (λ start. drop start bytes.now) result ≡ data_in name.now bytes.now }
     ensures within { IfOk result (λ start. start ≤ length bytes.now) }

@@ -52,7 +52,7 @@ impl Why {
         }
     }
 
-    /// What the line of the reason says before the name.
+    /// What the line of the reason says before the name, from `x7: ` on.
     fn before_name(self) -> &'static [u8]
         ensures { result.now ≡ codes "x7: " ++ (reason_row self).before_name }
     {
@@ -90,7 +90,7 @@ impl<'w> Refusal<'w> {
         Refusal { reason, name: "" }
     }
 
-    /// Writes the refusal's line, and gives its status. No memory is taken.
+    /// Writes the refusal's line, or a prefix of it where `err` fails, and gives its status. No memory is taken.
     pub fn tell<E: Sink>(&self, err: &mut E) -> Status
         ensures status { result ≡ status_of_event (event_of self.now) }
         ensures line { PutsOrFails (E.state err.old) (event_line (event_of self.now)) (E.state err.new) }

@@ -30,7 +30,7 @@ pub record ReadsOver (part : PartData) (bytes : List ℕ) : Type 0 where
   pub fits : AreBytes bytes
   pub many : reads_limit < length (reads_of part on_the_bench bytes)
 
--- how many words a device reads out before they are moved out of the buffer
+-- the most words that a device reads out before they are moved out of the buffer
 abbrev pub reads_room : ℕ
 reads_room = 4096
 
@@ -38,7 +38,8 @@ reads_room = 4096
 abbrev pub empty_buffer : ReadBufState
 empty_buffer = record { most = Some reads_room; words = [] }
 
--- what a player has: its device, the words read out that are still in its buffer, and those that were moved out of it
+-- what a player has: its device, its buffer with the words read out that are still there, and the words that were moved
+-- out of it
 pub record PlayState : Type 0 where
   pub device : DeviceState
   pub buffer : ReadBufState
@@ -48,12 +49,13 @@ pub record PlayState : Type 0 where
 abbrev pub play_state : DeviceState → ReadBufState → List ℕ → PlayState
 play_state device buffer reads = record { device = device; buffer = buffer; reads = reads }
 
--- by whether a player is over: it was given these bytes
+-- A player was given these bytes. Where it is over, the bytes read out more words than a play may; else its device
+-- took them, or those up to its stop, and no word read out is due or in its buffer.
 abbrev pub HasPlayedBy : Bool → PartData → List ℕ → PlayState → Type 0
 HasPlayedBy true part bytes s = ReadsOver part bytes
 HasPlayedBy false part bytes s = DevicePlayed part bytes s.device s.reads × NoWordDue s.device × (s.buffer ≡ empty_buffer)
 
--- a player with a device of this part was given these bytes; it may be over
+-- a player with a device of this part, on the bench, was given these bytes; it may be over
 abbrev pub HasPlayed : PartData → List ℕ → Player → Type 0
 HasPlayed part bytes p = HasPlayedBy p.is_over part bytes (play_state p.device p.buffer p.reads.items)
 
@@ -72,15 +74,16 @@ pub record ForSomePrefix (piece : List ℕ) (Holds : List ℕ → Type 0) : Type
   pub split : piece ≡ prefix ++ left
   pub holds : Holds prefix
 
--- the player's device was given these bytes more; words that they read out may still be due
+-- the player's device was given the bytes `prefix` more; words that they read out may still be due
 abbrev pub PlaysPrefix : Player → Player → List ℕ → Type 0
 PlaysPrefix old new prefix = (part : PartData) (bytes : List ℕ) → HasPlayed part bytes old → DevicePlayed part (bytes ++ prefix) new.device new.reads.items
 
--- the device of a player that was not over was given these bytes more; words that they read out may still be due
+-- the device of a player that was not over was given the bytes `prefix` more; words that they read out may still be due
 abbrev pub FeedsPrefix : PlayState → PlayState → List ℕ → Type 0
 FeedsPrefix old new prefix = (part : PartData) (bytes : List ℕ) → HasPlayedBy false part bytes old → DevicePlayed part (bytes ++ prefix) new.device new.reads
 
--- by whether a player is over: with `count` bytes more it was given no more than a device counts
+-- a player, which is over where the flag says so, was given bytes which with `count` more are no more than a device
+-- counts (`taken_bytes_limit`)
 abbrev pub MayPlayBy : Bool → PlayState → ℕ → Type 0
 MayPlayBy over s count = (part : PartData) × ((bytes : List ℕ) × (HasPlayedBy over part bytes s × (length bytes + count ≤ taken_bytes_limit)))
 
@@ -88,8 +91,8 @@ MayPlayBy over s count = (part : PartData) × ((bytes : List ℕ) × (HasPlayedB
 abbrev pub MayPlay : Player → ℕ → Type 0
 MayPlay p count = MayPlayBy p.is_over (play_state p.device p.buffer p.reads.items) count
 
--- The rest of the open stream was played, as `WasPlayed` says, with `left` of `limit` bytes left, and is what was read
--- to its end, as `IsRest` says.
+-- The rest of the open stream was played, as `WasPlayed` says, and read to its end, as `IsRest` says; of `limit` bytes
+-- it leaves `left`.
 abbrev pub PlaysRest : ℕ → ℕ → (List ℕ → Type 0) → (List ℕ → Type 0) → Type 0
 PlaysRest limit left WasPlayed IsRest = (more : List ℕ) × (length more + left ≡ limit) × WasPlayed more × IsRest more
 
@@ -97,8 +100,8 @@ PlaysRest limit left WasPlayed IsRest = (more : List ℕ) × (length more + left
 abbrev pub PlaysStreams : PartData → Player → InputsState → InputsState → List (List ℕ) → Type 0
 PlaysStreams part player old new names = (bytes : List ℕ) × HasPlayed part bytes player × ReadsStreams old new names (Ok bytes)
 
--- The data of a stream were played, as `WerePlayed` says, with `left` of `limit` bytes left for the next streams, and
--- are what a step reads, as `IsRead` says.
+-- The data of a stream were played, as `WerePlayed` says, and are what a step reads, as `IsRead` says; of `limit` bytes
+-- the stream, its header included, leaves `left` for the next streams.
 pub record PlaysStream (limit left : ℕ) (WerePlayed : List ℕ → Type 0) (IsRead : Result StreamRead Event → Type 0) : Type 0 where
   pub bytes : List ℕ
   pub within : length bytes + left ≤ limit

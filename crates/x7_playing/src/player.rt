@@ -8,14 +8,14 @@ use x7_engine::{Device, Fed, ReadBuf};
 use x7_part::Part;
 use x7_words::NoMemory;
 
-/// The most words that a play reads out.
+/// The most words that a play may read out.
 const READS_LIMIT: usize = 16_777_216;
 
-/// How many words a device reads out before they are moved.
+/// The most words that a device reads out before they are moved out of the buffer.
 const READS_ROOM: u32 = 4_096;
 
-/// Appends the words of a buffer to those that were read out before, which have room for them, and says whether all
-/// together are over the limit; then none is appended.
+/// Moves the words of a buffer to the end of `reads`, the words read out before, which has room for them, and says
+/// whether all together are over the limit; where they are, none is moved.
 fn gather(buffer: &mut ReadBuf, reads: &mut Vec<u32>) -> bool
     requires within { vec_len reads.old ≤ reads_limit }
     requires most { buffer.old.most ≡ Some reads_room }
@@ -35,8 +35,9 @@ fn gather(buffer: &mut ReadBuf, reads: &mut Vec<u32>) -> bool
     false
 }
 
-/// Feeds the bytes of a piece to a device, up to one that stops it, gathers the words that it reads out, and says
-/// whether all words so far are over the limit. The room for words is made before the bytes are fed that read them out.
+/// Feeds the bytes of a piece to a device, up to one that stops it or until the words read out are over their limit,
+/// gathers these words, and says whether they are over it. The room for words is made before the bytes are fed that
+/// read them out.
 fn feed(
     device: &mut Device,
     buffer: &mut ReadBuf,
@@ -64,13 +65,13 @@ fn feed(
     }
 }
 
-/// A device on the bench, and the words that it read out, up to their limit.
+/// A device on the bench, and the words that it read out, at most as many as a play may.
 pub struct Player {
     /// The device.
     pub device: Device,
-    /// Room for words that the device reads out, which are moved out of it after each piece.
+    /// Room for words that the device reads out, which are moved to `reads` when it is full, and after each piece.
     pub buffer: ReadBuf,
-    /// The words that the device read out.
+    /// The words that the device read out; of a player that is over without the last ones, which stay in `buffer`.
     pub reads: Vec<u32>,
     /// Whether more words were read out than a play may: then nothing more is played.
     pub is_over: bool,
@@ -100,9 +101,9 @@ impl Player {
         })
     }
 
-    /// Plays the bytes of a piece, up to one that stops the device. A player that is over plays nothing and stays as it
-    /// is. After want of memory the device has taken a prefix of the piece, and the player has the words that this
-    /// prefix read out, but for those that are still due.
+    /// Plays the bytes of a piece, up to one that stops the device, or until the player is over. A player that is over
+    /// plays nothing and stays as it is. After want of memory the device has taken a prefix of the piece, and the
+    /// player has the words that this prefix read out, but for those that are still due.
     pub fn play(&mut self, piece: &[u8]) -> Result<(), NoMemory>
         requires { MayPlay self.old (length piece.now) }
         ensures played { OnOk result (PlaysOn self.old self.new piece.now) }
@@ -118,7 +119,7 @@ impl Player {
         Ok(())
     }
 
-    /// The device, and the words that it read out.
+    /// The player's device, and its `reads`.
     pub fn into_parts(self) -> (Device, Vec<u32>)
         ensures device { result.0 ≡ self.device }
         ensures reads { result.1 ≡ self.reads }

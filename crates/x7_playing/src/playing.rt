@@ -18,8 +18,8 @@ use x7_words::{Inputs, are_bytes};
 /// first turn judges it.
 const PLAY_TURN_SIZE: usize = 266_240;
 
-/// Plays the rest of the open stream, of which `limit` bytes are within the limit, and answers how many of these are
-/// left; where `last` says that the turn before was the last, there is no rest.
+/// Plays the rest of the open stream, of which `limit` bytes are within the limit, and answers how many of these it
+/// leaves; where `last` says that the turn before was the last, there is no rest.
 fn play_rest<'w, I: Inputs>(
     player: &mut Player,
     inputs: &mut I,
@@ -54,8 +54,8 @@ fn play_rest<'w, I: Inputs>(
     }
 }
 
-/// Plays the data of a stream of at most `limit` bytes, and answers how many of these are left. The limit comes before
-/// the header, so a stream with a bad one is read to its end too.
+/// Plays the data of a stream of at most `limit` bytes, its header included, and answers how many of these it leaves.
+/// The limit comes before the header, so a stream whose header is refused is read to its end too.
 fn play_stream<'w, I: Inputs>(
     player: &mut Player,
     inputs: &mut I,

@@ -7,8 +7,8 @@ use Rattle.x7_memory.specs.FrameMap.{FrameMap}
 use Rattle.x7_memory.specs.PartFrames.{are_zeros}
 use Rattle.x7_text.specs.Digits.{hex_word}
 
--- how many bytes the line of a frame with this many words takes: the digits of the words, and 16 bytes for its name,
--- its address, a blank and a line end
+-- how many bytes the line of a frame with `count` words takes: eight digits a word, and 16 bytes for `frame `, the
+-- address, a blank and a line end
 abbrev pub frame_line_size : ℕ → ℕ
 frame_line_size count = 16 + 8 * count
 
@@ -16,7 +16,7 @@ frame_line_size count = 16 + 8 * count
 abbrev pub frame_line_room : ℕ
 frame_line_room = frame_line_size most_frame_words
 
--- how many lines of frames are written at once
+-- the most lines of frames that are written at once
 abbrev pub lines_at_once : ℕ
 lines_at_once = 128
 
@@ -24,7 +24,7 @@ lines_at_once = 128
 abbrev pub room_at_once : ℕ
 room_at_once = lines_at_once * frame_line_room
 
--- the line of a frame: its address and the digits of its words
+-- the line of the frame at the address `far`: `frame `, the address, and the digits of its words
 unfoldable pub frame_text : ℕ → List ℕ → List ℕ
 frame_text far words = codes "frame " ++ hex_word far ++ space_byte ∷ flat_map hex_word words ++ codes "\n"
 
@@ -33,7 +33,7 @@ abbrev pub has_nonzero_word : Option (List ℕ) → Bool
 has_nonzero_word None = false
 has_nonzero_word (Some words) = not (are_zeros words)
 
--- of these addresses those whose frames are shown
+-- of these addresses those whose frames are shown: the ones with a word other than 0
 abbrev pub addresses_shown : FrameMap → List ℕ → List ℕ
 addresses_shown memory [] = []
 addresses_shown memory (far ∷ fars) = if has_nonzero_word (memory far) then far ∷ addresses_shown memory fars else addresses_shown memory fars

@@ -24,11 +24,12 @@ report_head part regs reads count = state_text part.name regs ++ reads_text read
 unfoldable pub report_text : PartData → Regs → List ℕ → FrameMap → List ℕ
 report_text part regs reads memory = state_text part.name regs ++ reads_text reads ++ frames_text memory (addresses_in part)
 
--- this head, and after it the lines of the device's frames at these addresses
+-- `head`, and after it the lines of the device's frames at the addresses `fars`
 abbrev pub text_begun : DeviceState → List ℕ → List ℕ → List ℕ
 text_begun device head fars = head ++ frame_lines_text (frame_at device.part device.registers.frames.memory) fars
 
--- a report that is ready to be written, and whether what it reports stopped, as its caller says
+-- a text that is ready to be written, a report with the lines before it, and whether what it reports stopped, as the
+-- caller of `PlayText::new` says
 pub record PlayTextState : Type 0 where
   pub stopped : Bool
   pub text : List ℕ

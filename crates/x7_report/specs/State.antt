@@ -23,11 +23,11 @@ fault_text fault.Multi = codes "Multi"
 fault_text fault.Encrypted = codes "Encrypted"
 fault_text fault.Watchdog = codes "Watchdog"
 
--- the most bytes of a fault's kind and words: `Crc ` or `Id `, and two words with a space between
+-- the most bytes of a fault's kind and words: those of `Crc ` and two words with a space between
 abbrev pub fault_room : ℕ
 fault_room = 21
 
--- the most bytes of the text that says where the bytes taken end: `fault `, and a fault's kind and words
+-- the most bytes of the text that says where the bytes taken end: those of `fault `, and of a fault's kind and words
 abbrev pub end_room : ℕ
 end_room = 6 + fault_room
 
@@ -38,7 +38,7 @@ end_text at_end.Synced = codes "synced"
 end_text (at_end.Iprog wbstar) = codes "iprog " ++ hex_word wbstar
 end_text (at_end.Fault fault) = codes "fault " ++ fault_text fault
 
--- the digit of DONE, GTS_CFG_B or GWE, 0 or 1
+-- the digit of DONE, GTS_CFG_B or GWE: 1 where it is high, and 0 else
 abbrev pub line_digit : Bool → List ℕ
 line_digit is_high = if is_high then codes "1" else codes "0"
 
@@ -88,7 +88,7 @@ reg_line_room = 21
 unfoldable pub reg_text : Regs → List ℕ
 reg_text regs = flat_map reg_line (reg_words regs)
 
--- the device's part, the bytes that it took, where they end, startup and the registers
+-- the lines of a device's state: its part's name, how many bytes it took, where these end, startup and the registers
 unfoldable pub state_text : List ℕ → Regs → List ℕ
 state_text name regs =
     codes "part " ++ name ++ codes "\n"

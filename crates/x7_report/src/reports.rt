@@ -11,8 +11,8 @@ use std::alloc::Global;
 use x7_engine::Device;
 use x7_words::NoMemory;
 
-/// Appends what a report has before the lines of its frames, of which it shows `count`: the lines of the device's state,
-/// those of the words read out, and the line of that number.
+/// Appends what a report has before the lines of its frames, of which it shows `count`: the lines of the device's
+/// state, those of the words read out, and the line of that number.
 fn put_head(
     text: &mut Vec<u8>,
     device: &Device,

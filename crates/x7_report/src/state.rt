@@ -32,7 +32,7 @@ pub(crate) fn put_named_word(out: &mut Vec<u8>, name: &[u8], word: u32)
     put(out, &hex_of_word(word));
 }
 
-/// Appends a name and the digits of two words.
+/// Appends a name and the digits of two words, with a space between these.
 fn put_named_pair(out: &mut Vec<u8>, name: &[u8], want: u32, got: u32)
     requires { HasSpareRoom out.old (length name.now + 17) }
     ensures { out.new.items ≡ out.old.items ++ (name.now ++ hex_word want ++ space_byte ∷ hex_word got) }
@@ -87,7 +87,7 @@ pub fn end_words(out: &mut Vec<u8>, regs: &Regs) -> Result<(), NoMemory>
     Ok(())
 }
 
-/// Appends a name and the digit of a line, 0 or 1.
+/// Appends a name and the digit of `bit`, which is DONE, GTS_CFG_B or GWE: 1 where it is high, and 0 else.
 fn put_bit(out: &mut Vec<u8>, name: &[u8], bit: bool)
     requires { HasSpareRoom out.old (length name.now + 1) }
     ensures appends { Appends out.old out.new (name.now ++ line_digit bit) (length name.now + 1) }
@@ -121,7 +121,7 @@ pub fn phase_line(out: &mut Vec<u8>, regs: &Regs) -> Result<(), NoMemory>
     Ok(())
 }
 
-/// The registers in the order of their numbers, each with its word.
+/// The registers that a report shows, in the order of their numbers, each with its word.
 #[rattlefmt::skip]
 fn rows_of(regs: &Regs) -> [(Reg, u32); REG_LINES]
     ensures { result ≡ reg_words regs.now }

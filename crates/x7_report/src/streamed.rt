@@ -17,13 +17,13 @@ use x7_memory::Memory;
 use x7_part::Part;
 use x7_words::{Failed, NoMemory, Sink, write_all};
 
-/// How many lines of frames are written at once.
+/// The most lines of frames that are written at once.
 const LINES_AT_ONCE: usize = 128;
 
 /// The most bytes that the lines written at once take.
 const ROOM_AT_ONCE: usize = LINES_AT_ONCE * FRAME_LINE_ROOM;
 
-/// Appends the lines of the frames at these addresses, where there is room for them, and so takes no memory.
+/// Appends the lines of the frames at the addresses `fars`. There is room for them, and so no memory is taken.
 fn put_lines(text: &mut Vec<u8>, part: &Part, memory: &Memory, fars: &[u32])
     requires memory { AreFramesOf part.now memory.now }
     requires room { HasSpareRoom text.old (frame_line_room * length fars.now) }
@@ -130,7 +130,8 @@ impl PlayText {
         self.stopped
     }
 
-    /// Writes the report. After an error a prefix of it was written. Either way it may be written again.
+    /// Writes the text: the lines of `head` and the report. After an error a prefix of it was written. Either way it
+    /// may be written again.
     pub fn write<S: Sink>(&mut self, out: &mut S) -> Result<(), Failed>
         ensures whole { OnOk result (PutsAll (S.state out.old) self.old.text (S.state out.new)) }
         ensures prefix { PutsSome (S.state out.old) self.old.text (S.state out.new) }
