@@ -45,7 +45,7 @@ with tempfile.TemporaryDirectory() as folder:
     check_readme(bench, "./x7 list examples/first.bin", example("first.list"), 5)
     check_readme(bench, "./x7 play examples/tiny.part examples/first.bin", example("first.report"), 4)
     if X7:
-        check_readme(bench, "./x7 play examples/tiny.part /tmp/tiny.bin", made(bench, ["plan full tiny.part tiny.frames", "play tiny.part 0"]), 4)
+        check_readme(bench, "./x7 play examples/tiny.part ~/tiny.bin", made(bench, ["plan full tiny.part tiny.frames", "play tiny.part 0"]), 4)
     else:
         bench.tally.skip("README's stream that starts a device")
     for name, commands in MADE.items():
