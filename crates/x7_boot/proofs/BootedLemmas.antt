@@ -75,7 +75,7 @@ led_ends part kept address all d ending attempts number next end led tries table
   device = tries.device;
 }
 
--- ---- the same where the bytes of the flash are known or not
+-- ---- where the bytes of the flash are known or not
 
 -- what the table says of the attempt that left this device
 abbrev pub ByTable : DeviceState → Kept → ℕ → Ending → Next → Type 0

@@ -82,7 +82,7 @@ early_is_short : (older : List AttemptCourse) (kept : Kept) → IsEarly older ke
 early_is_short older kept (inl l) = omega (arith, l)
 early_is_short older kept (inr l) = l.1
 
--- after this attempt comes an end, or one that is early
+-- after this attempt comes an end, or an attempt that is early
 abbrev Comes : List AttemptCourse → AttemptCourse → Next → Type 0
 Comes older t next = ((e : BootEnd) × (next ≡ Ends e)) ⊎ ((kept : Kept) × (address : ℕ) × IsEarly (t ∷ older) kept × (next ≡ Again kept address))
 

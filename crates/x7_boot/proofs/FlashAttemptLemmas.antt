@@ -10,7 +10,7 @@ use Rattle.x7_part.specs.Part.{PartData}
 use Rattle.x7_regs.specs.declared.boot_status.Cause.TheVariants.{Wrap}
 use Rattle.x7_regs.specs.declared.boot_status.Kind.TheVariants.{Bench}
 use Rattle.x7_engine.specs.declared.kept.Kept.{Kept}
-use Rattle.x7_engine.specs.declared.regs.Regs.{Regs}
+use Rattle.x7_engine.specs.declared.snapshot.Snapshot.{Snapshot}
 use Rattle.x7_engine.specs.declared.stop.StopCause.{StopCause}
 use Rattle.x7_engine.specs.declared.stop.StopCause.TheVariants as stop
 use Rattle.x7_engine.specs.Standing.{DeviceState, DeviceStandsFor, MayWrap, NoWordDue}
@@ -182,7 +182,7 @@ stays_open part kept bytes more fits some none = by (first_stop_of_bytes part ke
     by (Some s) e i =
         let later : first_stop_of_bytes part kept (bytes ++ more) ≡ Some s = stop_is_final_stop part kept bytes more s fits e in
         let same : state_of part kept false (bytes ++ more) ≡ state_of part kept false bytes = stop_is_final_state part kept false bytes more s fits e in
-        let no : ((state_of part kept false (bytes ++ more)).phase == 7) ≡ false = ap (λ (r : Regs). r.phase == 7) same ∙ not_started part kept bytes none in
+        let no : ((state_of part kept false (bytes ++ more)).phase == 7) ≡ false = ap (λ (r : Snapshot). r.phase == 7) same ∙ not_started part kept bytes none in
         ends_by_stop part kept (bytes ++ more) no ∙ ap (λ (o : Option Stopped). ending_by (why_stopped o)) (later ∙ sym e) ∙ no_ending part kept bytes none
 
 stop_at_last : (part : PartData) (kept : Kept) (d : DeviceState) (bytes : List ℕ) → DeviceStandsFor part kept false d bytes → (s : Stopped) → first_stop_of_bytes part kept bytes ≡ Some s → s.place ≡ length bytes
@@ -269,7 +269,7 @@ tries_out part kept address all d wrapped at f past w =
       device = w;
     }
 
--- ---- the same where the bytes of the flash are known or not
+-- ---- where the bytes of the flash are known or not
 
 pub known_out : (part : PartData) (kept : Kept) (address : ℕ) (known : Option (List ℕ)) (d wrapped : DeviceState) (at size : ℕ) (e : Ending) → (f : IsUnderWay (attempt_at part kept address) known d at) → size ≤ at
     → IfKnown known (λ all. size ≡ length all) → DeviceStandsFor part kept true wrapped f.bytes → e ≡ Failed Wrap → IfKnown known (λ all. AreBytes all → AttemptEnds (attempt_at part kept address) all wrapped e)

@@ -1,6 +1,6 @@
 -- Lemmas on the layout of an image.
-use Rattle.std.proofs.Common.{◌≡◌, ℕ, ◌/◌, List, [], ◌∷◌, ◌++◌, length, refl, ap, ◌∙◌}
-use Rattle.std.specs.List.{AllZip, repeat}
+use Rattle.std.proofs.Common.{◌≡◌, ℕ, ◌/◌, List, ◌++◌, length, ap, ◌∙◌}
+use Rattle.std.specs.List.{AllZip, repeat, each_same}
 use Rattle.x7_boot.specs.Image.{free_slots, first_sector, slot, image_of, image_size, place_after_golden, filled_to}
 
 -- the image by its places
@@ -12,13 +12,7 @@ image_put unit place size start golden update all p s t e =
     ∙ ap (λ n. filled_to (image_size (length golden) (length update)) (filled_to place (first_sector n ++ golden) ++ update)) t
     ∙ ap (λ n. filled_to (image_size (length golden) (length update)) (filled_to n (first_sector (n / unit) ++ golden) ++ update)) p
 
-equal : (xs ys : List ℕ) → AllZip (λ x y. y ≡ x) xs ys → ys ≡ xs
-equal [] [] e = refl
-equal [] (y ∷ ys) e = absurd e
-equal (x ∷ xs) [] e = absurd e
-equal (x ∷ xs) (y ∷ ys) e = let head : y ≡ x = e.0 in let tail : ys ≡ xs = equal xs ys e.1 in cc
-
 -- all slots but the first
 pub free_slots_are : (start : ℕ) (one all : List ℕ) → one ≡ slot 0xFFFFFFFF start → AllZip (λ x y. y ≡ x) (repeat 2047 one) all → all ≡ free_slots start
 unfolding free_slots
-free_slots_are start one all e f = equal (repeat 2047 one) all f ∙ ap (λ o. repeat 2047 o) e
+free_slots_are start one all e f = each_same (repeat 2047 one) all f ∙ ap (λ o. repeat 2047 o) e

@@ -1,6 +1,6 @@
 mod BootedLemmas
 pub mod CheckedLemmas
-pub mod BootsLemmas
+pub mod BootCourseLemmas
 mod EveryBootLemmas
 mod ImageLemmas
 pub mod LeastLemmas

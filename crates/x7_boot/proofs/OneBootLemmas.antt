@@ -14,7 +14,7 @@ use Rattle.x7_boot.specs.declared.next.Next.TheVariants.{Again, Ends}
 
 -- ---- an attempt
 
--- nothing ends it before the byte that ends it
+-- nothing ends an attempt before the byte that ends it
 not_before : (part : PartData) (kept : Kept) (from bytes rest : List ℕ) (e : Ending) (n : ℕ) → from ≡ bytes ++ rest → ending_at part kept bytes ≡ Some e → NoneBefore part kept from n → length bytes < n → ⊥
 not_before part kept from bytes rest e n split ends none l =
     let same : take (length bytes) from ≡ bytes = ap (take (length bytes)) split ∙ take-append_seam bytes rest in
@@ -31,7 +31,7 @@ same_length m n a b = elim (cases_lt m n) [
   ]
 ]
 
--- the record of its fields
+-- an attempt is the record of its fields
 attempt_is : (s t : AttemptCourse) → s.kept ≡ t.kept → s.address ≡ t.address → s.bytes ≡ t.bytes → s.wrapped ≡ t.wrapped → s.ending ≡ t.ending → s ≡ t
 attempt_is s t a b c d e =
     ap (λ (x : Kept). record { kept = x; address = s.address; bytes = s.bytes; wrapped = s.wrapped; ending = s.ending }) a
@@ -84,7 +84,7 @@ kept_next k l a b e = cc
 address_next : (k l : Kept) (a b : ℕ) → Again k a ≡ Again l b → a ≡ b
 address_next k l a b e = cc
 
--- as many attempts are the same, and lead to the same
+-- two chains of as many attempts are the same, and lead to the same
 chain_same : (part : PartData) (flash : List ℕ) (a b : List AttemptCourse) (x y : Next) → length a ≡ length b → LeadsTo part flash a x → LeadsTo part flash b y → (a ≡ b) × (x ≡ y)
 chain_same part flash [] [] x y n p q = (refl, p ∙ sym q)
 chain_same part flash [] (t ∷ b) x y n p q = absurd (omega (arith, n))

@@ -11,13 +11,14 @@ use Rattle.x7_engine.specs.Startup.{phase_by, startup_progress}
 use Rattle.x7_engine.specs.State.{history_by, state_of, first_stop_of_bytes, taken_by, why_stopped}
 use Rattle.x7_engine.specs.Stop.{Stopped}
 use Rattle.x7_engine.specs.declared.kept.Kept.{Kept}
-use Rattle.x7_engine.specs.declared.regs.Regs.{Regs}
+use Rattle.x7_engine.specs.declared.snapshot.Snapshot.{Snapshot}
 use Rattle.x7_engine.proofs.AlikeLemmas.{alike_state, alike_stop}
 use Rattle.x7_engine.proofs.FallbackLemmas.{kept_stop}
 use Rattle.x7_boot.specs.Attempt.{EndsFirst, IsFlashAttempt, AttemptCourse, ending_at, ending_by}
 use Rattle.x7_boot.specs.declared.attempt.Ending.TheVariants.{Started, Failed}
 
--- each prefix of the bytes that an attempt took, and the same of other bytes, end it and another attempt alike
+-- the attempt `u` takes as many bytes of `other` as `t` took of `from`, and each prefix of `other` up to there ends `u`
+-- as the prefix of `from` of the same length ends `t`
 pub record EndsAlike (part : PartData) (from other : List ℕ) (t u : AttemptCourse) : Type 0 where
   pub bytes : u.bytes ≡ take (length t.bytes) other
   pub long : length t.bytes ≤ length other
@@ -70,7 +71,7 @@ attempt_over part flash other t (inr x) in_flash e = let both : true ≡ false =
 
 alike_ending : (part : PartData) (kept : Kept) (one other : List ℕ) → AreAlike one other → ending_at part kept one ≡ ending_at part kept other
 alike_ending part kept one other a =
-    ap (λ (r : Regs). if r.phase == 7 then Some Started else ending_by (why_stopped (first_stop_of_bytes part kept one))) (alike_state part kept one other a false)
+    ap (λ (r : Snapshot). if r.phase == 7 then Some Started else ending_by (why_stopped (first_stop_of_bytes part kept one))) (alike_state part kept one other a false)
     ∙ ap (λ (o : Option Stopped). if (state_of part kept false other).phase == 7 then Some Started else ending_by (why_stopped o)) (alike_stop part kept one other a)
 
 abbrev pub alike_attempt : AttemptCourse → List ℕ → AttemptCourse

@@ -23,7 +23,7 @@ pages_on_promote flash test cache new e are = subst (λ (k : LruCache ℕ (Vec �
 same_number : (a b : ℕ) → nat_eq a b ≡ true → b ≡ a
 same_number a b e = grind arith
 
--- with one more
+-- the pages of a cache with one more
 pub pages_put : (flash : FlashState) (cache : LruCache ℕ (Vec ℕ Global)) (number : ℕ) (bytes : Vec ℕ Global) → ArePages flash cache.entries → IsRestOfPage flash (number * page_size) bytes.items
     → ArePages flash (put_entries nat_eq cache number bytes)
 pages_put flash cache number bytes are here page c = elim (Contains-put_entries nat_eq cache number bytes page c) [
@@ -93,7 +93,7 @@ pages_split flash number count index stop cache new page block lent prefix e f g
 pub there_put : (cache : LruCache ℕ (Vec ℕ Global)) (number : ℕ) (page : Vec ℕ Global) → IsSome (lookup (nat_eq number) (put_entries nat_eq cache number page))
 there_put cache number page = rw (lookup-put_entries nat_eq cache number page nat_eq_equiv) refl
 
--- a page that was there is there
+-- a page that was in the cache is found after it is promoted
 pub there_promoted : (test : ℕ → Bool) (pages : Pages) → is_some (lookup test pages) ≡ true → IsSome (lookup test (promoted test pages))
 there_promoted test pages e = by (lookup_entry test pages) refl
   where

@@ -1,4 +1,4 @@
--- Histories in which no DESYNC is executed after a START: startup begins nowhere in them.
+-- Histories in which no DESYNC is executed after a START: the phase of startup is nowhere above 0.
 use Rattle.std.proofs.Common.{◌≡◌, ◌==◌, ◌<◌, ◌⊎◌, inl, inr, ℕ, Bool, true, false, if◌then◌else◌, Option, None, Some, List, [], ◌∷◌, ◌++◌, drop, take, length, refl, ap, sym, subst, ◌∙◌, take-append-drop, arith}
 use Rattle.std.specs.Prelude.{nat_lt}
 use Rattle.std.proofs.lemmas.Bool.Decides.{nat_tests}
@@ -17,54 +17,54 @@ use Rattle.x7_boot.specs.Attempt.{ending_at, ending_by}
 use Rattle.x7_boot.proofs.TookLemmas.{ends_by_stop}
 
 -- no START is executed
-abbrev pub NoStart : History → Type 0
-NoStart [] = Unit {0}
-NoStart (e ∷ h) = (executes 5 h e.access ≡ false) × NoStart h
+abbrev pub NoStartExecuted : History → Type 0
+NoStartExecuted [] = Unit {0}
+NoStartExecuted (e ∷ h) = (executes 5 h e.access ≡ false) × NoStartExecuted h
 
--- no DESYNC is executed after one
-abbrev pub NeverStarts : History → Type 0
-NeverStarts [] = Unit {0}
-NeverStarts (e ∷ h) = ((executes 13 h e.access ≡ false) ⊎ NoStart h) × NeverStarts h
+-- no DESYNC is executed after a START
+abbrev pub NoDesyncAfterStart : History → Type 0
+NoDesyncAfterStart [] = Unit {0}
+NoDesyncAfterStart (e ∷ h) = ((executes 13 h e.access ≡ false) ⊎ NoStartExecuted h) × NoDesyncAfterStart h
 
-none_there : (newer older : History) (e : Entry) → NoStart (newer ++ e ∷ older) → executes 5 older e.access ≡ true → ⊥
+none_there : (newer older : History) (e : Entry) → NoStartExecuted (newer ++ e ∷ older) → executes 5 older e.access ≡ true → ⊥
 none_there [] older e none is = let both : true ≡ false = sym is ∙ none.0 in absurd (cc)
 none_there (x ∷ newer) older e none is = none_there newer older e none.1 is
 
--- there is no such pair of entries
-no_pair : (newer between older : History) (desync start : Entry) → NeverStarts (newer ++ desync ∷ (between ++ start ∷ older)) → executes 13 (between ++ start ∷ older) desync.access ≡ true → executes 5 older start.access ≡ true → ⊥
+-- there is no DESYNC after a START
+no_pair : (newer between older : History) (desync start : Entry) → NoDesyncAfterStart (newer ++ desync ∷ (between ++ start ∷ older)) → executes 13 (between ++ start ∷ older) desync.access ≡ true → executes 5 older start.access ≡ true → ⊥
 no_pair [] between older desync start (inl other, rest) d s = let both : true ≡ false = sym d ∙ other in absurd (cc)
 no_pair [] between older desync start (inr none, rest) d s = none_there between older start none s
 no_pair (x ∷ newer) between older desync start never d s = no_pair newer between older desync start never.1 d s
 
--- startup begins nowhere in fewer bytes either
-pub never_until : (n : ℕ) (h : History) → NeverStarts h → NeverStarts (until n h)
+-- in the history of fewer bytes no DESYNC is executed after a START either
+pub never_until : (n : ℕ) (h : History) → NoDesyncAfterStart h → NoDesyncAfterStart (until n h)
 never_until n [] never = tt
 never_until n (e ∷ h) never = by (nat_lt n e.place) (never_until n h never.1)
   where
-    by : (b : Bool) → NeverStarts (until n h) → NeverStarts (if b then until n h else e ∷ h)
+    by : (b : Bool) → NoDesyncAfterStart (until n h) → NoDesyncAfterStart (if b then until n h else e ∷ h)
     by true less = less
     by false less = never
 
 -- ---- of bytes
 
-never_taken : (part : PartData) (kept : Kept) (bytes : List ℕ) → NeverStarts (history_of bytes) → NeverStarts (history_taken part kept bytes)
+never_taken : (part : PartData) (kept : Kept) (bytes : List ℕ) → NoDesyncAfterStart (history_of bytes) → NoDesyncAfterStart (history_taken part kept bytes)
 never_taken part kept bytes never = by (first_stop_of_bytes part kept bytes)
   where
-    by : (o : Option Stopped) → NeverStarts (history_by o (history_of bytes))
+    by : (o : Option Stopped) → NoDesyncAfterStart (history_by o (history_of bytes))
     by None = never
     by (Some s) = never_until (last_counted s.why s.place) (history_of bytes) never
 
--- startup hasn't begun
-phase_none : (part : PartData) (kept : Kept) (wrapped : Bool) (bytes : List ℕ) → AreBytes bytes → NeverStarts (history_of bytes) → 0 < (state_of part kept wrapped bytes).phase → ⊥
+-- the phase of startup isn't above 0
+phase_none : (part : PartData) (kept : Kept) (wrapped : Bool) (bytes : List ℕ) → AreBytes bytes → NoDesyncAfterStart (history_of bytes) → 0 < (state_of part kept wrapped bytes).phase → ⊥
 phase_none part kept wrapped bytes fits never late =
     let s : HasStartAndDesync part.idcode (history_taken part kept bytes) (taken_of part kept bytes) = phase_started part kept wrapped bytes fits late in
-    no_pair s.newer s.between s.older s.desync s.start (subst NeverStarts s.split (never_taken part kept bytes never)) s.desync_is s.start_is
+    no_pair s.newer s.between s.older s.desync s.start (subst NoDesyncAfterStart s.split (never_taken part kept bytes never)) s.desync_is s.start_is
 
 -- phase 7 is a phase above 0
 pub seven_late : (n : ℕ) → (n == 7) ≡ true → 0 < n
 seven_late n e = grind (arith, e, nat_tests)
 
-pub never_seven : (part : PartData) (kept : Kept) (bytes : List ℕ) → AreBytes bytes → NeverStarts (history_of bytes) → ((state_of part kept false bytes).phase == 7) ≡ false
+pub never_seven : (part : PartData) (kept : Kept) (bytes : List ℕ) → AreBytes bytes → NoDesyncAfterStart (history_of bytes) → ((state_of part kept false bytes).phase == 7) ≡ false
 never_seven part kept bytes fits never = by ((state_of part kept false bytes).phase == 7) refl
   where
     by : (b : Bool) → ((state_of part kept false bytes).phase == 7) ≡ b → b ≡ false
@@ -93,8 +93,8 @@ prefix_goes part kept k bytes fits none = by (first_stop_of_bytes part kept (tak
 pub goes_on : (part : PartData) (kept : Kept) (bytes : List ℕ) → ((state_of part kept false bytes).phase == 7) ≡ false → first_stop_of_bytes part kept bytes ≡ None → ending_at part kept bytes ≡ None
 goes_on part kept bytes early none = ends_by_stop part kept bytes early ∙ ap (λ (o : Option Stopped). ending_by (why_stopped o)) none
 
--- nothing ends an attempt at fewer bytes, where startup begins nowhere and those have no stop
-pub prefix_open : (part : PartData) (kept : Kept) (k : ℕ) (bytes : List ℕ) → AreBytes bytes → NeverStarts (history_of bytes) → first_stop_of_bytes part kept (take k bytes) ≡ None → ending_at part kept (take k bytes) ≡ None
+-- nothing ends an attempt at fewer bytes, where no DESYNC is executed after a START and those have no stop
+pub prefix_open : (part : PartData) (kept : Kept) (k : ℕ) (bytes : List ℕ) → AreBytes bytes → NoDesyncAfterStart (history_of bytes) → first_stop_of_bytes part kept (take k bytes) ≡ None → ending_at part kept (take k bytes) ≡ None
 prefix_open part kept k bytes fits never none =
     goes_on part kept (take k bytes)
-    (never_seven part kept (take k bytes) (all_take (λ b. b < 256) k bytes fits) (subst NeverStarts (sym (prefix_history k bytes fits)) (never_until (length (take k bytes)) (history_of bytes) never))) none
+    (never_seven part kept (take k bytes) (all_take (λ b. b < 256) k bytes fits) (subst NoDesyncAfterStart (sym (prefix_history k bytes fits)) (never_until (length (take k bytes)) (history_of bytes) never))) none

@@ -40,7 +40,7 @@ ends_started part kept bytes e = chosen ((state_of part kept false bytes).phase 
 pub ends_by_stop : (part : PartData) (kept : Kept) (bytes : List ℕ) → ((state_of part kept false bytes).phase == 7) ≡ false → ending_at part kept bytes ≡ ending_by (why_stopped (first_stop_of_bytes part kept bytes))
 ends_by_stop part kept bytes e = other ((state_of part kept false bytes).phase == 7) (Some Started) (ending_by (why_stopped (first_stop_of_bytes part kept bytes))) e
 
--- where nothing has stopped the device
+-- what ends an attempt where nothing has stopped the device
 pub ends_going : (part : PartData) (kept : Kept) (bytes : List ℕ) → first_stop_of_bytes part kept bytes ≡ None → ending_at part kept bytes ≡ (if phase_by part (startup_progress (history_of bytes) (length bytes)) == 7 then Some Started else None)
 ends_going part kept bytes none =
     ap (λ (o : Option Stopped). if phase_by part (startup_progress (history_by o (history_of bytes)) (taken_by o (length bytes))) == 7 then Some Started else ending_by (why_stopped o)) none
@@ -69,7 +69,7 @@ none_due part kept d bytes read (fed.ReadFull n) dropping a = absurd (subst (λ 
 failed_at : (f : Fault) (cause : Option Cause) → cause ≡ failure_of (Some f) false → ending_by (Some (stop.Fault f)) ≡ failed_by cause
 failed_at f cause e = ap failed_by (sym e)
 
--- what it does to an attempt in which startup hasn't ended by then
+-- what a feed does to an attempt in which startup hasn't ended by then
 steps_to : (part : PartData) (kept : Kept) (d : DeviceState) (bytes : List ℕ) (read : ReadBufState) (answer : Fed) (cause : Option Cause) → read.most ≡ None
     → AnswersAt (past_in_flash part kept bytes) d read answer → has_started part kept bytes ≡ false → cause ≡ failure_of (fault_of_stop (why_stopped (first_stop_of_bytes part kept bytes))) false
     → StepsTo part kept bytes (step_by answer cause)

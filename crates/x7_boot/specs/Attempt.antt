@@ -26,7 +26,8 @@ abbrev pub failed_by : Option Cause → Option Ending
 failed_by None = None
 failed_by (Some cause) = Some (Failed cause)
 
--- what a stop ends an attempt by: an obeyed IPROG, or a fault Id, Crc or Watchdog; another fault doesn't end it
+-- what a stop ends an attempt by, if there is one: an obeyed IPROG, or a fault Id, Crc or Watchdog; another fault
+-- doesn't end it
 abbrev pub ending_by : Option StopCause → Option Ending
 ending_by (Some stop.Iprog) = Some Iprog
 ending_by why = failed_by (failure_of (fault_of_stop why) false)
@@ -36,8 +37,8 @@ abbrev pub ending_at : PartData → Kept → List ℕ → Option Ending
 ending_at part kept bytes =
     if (state_of part kept false bytes).phase == 7 then Some Started else ending_by (why_stopped (first_stop_of_bytes part kept bytes))
 
--- an attempt: what its device kept over the reset, its address in the flash, the bytes that the device took, whether
--- the flash ended before anything ended the attempt, and how the attempt ended
+-- an attempt: what its device kept over the reset, its address in the flash, in bytes, the bytes that the device took,
+-- whether the flash ended before anything ended the attempt, and how the attempt ended
 pub record AttemptCourse : Type 0 where
   pub kept : Kept
   pub address : ℕ
@@ -49,7 +50,7 @@ pub record AttemptCourse : Type 0 where
 abbrev pub attempt_end : AttemptCourse → ℕ
 attempt_end t = t.address + length t.bytes
 
--- nothing ends an attempt at fewer than `n` of `from`, the flash's bytes from the attempt's address on
+-- nothing ends an attempt at fewer than `n` bytes of `from`, which is the flash from the attempt's address on
 abbrev pub NoneBefore : PartData → Kept → List ℕ → ℕ → Type 0
 NoneBefore part kept from n = (k : ℕ) → k < n → ending_at part kept (take k from) ≡ None
 
@@ -86,8 +87,8 @@ step_by (fed.Stopped n) None = Stops
 step_by fed.All cause = GoesOn
 step_by (fed.ReadFull n) cause = GoesOn
 
--- what the bytes taken do to an attempt that fewer of them hadn't ended: it goes on, it ends, or its device stops,
--- which ends no attempt before the flash's end
+-- what the bytes taken do to an attempt that fewer of them hadn't ended: it goes on; or it ends; or its device stops at
+-- a fault that ends no attempt, which then lasts to the flash's end
 abbrev pub StepsTo : PartData → Kept → List ℕ → AttemptStep → Type 0
 StepsTo part kept bytes GoesOn = (first_stop_of_bytes part kept bytes ≡ None) × (ending_at part kept bytes ≡ None)
 StepsTo part kept bytes (Ends e) = ending_at part kept bytes ≡ Some e
@@ -97,8 +98,8 @@ StepsTo part kept bytes Stops = IsSome (first_stop_of_bytes part kept bytes) × 
 abbrev pub past_in_flash : PartData → Kept → List ℕ → Past
 past_in_flash part kept bytes = record { part = part; kept = kept; wrapped = false; bytes = bytes }
 
--- a device with this past took the first `count` bytes of a piece, up to what ended its attempt or stopped it: all of
--- the piece where the attempt goes on
+-- a device that had the past `p` took the first `count` bytes of a piece, up to what ended its attempt or stopped the
+-- device, all of the piece where the attempt goes on; then no word that it read out is due
 pub record TookPiece (p : Past) (d : DeviceState) (piece : List ℕ) (step : AttemptStep) : Type 0 where
   pub count : ℕ
   pub within : count ≤ length piece
@@ -114,8 +115,8 @@ TakesPage old page step new =
     (part : PartData) (kept : Kept) (bytes : List ℕ) → DeviceStandsFor part kept false old bytes → first_stop_of_bytes part kept bytes ≡ None → ending_at part kept bytes ≡ None
     → TookPiece (past_in_flash part kept bytes) new page step
 
--- a device can take `more` bytes of a page: it is in an attempt that nothing has ended, and all its bytes with these
--- are at most `taken_bytes_limit`
+-- a device can take `more` bytes of a page: it has no stop, is in an attempt that nothing has ended, and all its bytes
+-- with these are at most `taken_bytes_limit`
 pub record CanTakePage (d : DeviceState) (more : ℕ) : Type 0 where
   pub part : PartData
   pub kept : Kept
@@ -144,8 +145,8 @@ pub record AttemptEnds (a : AttemptStart) (flash : List ℕ) (d : DeviceState) (
   pub ending_is : course.ending ≡ ending
   pub device : IsDeviceOf a.part d course
 
--- an attempt that nothing has ended took the bytes of a flash from its address up to a place, and left the device `d`;
--- the bytes are the flash's, where these are known
+-- an attempt that nothing has ended took the bytes of a flash from its address up to a place, and left the device `d`,
+-- without a stop and with no word due; the bytes are the flash's, where these are known
 pub record IsUnderWay (a : AttemptStart) (known : Option (List ℕ)) (d : DeviceState) (place : ℕ) : Type 0 where
   pub bytes : List ℕ
   pub stands : DeviceStandsFor a.part a.kept false d bytes

@@ -3,8 +3,9 @@
 --
 --     the attempt ended by     then
 --     phase 7                  the boot has started
---     IPROG                    an attempt at the start address in WBSTAR; after 16 attempts that all ended so, a loop
---     a failure                a fallback at address 0; the boot stops where the attempt is one, or CTL0 forbids it
+--     IPROG                    an attempt at the start address in WBSTAR; from attempt 16 on, a loop
+--     a failure                a fallback at address 0; where the failed attempt is a fallback, or CTL0 forbids
+--                              fallbacks, the boot stops
 use Rattle.std.specs.Prelude.{◌≡◌, ℕ, ◌+◌, ◌*◌, ◌==◌, ◌||◌, nat_le, if◌then◌else◌, List, [], ◌∷◌, length, map, reverse, Option, None}
 use Rattle.x7_words.specs.Flash.{IfKnown}
 use Rattle.x7_words.specs.Word.{AreBytes, field_of}
@@ -16,7 +17,7 @@ use Rattle.x7_engine.specs.Kept.{is_fallback}
 use Rattle.x7_engine.specs.Standing.{DeviceState, NoWordDue}
 use Rattle.x7_engine.specs.State.{kept_after, state_of}
 use Rattle.x7_engine.specs.declared.kept.Kept.{Kept}
-use Rattle.x7_engine.specs.declared.regs.Regs.{Regs}
+use Rattle.x7_engine.specs.declared.snapshot.Snapshot.{Snapshot}
 use Rattle.x7_boot.specs.Attempt.{AttemptStart, IsDeviceOf, IsFlashAttempt, AttemptCourse}
 use Rattle.x7_boot.specs.declared.attempt.Ending.{Ending}
 use Rattle.x7_boot.specs.declared.attempt.Ending.TheVariants as ending
@@ -35,12 +36,13 @@ abbrev pub start_address_bits : ℕ
 start_address_bits = 29
 
 -- the place in the flash, in bytes, that WBSTAR names, for a part of which one step of the start address stands for
--- `unit` bytes: the word's bits 28:0, or, for a large unit, that many times its bits 23:0
+-- `unit` bytes: bits 28:0 of the word, in bytes; where `unit` is `large_start_unit`, bits 23:0 of it in steps of that
+-- many bytes
 abbrev pub start_address : ℕ → ℕ → ℕ
 start_address unit wbstar = if unit == large_start_unit then large_start_unit * field_of 0 large_start_address_bits wbstar else field_of 0 start_address_bits wbstar
 
 -- the state of a device at the end of an attempt
-abbrev pub end_state : PartData → AttemptCourse → Regs
+abbrev pub end_state : PartData → AttemptCourse → Snapshot
 end_state part t = state_of part t.kept t.wrapped t.bytes
 
 -- the most attempts of a boot that may end by IPROG; the fallback may be one attempt more
@@ -85,7 +87,7 @@ pub record BootedState : Type 0 where
   pub end : BootEnd
   pub device : DeviceState
 
--- what a boot came to is the boot of a part from a flash of these bytes
+-- `b` is what a boot of the part from a flash of these bytes comes to
 pub record IsBoot (part : PartData) (flash : List ℕ) (b : BootedState) : Type 0 where
   pub last : AttemptCourse
   pub older : List AttemptCourse
@@ -93,8 +95,8 @@ pub record IsBoot (part : PartData) (flash : List ℕ) (b : BootedState) : Type 
   pub attempts : b.attempts ≡ reverse (map tried (last ∷ older))
   pub device : IsDeviceOf part b.device last
 
--- What a boot of a part comes to, over a flash of which these bytes are known, or none: it is the boot of the part from
--- them, its device is one of the part, and owes no word that it read out.
+-- What a boot of a part comes to: where the flash's bytes are known, and are bytes, the boot is that of the part from
+-- them; its device is one of the part, and owes no word that it read out.
 pub record BootsTo (part : PartData) (known : Option (List ℕ)) (b : BootedState) : Type 0 where
   pub booted : IfKnown known (λ all. AreBytes all → IsBoot part all b)
   pub keeps_part : b.device.part ≡ part

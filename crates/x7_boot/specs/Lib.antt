@@ -2,6 +2,6 @@ pub mod Attempt
 pub mod Boot
 pub mod Text
 pub mod Checked
-pub mod Boots
+pub mod BootCourse
 pub mod Image
 pub mod Pages

@@ -1,4 +1,4 @@
--- Pages of a flash, and blocks of pages that are read at once (this project's choice).
+-- Pages of a flash, blocks of pages that are read at once, and the faults of such reads (this project's choice).
 use Rattle.std.specs.Prelude.{◌≡◌, ℕ, ◌+◌, ◌-◌, ◌*◌, ◌/◌, ◌%◌, ◌<◌, ◌≤◌, min, List, length, slice_range, IsSome, Contains, Vec, nat_eq, Result, Ok, Err}
 use Rattle.std.specs.declared.alloc.Global.{Global}
 use Rattle.std.specs.Map.{lookup}
@@ -44,8 +44,8 @@ pub record IsBlock (flash : FlashState) (number count : ℕ) (bytes : List ℕ) 
   pub long : length bytes ≡ block_end number count flash.extent - number * page_size
   pub bytes_are : IfKnown flash.bytes (λ all. bytes ≡ slice_range all (number * page_size) (block_end number count flash.extent))
 
--- what loading page `number` came to: the page was there, or it is the first of `count` pages that were read into
--- `block`
+-- what loading page `number` came to: where the page was there, nothing is said; else it is the first of `count` pages,
+-- one at least, that were read into `block`
 abbrev pub IsLoaded : FlashState → ℕ → List ℕ → Loaded → Type 0
 IsLoaded flash number block Cached = Unit {0}
 IsLoaded flash number block (Read count) = (0 < count) × IsBlock flash number count block
@@ -74,8 +74,8 @@ ArePages flash pages = (page : ℕ × Vec ℕ Global) → Contains pages page �
 abbrev pub KeepsPages : List ℕ → ℕ → ℕ → Pages → Pages → Type 0
 KeepsPages block number count old new = (flash : FlashState) → IsBlock flash number count block → ArePages flash old → ArePages flash new
 
--- of whatever flash these are pages, and the block the one that was loaded: `bytes` are the flash's from the place
--- `place` on
+-- of whatever flash that goes past the place `place`, of which these are pages, and the block the one that was loaded:
+-- `bytes` are the flash's from that place on
 abbrev pub HoldsFrom : Pages → List ℕ → ℕ → Loaded → List ℕ → Type 0
 HoldsFrom pages block place loaded bytes =
     (flash : FlashState) → place < flash.extent → ArePages flash pages → IsLoaded flash (place / page_size) block loaded → AreBytesFrom flash place bytes

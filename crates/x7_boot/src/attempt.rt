@@ -41,7 +41,7 @@ fn failure_of(fault: Option<Fault>) -> Option<Cause>
 }
 
 /// What a feed with this answer does to an attempt in which startup has not ended, where the device has this cause of a
-/// failure.
+/// failure, if any.
 fn step_by(fed: Fed, cause: Option<Cause>) -> AttemptStep
     ensures { result ≡ step_by fed cause }
 {
@@ -55,7 +55,8 @@ fn step_by(fed: Fed, cause: Option<Cause>) -> AttemptStep
     }
 }
 
-/// Gives a device bytes of a flash, up to what ends the attempt or stops the device.
+/// Gives a device bytes of a flash, up to what ends its attempt (the end of startup, a failure or an obeyed IPROG) or
+/// stops the device otherwise. Says what they did to the attempt. Words read out are dropped.
 pub(crate) fn take_page(device: &mut Device, page: &[u8]) -> AttemptStep
     requires { CanTakePage device.old (length page.now) }
     ensures { TakesPage device.old page.now result device.new }

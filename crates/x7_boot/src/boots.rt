@@ -111,8 +111,8 @@ const AT_POWER: Kept = Kept {
     before: None,
 };
 
-/// Tries attempt after attempt with one device, which each attempt resets, and adds each to `attempts`, up to the end of
-/// the boot.
+/// Tries attempt after attempt with one device, which each attempt resets, and adds each to `attempts`, up to the end
+/// of the boot.
 fn try_all<F: Flash>(
     device: &mut Device,
     flash: &mut F,

@@ -48,8 +48,8 @@ fn shape_of(golden: u64, update: u64) -> Option<ImageShape>
     })
 }
 
-/// A slot of the first sector with this switch word, 32 bytes: where the switch word is the sync word, a device that
-/// finds it, and isn't in fallback, goes to the start address.
+/// A slot of the first sector, 32 bytes, with this switch word and this start address: where the switch word is the
+/// sync word, a device that finds it, and isn't in fallback, goes to the start address.
 #[tactic(auto, unfolding(crate::specs::Image::slot))]
 fn slot(switch: u32, start: u32) -> [u8; 32]
     ensures { result ≡ slot switch start }

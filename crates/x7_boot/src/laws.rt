@@ -7,12 +7,14 @@ ghost use Rattle.x7_engine.specs.declared.kept.Kept.{Kept};
 ghost use Rattle.x7_boot.specs.Attempt.{IsFlashAttempt, AttemptCourse, attempt_end};
 ghost use Rattle.x7_boot.specs.Boot.{BootedState, HasBoot, IsBoot, LeadsToEnd, end_state};
 ghost use Rattle.x7_boot.specs.Checked.{HasChecked};
-ghost use Rattle.x7_boot.specs.Boots.{BootCourse, IsCourse, course_along, course_of};
+ghost use Rattle.x7_boot.specs.BootCourse.{BootCourse, IsCourse, course_along, course_of};
 ghost use Rattle.x7_boot.specs.declared.attempt.Ending.TheVariants as ending;
 ghost use Rattle.x7_boot.specs.declared.boots.BootEnd.{BootEnd};
 ghost use Rattle.x7_boot.specs.declared.boots.BootEnd.TheVariants as boot_end;
 
-/// Over a flash of bytes an attempt that started made its checks, and so did the last one of a boot that started.
+/// Over a flash of bytes an attempt that started passed its checks (`HasChecked`): START was executed after the part's
+/// IDCODE was written, and DESYNC after START, and no check and no idcode before the last byte taken was wrong. The
+/// last attempt of a boot that started passed them too.
 pub fn starts_are_checked()
     ensures attempt { (part : PartData) (flash : List ℕ) (t : AttemptCourse) → AreBytes flash → IsFlashAttempt part flash t → t.ending ≡ ending.Started
         → HasChecked part t.kept t.bytes }
@@ -20,8 +22,9 @@ pub fn starts_are_checked()
         → HasChecked part is.last.kept is.last.bytes }
 {}
 
-/// Where startup has begun its checks were made: after any bytes, at the end of an attempt over a flash of bytes, and
-/// at the end of a boot from such a flash, whether the attempt or the boot started or not.
+/// Where the phase of startup is above 0 the checks (`HasChecked`) were passed: after any bytes, at the end of an
+/// attempt over a flash of bytes, and at the end of a boot from such a flash, whether the attempt or the boot started
+/// or not.
 pub fn startup_is_checked()
     ensures state { (part : PartData) (kept : Kept) (wrapped : Bool) (bytes : List ℕ) → AreBytes bytes → 0 < (state_of part kept wrapped bytes).phase
         → HasChecked part kept bytes }

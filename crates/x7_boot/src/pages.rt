@@ -13,8 +13,8 @@ pub(crate) const PAGE_SIZE: u64 = 4_096;
 /// How many pages are read at once at most.
 pub(crate) const MOST_PAGES_AT_ONCE: u64 = 16;
 
-/// Reads `count` pages of a flash into `block`, from page `number`, from 0, on, up to the flash's end where that comes
-/// first.
+/// Reads `count` pages of a flash into `block`, from page `number` on, counted from 0, or up to the flash's end where
+/// that comes first.
 pub(crate) fn read_block<F: Flash>(
     flash: &mut F,
     number: u64,

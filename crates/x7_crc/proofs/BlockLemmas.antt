@@ -1,9 +1,8 @@
 -- Four writes to one register at once.
 use Rattle.std.proofs.Common.{◌≡◌, ℕ, zero, suc, ◌+◌, ◌*◌, ◌^◌, ◌<◌, ◌≤◌, List, [], ◌∷◌, ◌++◌, length, bit_xor, refl, sym, ap, ◌∙◌, arith, lit<, drop, get_or, add-one, drop-cons, take, append_assoc, ◌-◌}
-use Rattle.x7_words.proofs.ListLemmas.{map_append}
 use Rattle.std.specs.Int.Bits.{xor_assoc, xor_zero_r}
 use Rattle.std.proofs.lemmas.Nat.{xor_comm}
-use Rattle.std.proofs.lemmas.List.{drop_all, drop-drop, length-drop}
+use Rattle.std.proofs.lemmas.List.{drop_all, drop-drop, length-drop, map-append}
 use Rattle.std.specs.List.{flat_map}
 use Rattle.std.specs.Simd.{first_chunks}
 use Rattle.x7_words.proofs.WordLemmas.{words_apart}
@@ -43,7 +42,7 @@ next_check : (v register word : ℕ) (words : List ℕ) → v < 2 ^ 32 →
     check_after v (writes_to register (word ∷ words)) ≡ check_after (check_after_one v register word) (writes_to register words)
 next_check v register word words h = check_after_append v (write_to register word ∷ []) (writes_to register words) h
 
--- the words' parts
+-- a check moved by m bits, and a word added to it, both moved by 37 bits more
 spread2 : (m v a b : ℕ) → advanced 37 (bit_xor (advanced m v) b) ≡ bit_xor (advanced (m + 37) v) (advanced 37 b)
 spread2 m v a b = advanced_xor 37 (advanced m v) b ∙ ap (λ t. bit_xor t (advanced 37 b)) (sym (advanced_add m 37 v))
 
@@ -116,7 +115,7 @@ four_zeros register one two three four e f g h =
 
 -- ---- blocks of a slice
 
--- the four of a list
+-- a list of four by its elements
 pub four_of : (ws : List ℕ) → length ws ≡ 4 → get_or ws 0 0 ∷ get_or ws 1 0 ∷ get_or ws 2 0 ∷ get_or ws 3 0 ∷ [] ≡ ws
 four_of [] e = absurd (omega arith)
 four_of (a ∷ []) e = absurd (omega arith)
@@ -144,7 +143,7 @@ blocks_and_rest v register prefix whole n bs h l e f =
     let b = words_of_bytes (drop (n * 16) bs) in
     f ∙ ap (λ x. check_after x (writes_to register b)) e
     ∙ sym (check_after_append v (writes_to register a) (writes_to register b) h)
-    ∙ ap (check_after v) (sym (map_append (write_to register) a b) ∙ ap (writes_to register) (sym (words_by_blocks n bs l)))
+    ∙ ap (check_after v) (sym (map-append (write_to register) a b) ∙ ap (writes_to register) (sym (words_by_blocks n bs l)))
 
 -- the check of a slice after one block more
 pub block_taken : (v register i next whole : ℕ) (blocks : List (List ℕ)) → v < 2 ^ 32 → i < length blocks →
@@ -157,7 +156,7 @@ block_taken v register i next whole blocks h k e g =
     let prefix : flat_map words_of_bytes (drop i blocks) ≡ a ++ b = rw (add-one, drop-cons blocks i []) refl in
     ap (λ x. check_after x (writes_to register b)) e
     ∙ sym (check_after_append v (writes_to register a) (writes_to register b) h)
-    ∙ ap (check_after v) (sym (map_append (write_to register) a b) ∙ ap (writes_to register) (sym prefix)) ∙ g
+    ∙ ap (check_after v) (sym (map-append (write_to register) a b) ∙ ap (writes_to register) (sym prefix)) ∙ g
 
 pub blocks_end : (v register i whole : ℕ) (blocks : List (List ℕ)) → v < 2 ^ 32 → length blocks ≤ i →
     check_after v (writes_to register (flat_map words_of_bytes (drop i blocks))) ≡ whole → v ≡ whole

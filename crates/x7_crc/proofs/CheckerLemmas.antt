@@ -95,14 +95,14 @@ none_of false false false false e = (refl, refl, refl, refl)
 plain_open : (register : ℕ) (h : History) (w : ℕ) → (register == 0) ≡ false → (register == 1) ≡ false → (register == 4) ≡ false → clears h (Write register w) ≡ false
 plain_open register h w a b d = rw (d, b, a) refl
 
-check_fits : (h : History) → running_check h < 2 ^ 32
+pub check_fits : (h : History) → running_check h < 2 ^ 32
 check_fits h = check_after_fits 0 (in_order (checked_writes h))
 
-check_all : (register n : ℕ) (ws : List ℕ) (h : History) → (register == 8) ≡ false → ((h : History) (w : ℕ) → clears h (Write register w) ≡ false)
+pub check_all_folded : (register n : ℕ) (ws : List ℕ) (h : History) → (register == 8) ≡ false → ((h : History) (w : ℕ) → clears h (Write register w) ≡ false)
     → running_check (entered_all n (payload_steps register ws) h) ≡ check_after (running_check h) (writes_to register ws)
-check_all register n [] h e f = sym (check_after_none (running_check h) (check_fits h))
-check_all register n (w ∷ ws) h e f =
-    check_all register (n + 4) ws (entry (Write register w) (n + 4) ∷ h) e f
+check_all_folded register n [] h e f = sym (check_after_none (running_check h) (check_fits h))
+check_all_folded register n (w ∷ ws) h e f =
+    check_all_folded register (n + 4) ws (entry (Write register w) (n + 4) ∷ h) e f
     ∙ ap (λ (c : ℕ). check_after c (writes_to register ws)) (check_folded h register w (n + 4) (f h w) e)
     ∙ sym (check_after_append (running_check h) (write_to register w ∷ []) (writes_to register ws) (check_fits h))
 
@@ -117,6 +117,6 @@ pub plain_words : (register n check held folded : ℕ) (ws : List ℕ) (h : Hist
 plain_words register n check held folded ws h plain e s =
     let p = none_of (register == 0) (register == 1) (register == 4) (register == 8) plain in
     record {
-      check_is = e ∙ ap (λ (c : ℕ). check_after c (writes_to register ws)) s.check_is ∙ sym (check_all register n ws h p.3 (λ g w. plain_open register g w p.0 p.1 p.2));
+      check_is = e ∙ ap (λ (c : ℕ). check_after c (writes_to register ws)) s.check_is ∙ sym (check_all_folded register n ws h p.3 (λ g w. plain_open register g w p.0 p.1 p.2));
       held_is = s.held_is ∙ sym (held_all register n ws h p.2);
     }

@@ -1,13 +1,13 @@
 -- Lemmas on specs/Table: what the entries of a table give.
-use Rattle.std.proofs.Common.{◌≡◌, ◌==◌, ℕ, zero, suc, ◌+◌, ◌-◌, ◌*◌, ◌/◌, ◌%◌, ◌^◌, ◌<◌, Bool, true, false, ◌&&◌, List, [], ◌∷◌, length, get_or, bit_xor, bit_and, refl, sym, ap, ◌∙◌, arith, inl, inr, IsTrue}
+use Rattle.std.proofs.Common.{◌≡◌, ◌==◌, ℕ, zero, suc, ◌+◌, ◌-◌, ◌*◌, ◌/◌, ◌%◌, ◌^◌, ◌<◌, ◌&&◌, List, [], ◌∷◌, length, get_or, bit_xor, bit_and, refl, sym, ap, ◌∙◌, arith, IsTrue, eqb-true}
 use Rattle.std.proofs.Math.Nat.{pow-suc, add-zero, zero-add, mul-one, mul_assoc, mod-lt}
 use Rattle.std.specs.Int.Bits.{xor_zero_r}
 use Rattle.std.proofs.lemmas.Nat.{xor_comm, pow_pos, and_mask, shr_split}
-use Rattle.std.proofs.lemmas.Bool.Decides.{eqb_tells}
 use Rattle.x7_crc.specs.Table.{all_have_advances, has_advances}
 use Rattle.x7_crc.specs.ShiftRegister.{advanced}
 use Rattle.x7_crc.proofs.PolynomialLemmas.{xor_above}
 use Rattle.x7_crc.proofs.ShiftLemmas.{advanced_xor, one_step}
+use Rattle.x7_words.proofs.CaseLemmas.{both_true}
 
 pub advanced_shl : (n y : ℕ) → advanced n (y * 2 ^ n) ≡ y
 unfolding advanced
@@ -33,19 +33,12 @@ advanced_split n v =
 
 -- ---- entries
 
-both : (a b : Bool) → IsTrue (a && b) → IsTrue a × IsTrue b
-both true b t = (refl, t)
-both false b t = absurd (cc)
-
-equal : (x y : ℕ) → IsTrue (x == y) → x ≡ y
-equal x y t = elim (eqb_tells x y) [ inl e ↦ e.1 | inr e ↦ absurd (cc (e.0, t)) ]
-
 pub entry : (n k i : ℕ) (xs : List ℕ) → IsTrue (has_advances n k xs) → i < length xs → get_or xs i 0 ≡ advanced n (k + i)
 entry n k i [] t h = absurd (omega arith)
-entry n k zero (x ∷ xs) t h = rw add-zero (equal x (advanced n k) (both (x == advanced n k) (has_advances n (k + 1) xs) t).0)
+entry n k zero (x ∷ xs) t h = rw add-zero (eqb-true x (advanced n k) (both_true (x == advanced n k) (has_advances n (k + 1) xs) t).0)
 entry n k (suc i) (x ∷ xs) t h =
     let e : k + suc i ≡ k + 1 + i = omega arith in
-    rw e (entry n (k + 1) i xs (both (x == advanced n k) (has_advances n (k + 1) xs) t).1 (omega arith))
+    rw e (entry n (k + 1) i xs (both_true (x == advanced n k) (has_advances n (k + 1) xs) t).1 (omega arith))
 
 pub entry_at : (n i : ℕ) (xs : List ℕ) → IsTrue (has_advances n 0 xs) → i < length xs → get_or xs i 0 ≡ advanced n i
 entry_at n i xs t h = entry n 0 i xs t h ∙ ap (advanced n) (zero-add i)
@@ -99,11 +92,11 @@ pub entry_in_all : (n k i : ℕ) (ts : List (List ℕ)) → IsTrue (all_have_adv
     get_or (get_or ts k []) i 0 ≡ advanced (n + 8 * k) i
 entry_in_all n k i [] t h m = absurd (omega arith)
 entry_in_all n zero i (x ∷ ts) t h m =
-    let p = both (length x == 256) (has_advances n 0 x && all_have_advances (n + 8) ts) t in
-    let len : length x ≡ 256 = equal (length x) 256 p.0 in
+    let p = both_true (length x == 256) (has_advances n 0 x && all_have_advances (n + 8) ts) t in
+    let len : length x ≡ 256 = eqb-true (length x) 256 p.0 in
     let e : n + 8 * 0 ≡ n = omega arith in
-    rw e (entry_at n i x (both (has_advances n 0 x) (all_have_advances (n + 8) ts) p.1).0 (omega arith))
+    rw e (entry_at n i x (both_true (has_advances n 0 x) (all_have_advances (n + 8) ts) p.1).0 (omega arith))
 entry_in_all n (suc k) i (x ∷ ts) t h m =
-    let p = both (length x == 256) (has_advances n 0 x && all_have_advances (n + 8) ts) t in
+    let p = both_true (length x == 256) (has_advances n 0 x && all_have_advances (n + 8) ts) t in
     let e : n + 8 * suc k ≡ n + 8 + 8 * k = omega arith in
-    rw e (entry_in_all (n + 8) k i ts (both (has_advances n 0 x) (all_have_advances (n + 8) ts) p.1).1 (omega arith) m)
+    rw e (entry_in_all (n + 8) k i ts (both_true (has_advances n 0 x) (all_have_advances (n + 8) ts) p.1).1 (omega arith) m)

@@ -26,9 +26,9 @@ abbrev pub bits_of_writes : List RegisterWrite → List Bool
 bits_of_writes [] = []
 bits_of_writes (w ∷ ws) = bits_of_write w.register w.word ++ bits_of_writes ws
 
--- The polynomial whose remainder, mirrored, is the check of n bits after the check `before`: that of the bits, the first
--- of which is its highest coefficient, times x^32, and that of `before`, whose lowest bit is the coefficient of x^31,
--- times x^n.
+-- The polynomial whose remainder, mirrored, is the check of n bits after the check `before`. It is a sum of two: the
+-- polynomial of the bits, whose first is its highest coefficient, times x^32; and that of `before`, whose lowest bit is
+-- the coefficient of x^31, times x^n.
 unfoldable pub dividend : ℕ → List Bool → ℕ
 dividend before bits = bit_xor (mirrored 32 before * 2 ^ length bits) (from_highest bits * 2 ^ 32)
 
@@ -37,7 +37,7 @@ unfoldable pub check_after : ℕ → List RegisterWrite → ℕ
 check_after before writes =
     mirrored 32 (remainder generator 32 (length (bits_of_writes writes)) (dividend before (bits_of_writes writes)))
 
--- `check` is the check after writes, from the check `before` on: the remainder of their bits
+-- `check` is the check after writes, from the check `before` on: mirrored, it is the remainder of their `dividend`
 abbrev pub IsCheckAfter : ℕ → List RegisterWrite → ℕ → Type 0
 IsCheckAfter before writes check = IsRemainder (dividend before (bits_of_writes writes)) generator 32 (mirrored 32 check)
 

@@ -1,5 +1,5 @@
--- The check of a byte list as a stream, and what a value that keeps it stands for (this project's choice: it goes on
--- across sessions and after a faulty word).
+-- The check of a byte list as a stream, what a value that keeps the check stands for, and which registers steer it
+-- (this project's choice: the check goes on across sessions, and after words at which a device would stop).
 use Rattle.std.specs.Prelude.{◌==◌, ◌||◌, Bool, ◌≡◌, ◌≤◌, ℕ, List, length, take}
 use Rattle.x7_regs.specs.Register.{number_of}
 use Rattle.x7_regs.specs.declared.register.Reg.TheVariants.{Cmd, Crc, Far, Lout}
@@ -47,7 +47,7 @@ pub record KeepsCheckOf (c : CheckerState) (bytes : List ℕ) : Type 0 where
   pub within : c.taken ≤ length bytes
   pub checks : HasTaken c.pieces (take c.taken bytes)
 
--- a write to this register may do more to the running check than go into it: it may clear the check, at once or by a
--- later write to FAR, or is left out of it
+-- a write to this register may do to the running check what a write to another can't: clear it, at once or by a later
+-- write to FAR, or be left out of it
 abbrev pub steers_check : ℕ → Bool
 steers_check register = register == number_of Crc || register == number_of Far || register == number_of Cmd || register == number_of Lout

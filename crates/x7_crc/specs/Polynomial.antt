@@ -1,5 +1,5 @@
--- Polynomials over two elements, as numbers: bit i of the number is the coefficient of x^i. So the sum of two is
--- `bit_xor`, and x^n times one is the number times 2^n (this project's choice).
+-- Polynomials over the field of two elements, as numbers: bit i of the number is the coefficient of x^i. So the sum of
+-- two is `bit_xor`, and a polynomial times x^n is its number times 2^n (this project's choice).
 use Rattle.std.specs.Prelude.{◌≡◌, ℕ, zero, suc, ◌+◌, ◌*◌, ◌/◌, ◌%◌, ◌^◌, ◌<◌, Bool, List, [], ◌∷◌, length, bit_xor, nat_lt, if◌then◌else◌}
 
 -- the coefficient that a bit stands for
@@ -23,7 +23,7 @@ pub record IsRemainder (whole divisor degree rest : ℕ) : Type 0 where
   pub below : rest < 2 ^ degree
 
 -- the remainder of a polynomial of degree below `degree` + `n`, by long division: from the highest place down, the
--- divisor is taken away where there is a coefficient
+-- divisor is taken away where the coefficient is 1
 unfoldable pub remainder : ℕ → ℕ → ℕ → ℕ → ℕ
 remainder divisor degree zero whole = whole
 remainder divisor degree (suc n) whole =

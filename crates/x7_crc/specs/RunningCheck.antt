@@ -1,5 +1,6 @@
 -- The running check of a history of accesses: that of its writes since the check was last cleared (UG470, cyclic
--- redundancy check).
+-- redundancy check), but for those of LOUT (this project's choice); and the command that a written word executes after
+-- a history.
 use Rattle.std.specs.Prelude.{◌≡◌, ◌≢◌, ℕ, false, List, [], ◌∷◌, ◌++◌, Option}
 use Rattle.x7_regs.specs.Register.{number_of}
 use Rattle.x7_regs.specs.declared.register.Reg.{Reg}
@@ -18,7 +19,7 @@ pub record IsCheckedWrite (h : History) (register word : ℕ) : Type 0 where
   pub goes_on : clears h (Write register word) ≡ false
   pub other : register ≢ number_of Lout
 
--- the running check of a history: that of its writes since the last access that cleared it
+-- the running check of a history: that of its writes since the last access that cleared it, but for those of LOUT
 abbrev pub running_check : History → ℕ
 running_check h = check_of (in_order (checked_writes h))
 

@@ -1,9 +1,9 @@
--- The shift register that computes the running check, a bit at a time (UG470, cyclic redundancy check; the polynomial is
--- this project's choice).
+-- The shift register that computes the running check, a bit at a time (UG470, cyclic redundancy check; the polynomial
+-- is this project's choice).
 use Rattle.std.specs.Prelude.{ℕ, zero, suc, ◌*◌, ◌/◌, ◌%◌, Bool, List, [], ◌∷◌, bit_xor}
 use Rattle.x7_crc.specs.Polynomial.{coefficient}
 
--- the polynomial of the check with its coefficients in the other order, that of x^31 the lowest bit
+-- the polynomial of the check without x^32, its 32 coefficients in the other order: that of x^31 is the lowest bit
 abbrev pub mirrored_generator : ℕ
 mirrored_generator = 0x82F63B78
 

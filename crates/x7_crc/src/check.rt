@@ -1,5 +1,5 @@
 //! The running check (UG470, cyclic redundancy check): of one write, and of whole words to one register.
-ghost use Rattle.std.specs.Prelude.{◌≡◌, ◌<◌, ◌%◌, ◌++◌, List, [], ◌∷◌, bit_xor, length, ℕ};
+ghost use Rattle.std.specs.Prelude.{◌≡◌, ◌<◌, ◌++◌, List, [], ◌∷◌, bit_xor, length};
 ghost use Rattle.x7_crc.specs.Check.{check_after, check_after_one, check_of, writes_to};
 ghost use Rattle.std.specs.List.{flat_map};
 ghost use Rattle.x7_words.specs.Word.{AreWholeWords, words_of_bytes};
@@ -20,7 +20,8 @@ pub fn fold(before: u32, register: u8, word: u32) -> u32
     fold_by_tables(before, register, word)
 }
 
-/// The check after writes of whole words to one register, in order, for any check before them.
+/// The check after writes of whole words to one register, in order, for any check before them. The words are given as
+/// bytes, the highest of each first.
 pub fn fold_slice(before: u32, register: u8, bytes: &[u8]) -> u32
     requires register { register < reg_number_count }
     requires whole { AreWholeWords bytes.now }
@@ -36,6 +37,7 @@ fn fold_blocks(before: u32, register: u8, blocks: &[[u8; 16]]) -> u32
     requires register { register < reg_number_count }
     ensures { result ≡ check_after before (writes_to register (flat_map words_of_bytes blocks.now)) }
 {
+    // What the register's number adds to four writes, worked out once.
     let zeros = check_of_zeros(register);
     let mut folded = before;
     for block in blocks {

@@ -31,8 +31,8 @@ fn held_after(held: u8, reg: Reg, word: u32) -> u8
     }
 }
 
-/// The check state after a word written to any register. Words to a register that doesn't steer the check are folded
-/// faster, by `fold_slice`.
+/// The check state after a word written to any register. Words to a register that doesn't steer the check
+/// (`steers_check`) are folded faster, by `fold_slice`.
 fn after_written_word(state: CheckState, reg: Reg, word: u32) -> CheckState
     ensures { (h : History) (place : ℕ) → IsCheckState state.check state.held h
         → IsCheckState result.check result.held (entry (Write (number_of reg) word) place ∷ h) }
@@ -44,8 +44,8 @@ fn after_written_word(state: CheckState, reg: Reg, word: u32) -> CheckState
     }
 }
 
-/// The check state after words written to a register, word by word, four bytes each, as it has to be for a register that
-/// steers the check.
+/// The check state after words written to a register, four bytes each, taken word by word, as has to be done for a
+/// register that steers the check.
 fn after_written_words(state: CheckState, reg: Reg, bytes: &[u8]) -> CheckState
     requires whole { AreWholeWords bytes.now }
     ensures { (h : History) (place : ℕ) → IsCheckState state.check state.held h
@@ -59,8 +59,8 @@ fn after_written_words(state: CheckState, reg: Reg, bytes: &[u8]) -> CheckState
     now
 }
 
-/// Whether a write to the register may clear the running check, at once or by a later write to FAR, or stay out of it. A
-/// write to any other register goes into the check, and does no more.
+/// Whether a write to the register may clear the running check, at once or by a later write to FAR, or stay out of it.
+/// A write to any other register goes into the check, and does no more.
 fn steers_check(reg: Reg) -> bool
     ensures { result ≡ steers_check (number_of reg) }
 {
@@ -70,7 +70,8 @@ fn steers_check(reg: Reg) -> bool
     }
 }
 
-/// The register with this number, where a write to it may clear the running check or stay out of it.
+/// The register with this number, where a write to it may clear the running check or stay out of it; `None` for any
+/// other number.
 fn steering_register(register: u8) -> Option<Reg>
     ensures number { IfSome result (λ reg. number_of reg ≡ register) }
     ensures not_steering { IfNone result (steers_check register ≡ false) }
@@ -178,7 +179,7 @@ impl Checker {
         }
     }
 
-    /// The running check of all writes of the bytes, which begin with those of the call before.
+    /// The running check of all writes of the bytes, which are to begin with those of the call before.
     pub fn check_of(&mut self, bytes: &[u8]) -> u32
         requires { KeepsCheckOf self.old bytes.now }
         ensures check { result ≡ check_of_bytes bytes.now }

@@ -1,4 +1,4 @@
-//! Laws of the check, for the proofs of crates above.
+//! Laws of the check. The functions do nothing: their contracts are the laws.
 ghost use Rattle.std.specs.Prelude.{◌≡◌, ◌<◌, ◌*◌, ◌^◌, ◌++◌, false, List, [], ◌∷◌, bit_xor, true, ℕ};
 ghost use Rattle.x7_regs.specs.Register.{number_of, reg_number_count};
 ghost use Rattle.x7_regs.specs.declared.register.Reg.TheVariants.{Lout};
@@ -8,8 +8,9 @@ ghost use Rattle.x7_crc.specs.RunningCheck.{IsCheckedWrite, running_check};
 ghost use Rattle.x7_crc.specs.Polynomial.{from_highest, IsRemainder, mirrored};
 ghost use Rattle.x7_crc.specs.Check.{bits_of_writes, check_after, check_of, check_after_one, generator, IsCheckAfter};
 
-/// The check of writes is the remainder, by the polynomial of CRC-32C, of their bits times x^32; so it is after any
-/// check before them, whose polynomial is added above; and nothing else is.
+/// The check of writes is a number of 32 bits; mirrored, it is the remainder, by the polynomial of CRC-32C, of the
+/// writes' bits times x^32. The check of writes after an earlier check is, mirrored, the remainder of their `dividend`,
+/// in which the earlier check counts; no other number of 32 bits is.
 pub fn checks_are_remainders()
     ensures most { (before : ℕ) (writes : List RegisterWrite) → check_after before writes < 2 ^ 32 }
     ensures remainder { (writes : List RegisterWrite)
@@ -26,7 +27,7 @@ pub fn checks_continue()
         → check_after before (first ++ second) ≡ check_after (check_after before first) second }
 {}
 
-/// The check of one write after any check is that from 0 of the word with the check added.
+/// The check after one write is that of a first write, to the same register, of the word XOR the check before.
 pub fn checks_are_linear()
     ensures { (before register word : ℕ) → before < 2 ^ 32 → register < reg_number_count → word < 2 ^ 32
         → check_after_one before register word ≡ check_after_one 0 register (bit_xor word before) }

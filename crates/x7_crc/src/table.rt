@@ -83,7 +83,8 @@ fn advance_last(check: u32) -> u32
     word_entries(&LAST, BITS_PER_WRITE - BITS_BEFORE_HIGHEST_BYTE, check)
 }
 
-/// The check after the five bits of a register's number, from 0 on.
+/// The check that a check of 0 becomes by the five bits of a register's number: the number, taken as a check, after
+/// five bits of 0.
 #[tactic(auto, unfolding(crate::specs::ShiftRegister::advanced))]
 fn advance_register(register: u8) -> u32
     requires { register < reg_number_count }
@@ -92,8 +93,8 @@ fn advance_register(register: u8) -> u32
     register_entry(&REGISTER, register)
 }
 
-/// The check after `bit_count` bits of 0 and 24 more: the entries for its four bytes, added. The four tables are for
-/// the bytes from the highest down: after `bit_count` bits, and after eight more each.
+/// The check after `bit_count` bits of 0 and 24 more: the XOR of the entries for its four bytes. The four tables are
+/// for the bytes from the highest down: after `bit_count` bits, and after eight more each.
 #[tactic(auto, using(crate::proofs::TableLemmas::four_entries))]
 fn word_entries(tables: &[[u32; 256]; 4], bit_count: u32, check: u32) -> u32
     requires { IsTrue (all_have_advances bit_count tables.now) }

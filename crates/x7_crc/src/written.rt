@@ -8,8 +8,9 @@ ghost use Rattle.x7_crc.specs.RunningCheck.{executed_after, running_check};
 use crate::check::fold;
 use x7_regs::{Command, Reg, command_code_of};
 
-/// The command that a written word executes, where CMD holds `held`: a write to FAR executes `held` again, save DESYNC
-/// and IPROG (this project's choice).
+/// The code of the command that a written word executes, where CMD holds `held`: a write to CMD executes that of the
+/// word's low five bits, and one to FAR `held` again, save DESYNC and IPROG (this project's choice). `None` for a write
+/// that executes none.
 pub fn executed(held: u8, reg: Reg, word: u32) -> Option<u8>
     ensures { result ≡ executed_by held (Write (number_of reg) word) }
 {
@@ -20,7 +21,7 @@ pub fn executed(held: u8, reg: Reg, word: u32) -> Option<u8>
     }
 }
 
-/// Whether a write to FAR executes a command that CMD holds.
+/// Whether a write to FAR executes again the command of code `held`, which CMD holds.
 fn is_executed_again(held: u8) -> bool
     ensures { result ≡ not (held == code_of Command.Desync || held == code_of Command.Iprog) }
 {
@@ -37,8 +38,8 @@ pub fn is_command(command: Command, executed: Option<u8>) -> bool
     }
 }
 
-/// The running check after a written word, which executes a command or none. RCRC and a write to CRC clear it, and LOUT
-/// is not folded (this project's choice).
+/// The running check after a written word, where `executed` is the command that it executes, or `None`. RCRC and a
+/// write to CRC clear the check, which makes it 0; LOUT is not folded (this project's choice), and any other write is.
 pub fn check_after_write(check: u32, reg: Reg, word: u32, executed: Option<u8>) -> u32
     ensures { (h : History) (place : ℕ) → check ≡ running_check h → executed ≡ executed_after h reg word
         → result ≡ running_check (entry (Write (number_of reg) word) place ∷ h) }

@@ -257,7 +257,7 @@ stands_first part stream d s = record { stands = s; taken = s.taken_is; within =
 
 -- ---- what a move comes to
 
--- a device that was fed nothing yet, and one that was fed on
+-- a device that stays is fed nothing, and one that goes forward twice at most as many bytes as it goes forward
 pub fed_none : (d : DeviceState) → IsFedAtMost d d (d.taken - d.taken)
 fed_none d = record { never_less = omega arith; most = omega arith }
 

@@ -20,7 +20,7 @@ use Rattle.x7_engine.specs.Watching.{watchdog_fires}
 use Rattle.x7_engine.proofs.FirstStopLemmas.{no_stop_none, stop_is_first}
 use Rattle.x7_engine.proofs.StateLemmas.{stop_is_final_stop, stop_place, taken_is}
 use Rattle.x7_debug.specs.declared.order.Stop.{Stop}
-use Rattle.x7_engine.specs.declared.regs.End.{End}
+use Rattle.x7_engine.specs.declared.snapshot.End.{End}
 use Rattle.x7_debug.specs.declared.order.Stop.TheVariants as stops-to
 use Rattle.x7_debug.specs.Position.{BeginsAtSoonest, holds_at, holds_in, last_of, state_at_position, until_of}
 use Rattle.x7_debug.specs.Session.{StandsAtPosition}

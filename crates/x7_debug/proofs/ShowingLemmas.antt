@@ -36,7 +36,7 @@ moves_on old mid new n m o s f e = record {
   at = f.at ∙ ap (λ (p : PartData). position_after p mid.stream mid.at o) s.part ∙ ap (λ (t : List ℕ). position_after old.part t mid.at o) s.stream ∙ ap (λ (k : ℕ). position_after old.part old.stream k o) s.at ∙ e;
 }
 
--- what is shown there
+-- what an order shows where a session moved to
 pub shows : (old new : SessionState) (m : ℕ) (o : Order) → MovesTo old new m → order_shown new.part new.stream new.at o ≡ order_shown old.part old.stream m o
 shows old new m o s =
     ap (λ (p : PartData). order_shown p new.stream new.at o) s.part

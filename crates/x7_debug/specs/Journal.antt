@@ -15,8 +15,9 @@ record_room = 64
 abbrev pub record_reach : ℕ
 record_reach = undo_reach
 
--- how many bytes records lead back at least after one move forward by so many bytes or more: four for each but the
--- newest, which may be one byte before the position. After several shorter moves they may lead back less.
+-- how many bytes the records lead back at least after one move forward of at least this length: four for each record
+-- but the newest, which may be just one byte before the position. After several shorter moves they may lead back over
+-- fewer bytes.
 abbrev pub reach : ℕ
 reach = (record_room - 1) * record_reach + 1
 

@@ -1,11 +1,12 @@
--- Positions in a stream: how many of its bytes, from the first on, a new device took (this project's choice).
+-- Positions in a stream (how many of its bytes, from the first on, a new device took), and to which one an order
+-- `until` leads (this project's choice).
 use Rattle.std.specs.Prelude.{◌≡◌, ℕ, ◌+◌, ◌-◌, ◌<◌, ◌≤◌, ◌==◌, Bool, true, false, List, take, unwrap_or}
 use Rattle.std.specs.List.{find, range_with_len}
 use Rattle.x7_part.specs.Part.{PartData}
 use Rattle.x7_memory.specs.FrameMap.{FrameMap}
-use Rattle.x7_engine.specs.declared.regs.End.{End}
-use Rattle.x7_engine.specs.declared.regs.End.TheVariants as at_end
-use Rattle.x7_engine.specs.declared.regs.Regs.{Regs}
+use Rattle.x7_engine.specs.declared.snapshot.End.{End}
+use Rattle.x7_engine.specs.declared.snapshot.End.TheVariants as at_end
+use Rattle.x7_engine.specs.declared.snapshot.Snapshot.{Snapshot}
 use Rattle.x7_engine.specs.Kept.{on_the_bench}
 use Rattle.x7_engine.specs.State.{memory_of_bytes, state_of, taken_of}
 use Rattle.x7_debug.specs.declared.order.Stop.{Stop}
@@ -16,7 +17,7 @@ abbrev pub last_of : PartData → List ℕ → ℕ
 last_of part stream = taken_of part on_the_bench stream
 
 -- the state of the device at position n, but its memory; its attempt isn't wrapped (`false`), since no flash boots it
-abbrev pub state_at_position : PartData → List ℕ → ℕ → Regs
+abbrev pub state_at_position : PartData → List ℕ → ℕ → Snapshot
 state_at_position part stream n = state_of part on_the_bench false (take n stream)
 
 -- the frames of the device at position n
@@ -50,7 +51,8 @@ holds_in (stop.Phase wanted) end phase = phase == wanted
 abbrev pub holds_at : PartData → List ℕ → Stop → ℕ → Bool
 holds_at part stream stop n = holds_in stop (state_at_position part stream n).end (state_at_position part stream n).phase
 
--- startup begins at position n at the soonest: the phase is 0 at each position before n, and n isn't past the last one
+-- the phase of startup is 0 at each position before n, and n isn't past the last one: a phase above 0 comes at position
+-- n at the soonest
 pub record BeginsAtSoonest (part : PartData) (stream : List ℕ) (n : ℕ) : Type 0 where
   pub within : n ≤ last_of part stream
   pub zero : (k : ℕ) → k < n → (state_at_position part stream k).phase ≡ 0

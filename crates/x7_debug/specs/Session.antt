@@ -17,7 +17,7 @@ pub record SessionState : Type 0 where
   pub oldest : ℕ
   pub fed : ℕ
 
--- a new session of a part and a stream: at position 0, without records, and its device was fed nothing
+-- a new session of a part and a stream: at position 0, which is the oldest too, and its device was fed nothing
 pub record IsNewSession (part : PartData) (stream : List ℕ) (s : SessionState) : Type 0 where
   pub part_is : s.part ≡ part
   pub stream_is : s.stream ≡ stream

@@ -1,4 +1,4 @@
--- A session as its fields hold it, and what holds of each session (this project's choice).
+-- The state of a session by the fields of a `Session`, and what holds of these fields (this project's choice).
 use Rattle.std.specs.Prelude.{◌≡◌, ℕ, List}
 use Rattle.x7_engine.specs.Standing.{DeviceState, fed_of}
 use Rattle.x7_debug.specs.Journal.{IsOnStream, JournalState, oldest_by, records_of}

@@ -3,7 +3,7 @@ use Rattle.std.specs.Prelude.{◌≡◌, ℕ, ◌+◌, ◌-◌, List, [], ◌∷
 use Rattle.x7_text.specs.Digits.{hex_word}
 use Rattle.x7_part.specs.Part.{PartData}
 use Rattle.x7_memory.specs.FrameMap.{FrameMap}
-use Rattle.x7_engine.specs.declared.regs.Regs.{Regs}
+use Rattle.x7_engine.specs.declared.snapshot.Snapshot.{Snapshot}
 use Rattle.x7_report.specs.Frames.{frame_text}
 use Rattle.x7_report.specs.State.{end_text, phase_text, reg_text}
 use Rattle.x7_debug.specs.declared.order.Order.{Order}
@@ -11,7 +11,8 @@ use Rattle.x7_debug.specs.declared.order.Order.TheVariants as order
 use Rattle.x7_debug.specs.Position.{last_of, memory_at_position, state_at_position, until_of}
 use Rattle.x7_debug.specs.Session.{MovesTo, SessionState}
 
--- the position that an order brings a session to: moves are cut at 0 and at the last position
+-- the position (a count of bytes) that an order brings a session to from `at`: a move ends at 0 or at the last position
+-- at the farthest, and an order that only shows something leaves the position as it is
 abbrev pub position_after : PartData → List ℕ → ℕ → Order → ℕ
 position_after part stream at (order.Step count) = min (at + count) (last_of part stream)
 position_after part stream at (order.Back count) = at - count
@@ -36,8 +37,8 @@ pub record FollowsSomeOrders (old new : SessionState) (orders : List Order) : Ty
   pub all : orders ≡ done ++ left
   pub follows : FollowsOrders old new done
 
--- the line of where a move led: the position, and where the bytes up to it end
-unfoldable pub position_text : Regs → List ℕ
+-- the line of where a move led: the position, which is the count of bytes taken, and where these end
+unfoldable pub position_text : Snapshot → List ℕ
 position_text r = codes "at " ++ (decimal r.taken ++ (codes " " ++ (end_text r.end ++ codes "\n")))
 
 -- the line of an address where there is no frame
@@ -50,7 +51,7 @@ frame_shown far None = none_text far
 frame_shown far (Some words) = frame_text far words
 
 -- what an order shows where the device has the state `r` and these frames
-abbrev pub shown_by : Order → Regs → FrameMap → List ℕ
+abbrev pub shown_by : Order → Snapshot → FrameMap → List ℕ
 shown_by (order.Step count) r frames = position_text r
 shown_by (order.Back count) r frames = position_text r
 shown_by (order.Go position) r frames = position_text r

@@ -1,5 +1,5 @@
 //! Records of a device on its way, which lead it back.
-ghost use Rattle.std.specs.Prelude.{◌≡◌, ◌≤◌, ◌<◌, ◌+◌, ◌-◌, ◌∷◌, ℕ, List, length, take, IfOk};
+ghost use Rattle.std.specs.Prelude.{◌≡◌, ◌≤◌, ◌<◌, ◌+◌, ◌-◌, ℕ, List, length, IfOk};
 ghost use Rattle.x7_engine.specs.Standing.{CanBeGiven, NoWordDue, fed_of};
 ghost use Rattle.x7_debug.specs.Journal.{AreRecordsOf, ForEachStream, HasRecorded, IsFedAsTaken, IsOnStream, KeepsOldest, oldest_by, record_reach, record_room, records_of};
 ghost use Rattle.x7_debug.specs.Session.{TakesUpToStop};

@@ -1,4 +1,4 @@
-//! Laws of the definitions.
+//! Laws of orders, of scripts and of where `until` leads. The functions do nothing: their contracts are the laws.
 ghost use Rattle.std.specs.Prelude.{◌≡◌, ◌≤◌, ℕ, List, Result};
 ghost use Rattle.x7_words.specs.Word.{AreBytes};
 ghost use Rattle.x7_part.specs.Part.{PartData};
@@ -14,12 +14,12 @@ pub fn one_order()
     ensures { (a b : Order) → FitsOrder a → FitsOrder b → order_text a ≡ order_text b → a ≡ b }
 {}
 
-/// A text comes to at most one script or one first bad line.
+/// A text comes to at most one thing: its orders, or its first bad line.
 pub fn one_script()
     ensures { (text : List ℕ) (a b : Result (List Order) ScriptFault) → IsScriptOf text a → IsScriptOf text b → a ≡ b }
 {}
 
-/// A text comes to something: a script, or its first bad line.
+/// Each text comes to its orders, or to its first bad line.
 pub fn every_script_is_read()
     ensures { (text : List ℕ) → HasScript text }
 {}

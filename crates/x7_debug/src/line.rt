@@ -8,7 +8,7 @@ use crate::order::{Order, Stop};
 use x7_text::{after, decimal_below, number_of_decimal, word_of_hex};
 use x7_words::is_same;
 
-/// The stop that the words after `until` name.
+/// The stop that the words after `until` name, and `None` where they name none.
 fn stop_of(words: &[u8]) -> Option<Stop>
     ensures { MatchOption result ((stop : Stop) → FitsStop stop → words.now ≢ stop_text stop) (λ stop. FitsStop stop × (words.now ≡ stop_text stop)) }
 {
@@ -26,7 +26,7 @@ fn stop_of(words: &[u8]) -> Option<Stop>
     Some(Stop::Phase(phase as u8))
 }
 
-/// The number of a line that is `words` and then a number of 32 bits in decimal.
+/// The number of a line that is `words` and then a number of 32 bits in decimal, and `None` of any other line.
 fn number_after(line: &[u8], words: &[u8]) -> Option<u32>
     ensures { MatchOption result ((n : ℕ) → n < 2 ^ 32 → line.now ≢ words.now ++ decimal n) (λ n. (n < 2 ^ 32) × (line.now ≡ words.now ++ decimal n)) }
 {
@@ -34,7 +34,7 @@ fn number_after(line: &[u8], words: &[u8]) -> Option<u32>
     number_of_decimal(digits)
 }
 
-/// The order of a line.
+/// The order of a line, and `None` of a line that is no order's.
 pub(crate) fn order_of(line: &[u8]) -> Option<Order>
     ensures { MatchOption result ((order : Order) → FitsOrder order → line.now ≢ order_text order) (λ order. FitsOrder order × (line.now ≡ order_text order)) }
 {

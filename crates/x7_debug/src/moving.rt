@@ -13,12 +13,14 @@ use x7_engine::{Device, ON_THE_BENCH, ReadBuf, UNDO_REACH};
 /// How many bytes a record leads back at most.
 pub(crate) const RECORD_REACH: u64 = UNDO_REACH;
 
-/// How many bytes records lead back at least after one move forward by so many bytes or more: four for each but the
-/// newest, which may be one byte before the position. After several shorter moves they may lead back less.
+/// How many bytes the records lead back at least after one move forward of at least this length: four for each record
+/// but the newest, which may be just one byte before the position. After several shorter moves they may lead back over
+/// fewer bytes.
 pub(crate) const REACH: u64 = (RECORD_ROOM as u64 - 1) * RECORD_REACH + 1;
 
 /// How many bytes before its end a longer move forward begins to make records, one each four bytes: as many as there is
-/// room for. After such a move, one back by a multiple of four bytes, up to this many, feeds none.
+/// room for. After such a move, one back by a multiple of four bytes, up to this many, feeds none; the clauses say just
+/// that a move back by at most `REACH` bytes feeds at most three.
 const RECORDED_SIZE: u64 = RECORD_ROOM as u64 * RECORD_REACH;
 
 /// Feeds a piece to a device, up to and with the byte at which it stops. Words read out are dropped.
@@ -139,7 +141,8 @@ fn go_back(device: &mut Device, journal: &mut Journal, stream: &[u8], to: u64)
     }
 }
 
-/// Brings a device that stands at a position of the stream to position `to`.
+/// Brings a device that took the first bytes of a stream to position `to`, a count of its bytes, forwards or backwards.
+/// `costs`: how many bytes it is fed for that, and how far its records lead back then.
 pub(crate) fn move_to(device: &mut Device, journal: &mut Journal, stream: &[u8], to: u64)
     requires { MayMove stream.now device.old journal.old to }
     ensures at_position { ComesToPosition stream.now device.old device.new journal.new to }

@@ -8,16 +8,16 @@ use x7_engine::Device;
 use x7_part::Part;
 use x7_words::NoMemory;
 
-/// What one play of a stream shows: its last position, and one before which startup hasn't begun (phase 0).
+/// What one play of a stream shows: its last position, and one before which the phase of startup is 0.
 #[derive(Clone, Copy)]
 pub(crate) struct Outline {
     pub(crate) last: u64,
-    // a position before which startup hasn't begun
+    // a position before which the phase of startup is 0
     pub(crate) begins: u64,
 }
 
 impl Outline {
-    /// Plays a stream on a device of the part that is made for it.
+    /// Plays a stream on a new device of the part.
     pub(crate) fn new(alloc: Global, part: &Part, stream: &[u8]) -> Result<Outline, NoMemory>
         ensures last { IfOk result (λ o. o.last ≡ last_of part.now stream.now) }
         ensures begins { IfOk result (λ o. BeginsAtSoonest part.now stream.now o.begins) }

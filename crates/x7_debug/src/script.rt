@@ -51,7 +51,7 @@ fn take_line(orders: &mut Vec<Order>, line_number: u64, line: &[u8]) -> Result<(
     }
 }
 
-/// The script of a text, or the number of its first line that is none of a script's.
+/// The script of a text; or the number of its first line that is none of a script's; or want of memory.
 ///
 /// A line is empty, a comment that `#` begins, or an order: `step N`, `back N`, `go N`, with a number of 32 bits in
 /// decimal without leading zeros; `until synced`, `until searching`, `until stopped`, `until phase P` with P from 0 to

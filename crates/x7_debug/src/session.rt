@@ -52,7 +52,7 @@ impl Model for Session {
 
 impl Session {
     /// A session at position 0 of a stream, on a new device of the part. A second device plays the stream first, to
-    /// find its last position and one before which startup hasn't begun.
+    /// find its last position and one before which the phase of startup is 0.
     pub fn new(alloc: Global, part: &Part, stream: Vec<u8>) -> Result<Session, NoMemory>
         ensures { IfOk result (IsNewSession part.now stream.items) }
     {

@@ -8,7 +8,7 @@ use crate::order::Order;
 use crate::script::Script;
 use crate::session::Session;
 use std::alloc::Global;
-use x7_engine::Regs;
+use x7_engine::Snapshot;
 use x7_memory::Memory;
 use x7_part::Part;
 use x7_report::{end_words, frame_line, phase_line, reg_lines};
@@ -23,14 +23,14 @@ const NONE_LINE_ROOM: usize = 14;
 
 /// Appends where a move led: the position, and where the bytes up to it end.
 #[tactic(auto, unfolding(crate::specs::Showing::position_text))]
-fn put_position(text: &mut Vec<u8>, regs: &Regs) -> Result<(), NoMemory>
-    ensures { OnOk result (text.new.items ≡ text.old.items ++ position_text regs.now) }
+fn put_position(text: &mut Vec<u8>, snapshot: &Snapshot) -> Result<(), NoMemory>
+    ensures { OnOk result (text.new.items ≡ text.old.items ++ position_text snapshot.now) }
 {
     make_room(text, POSITION_ROOM)?;
     put(text, b"at ");
-    put_decimal(text, regs.taken);
+    put_decimal(text, snapshot.taken);
     put(text, b" ");
-    end_words(text, regs)?;
+    end_words(text, snapshot)?;
     make_room(text, 1)?;
     put(text, b"\n");
     Ok(())

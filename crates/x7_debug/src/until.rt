@@ -89,7 +89,7 @@ fn forward_until(device: &mut Device, journal: &mut Journal, stream: &[u8], last
     }
 }
 
-/// Feeds a device in one piece up to 254 bytes before `begins`, the soonest position where startup may begin, and
+/// Feeds a device in one piece up to 254 bytes before `begins`, a position before which the phase of startup is 0, and
 /// forgets its records: those made from there on lead back at least `REACH` bytes from each position from `begins` on.
 /// A device that is there or past it already stays, with its records.
 fn leap_near(device: &mut Device, journal: &mut Journal, stream: &[u8], begins: u64)
@@ -105,7 +105,8 @@ fn leap_near(device: &mut Device, journal: &mut Journal, stream: &[u8], begins: 
 }
 
 /// Brings a device forward to the first later position with startup in phase `phase`, or else to the last one. Where
-/// `phase` isn't 0, positions up to 254 bytes before where startup may begin are passed over in one piece.
+/// `phase` isn't 0, the positions up to 254 bytes before the outline's `begins`, which have phase 0, are passed over in
+/// one piece.
 fn go_to_phase(
     device: &mut Device,
     journal: &mut Journal,

@@ -16,15 +16,16 @@ use Rattle.x7_outcome.specs.Outcome.{BootedAs, FlashBoots, FormGives, no_text}
 use Rattle.x7_outcome.specs.Outside.{CameInRun, Outside, ReadsFlash, known_in}
 use Rattle.x7_outcome.specs.Ending.{GivesIfKnown, AnswersOver, FlashComes, IsMeasured, FailsLast, IsMissingOrFailed}
 use Rattle.x7_forms.specs.Step.{Among, CameIn, DueBy, IsCaused, IsCausedBy, IsDecided, IsDue, IsNoPart, IsPossible, IsUnread, result_by, step_over}
-use Rattle.x7_forms.proofs.ReadLemmas.{name_is, outside_goes, part_steady}
+use Rattle.x7_forms.proofs.ReadLemmas.{outside_goes, part_steady}
 use Rattle.x7_outcome.proofs.FlashLemmas.{answers_over, not_fault, not_large}
+use Rattle.x7_words.proofs.ListLemmas.{same_as_itself}
 
 -- ---- a boot
 
 -- the flash of a name that had a mishap
 flash_spoiled : (m : Mishap) (t : Known) (name : List ℕ) (part : PartData) (event : Event) → FlashBoots name part (Some (spoiled m Absent)) (Err event) → spoiled_name m ≡ name → FlashBoots name part ((with_mishap m t).flash name) (Err event)
-flash_spoiled (Failing other given) t name part event h e = let here = name_is name in rw (e, here) h
-flash_spoiled (Lacking other) t name part event h e = let here = name_is name in rw (e, here) h
+flash_spoiled (Failing other given) t name part event h e = let here = same_as_itself name in rw (e, here) h
+flash_spoiled (Lacking other) t name part event h e = let here = same_as_itself name in rw (e, here) h
 
 -- a mishap of the flash is the first event of a boot whose part was read
 boot_mishap : (known : Option Known) (m : Mishap) (name part_name : List ℕ) (part : PartData) (event : Event) → mishap_event m ≡ event → spoiled_name m ≡ name → FlashBoots name part (Some (spoiled m Absent)) (Err event)
@@ -35,7 +36,7 @@ boot_mishap (Some t) m name part_name part event e n h read = elim ((part_steady
   | inr ends ↦ subst (λ (r : Result PartData Event). BootedAs name r ((with_mishap m t).flash name) (Err event)) (sym ends) (ap (λ (x : Event). Err x) e)
 ]
 
--- what a flash comes to is one that contents may decide, and one that unknown contents may come to
+-- the event of a boot by what the flash holds is that of a flash that is too large
 large_is : (name : List ℕ) (P : Event → Type 0) (event : Event) → P (too_large name) → event ≡ too_large name → P event
 large_is name P event p e = subst P (sym e) p
 
@@ -193,7 +194,7 @@ part_refused old new name part_name event read =
 
 -- ---- a flash that is read at most
 
--- reads after it
+-- a flash that was read at most, and then read again
 pub reads_on : (name : List ℕ) (old mid new : FlashState) (past since : ℕ → List ℕ → Type 0) → ReadsFlash name old mid → OnlyReads mid new past since → ReadsFlash name old new
 reads_on name old mid new past since r o = record {
   bytes = o.bytes ∙ r.bytes;

@@ -1,4 +1,5 @@
--- Which input an event names of a form that shows a device or has a flash, and in which order flash and inputs are asked for.
+-- Which input an event names of a form that shows a device or has a flash, and in which order flash and inputs are
+-- asked for.
 use Rattle.std.proofs.Common.{◌≤◌, suc, ◌≡◌, ◌+◌, ℕ, map, length, List, [], ◌∷◌, Bool, true, false, Option, Some, Result, Ok, Err, IfErr, ap, inl, inr, refl, subst, sym, ◌∙◌, arith, ◌⊎◌}
 use Rattle.std.proofs.lemmas.List.{length-map}
 use Rattle.x7_words.specs.Input.{AsksAtMost, InputsState}

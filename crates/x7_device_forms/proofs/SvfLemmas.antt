@@ -3,7 +3,7 @@ use Rattle.std.proofs.Common.{◌≡◌, ◌++◌, ℕ, List, [], Bool, false, O
 use Rattle.std.specs.Prelude.{◌||◌, is_some}
 use Rattle.x7_part.specs.Part.{PartData}
 use Rattle.x7_engine.specs.declared.fault.Fault.{Fault}
-use Rattle.x7_engine.specs.declared.regs.Regs.{Regs}
+use Rattle.x7_engine.specs.declared.snapshot.Snapshot.{Snapshot}
 use Rattle.x7_engine.specs.Kept.{on_the_bench}
 use Rattle.x7_engine.specs.Standing.{DeviceState, frames_due}
 use Rattle.x7_engine.specs.State.{memory_of_bytes, state_owing}
@@ -33,6 +33,6 @@ svf_is part statements t d differ fault stopped line text s e f b l is =
     let p : Port = played_to part statements differ in
     ap play_answer is
     ∙ ap (λ (x : List ℕ). record { stopped = stopped; text = x ++ report_text part (state_owing part on_the_bench false (bytes_taken part p) (frames_due d.registers.due)) [] (memory_shown part p) }) l
-    ∙ ap (λ (x : Regs). record { stopped = stopped; text = play_text differ ++ report_text part x [] (memory_shown part p) }) (shows_is part t d (clocks_played statements differ) s)
+    ∙ ap (λ (x : Snapshot). record { stopped = stopped; text = play_text differ ++ report_text part x [] (memory_shown part p) }) (shows_is part t d (clocks_played statements differ) s)
     ∙ ap (λ (x : Bool). record { stopped = x; text = play_text differ ++ report_text part (state_shown part p) [] (memory_shown part p) }) (b ∙ ap (λ (x : Option Fault). is_some differ || is_some x) f)
     ∙ ap (λ (x : Option Differ). svf_shown part x (played_to part statements x)) e

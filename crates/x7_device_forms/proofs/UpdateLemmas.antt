@@ -2,7 +2,6 @@
 use Rattle.std.proofs.Common.{◌≡◌, ◌≤◌, ◌-◌, ◌∙◌, ap, arith, ℕ, Bool, true, false, List, [], ◌∷◌, length, length-drop, take, take_all, drop, Option, None, Some, Result, Ok, Err, refl, subst, sym, inl, inr}
 use Rattle.std.specs.Prelude.{IsTrue, if◌then◌else◌}
 use Rattle.std.specs.Str.{bytes_eq}
-use Rattle.std.proofs.lemmas.Slice.Eq.{bytes_eq-Decides}
 use Rattle.x7_words.specs.Count.{HasRisen}
 use Rattle.x7_words.specs.Flash.{FlashIsAskedFor, FlashState, KeepsBytes, IfKnown}
 use Rattle.x7_words.specs.Input.{InputsState}
@@ -25,7 +24,7 @@ use Rattle.x7_forms.specs.Form.{AskedForm, UpdatingFlash, names_of}
 use Rattle.x7_forms.specs.Status.{text_status}
 use Rattle.x7_forms.specs.Known.{Absent, Answer, Failing, Found, Known, Lacking, Mishap, flash_found, mishap_event, spoiled, spoiled_name, with_inputs, with_mishap}
 use Rattle.x7_forms.specs.Step.{Among, CameIn, DueBy, IsCaused, IsDecided, IsDue, IsPossible, IsUnplayed, step_over}
-use Rattle.x7_forms.proofs.ReadLemmas.{name_is, outside_goes}
+use Rattle.x7_forms.proofs.ReadLemmas.{outside_goes}
 use Rattle.x7_outcome.specs.Leaving.{HasData, BytesAfterReason, MayBeFound, UsesFlash}
 use Rattle.x7_outcome.specs.Outcome.{FlashUpdates, FormGives, IsUpdateFault, UpdateNames, UpdatesBytes, UpdatesWith, no_text, stream_data, update_event}
 use Rattle.x7_outcome.specs.Outside.{CameInRun, Outside, known_in, sources}
@@ -33,6 +32,7 @@ use Rattle.x7_outcome.specs.Ending.{GivesIfKnown, AnswersOver, CommandEndsAs, Fa
 use Rattle.x7_device_forms.proofs.FlashLemmas.{bad_small, detached, other_fault, known_flash, unattached_measured, unread_last, unread_measured}
 use Rattle.x7_outcome.proofs.FlashLemmas.{came_wider, not_fault, not_large}
 use Rattle.x7_outcome.proofs.EndingLemmas.{has_cause, leaves_all, near_all, no_break}
+use Rattle.x7_words.proofs.ListLemmas.{same_by_test, same_as_itself}
 
 -- the names of an update
 abbrev names : List ℕ → List ℕ → UpdateNames
@@ -75,8 +75,8 @@ agreed (Some t) bytes flash stream end same h = update_given t bytes flash strea
 
 -- a mishap of the flash is the first event
 flash_mishap : (m : Mishap) (t : Known) (flash stream : List ℕ) (read : Result (List ℕ) Event) → spoiled_name m ≡ flash → FlashUpdates (names flash stream) ((with_mishap m t).flash flash) read (Err (mishap_event m))
-flash_mishap (Failing other given) t flash stream read e = let here = name_is flash in rw (e, here) refl
-flash_mishap (Lacking other) t flash stream read e = let here = name_is flash in rw (e, here) refl
+flash_mishap (Failing other given) t flash stream read e = let here = same_as_itself flash in rw (e, here) refl
+flash_mishap (Lacking other) t flash stream read e = let here = same_as_itself flash in rw (e, here) refl
 
 flash_due : (known : Option Known) (m : Mishap) (flash stream : List ℕ) → spoiled_name m ≡ flash → DueBy {A = Answer} known m (λ t end. FormGives t (UpdatingFlash flash stream) end) (mishap_event m)
 flash_due None m flash stream e = tt
@@ -90,15 +90,12 @@ spared : (b : Bool) (x y : Option Found) → b ≡ false → (if b then x else y
 spared true x y e = absurd (cc)
 spared false x y e = refl
 
-is_name : (a b : List ℕ) → bytes_eq a b ≡ true → a ≡ b
-is_name a b e = grind (arith, bytes_eq-Decides a b, e)
-
 -- a mishap of the stream, or of a flash of the same name
 stream_mishap : (b : Bool) (m : Mishap) (t : Known) (bytes : Option (List ℕ)) (flash stream : List ℕ) (event : Event) → bytes_eq flash (spoiled_name m) ≡ b → mishap_event m ≡ event → t.flash flash ≡ flash_found bytes → IsWithin bytes
     → stream_data (with_mishap m t) stream ≡ Err event → FormGives (with_mishap m t) (UpdatingFlash flash stream) (Err event)
 stream_mishap true m t bytes flash stream event b e same within h =
     let read = stream_data (with_mishap m t) stream in
-    subst (λ (x : Event). FlashUpdates (names flash stream) ((with_mishap m t).flash flash) read (Err x)) e (flash_mishap m t flash stream read (sym (is_name flash (spoiled_name m) b)))
+    subst (λ (x : Event). FlashUpdates (names flash stream) ((with_mishap m t).flash flash) read (Err x)) e (flash_mishap m t flash stream read (sym (same_by_test flash (spoiled_name m) b)))
 stream_mishap false m t bytes flash stream event b e same within h =
     update_given (with_mishap m t) bytes flash stream (Err event) (spared (bytes_eq flash (spoiled_name m)) (Some (spoiled m Absent)) (t.flash flash) b ∙ same)
     (unread_known (names flash stream) bytes (stream_data (with_mishap m t) stream) event within h)
@@ -120,12 +117,12 @@ pub attach_refused_measured : (form : Option AskedForm) (name : List ℕ) (old n
 attach_refused_measured form name old new event (inl h) = unattached_measured form name old new event h.0
 attach_refused_measured form name old new event (inr h) = λ other a e. inl h.1
 
--- a stream that was not read says nothing of it
+-- the event of a stream that was not read says nothing of how large the flash is
 pub unplayed_measured : (form : Option AskedForm) (new : FlashState) (name : List ℕ) (event : Event) → Among (names_of form) name → IsUnplayed name event → IsMeasured form new (Err event)
 unplayed_measured form new name event a (inl h) = unread_measured form new name event a h
 unplayed_measured form new name event a (inr h) = bad_small form new name (input.Byte h.0) event h.1
 
--- neither is a fault of a flash that is attached
+-- a flash that could not be attached, and a stream that was not read: the event is no fault of a flash that is attached
 pub attach_refused_last : (form : AskedForm) (name : List ℕ) (inputs : InputsState) (old new : FlashState) (event : Event) → IsUnattachedOrLarge name old new event → FailsLast (Some form) inputs new (Err event)
 attach_refused_last form name inputs old new event (inl h) = detached form inputs new event h.1
 attach_refused_last form name inputs old new event (inr h) = other_fault (Some form) inputs new event (too_large name) h.0 (λ r. absurd (cc))

@@ -1,4 +1,4 @@
--- A device that took the stream of which `gen` makes the summary (this project's choice).
+-- A player that was given the stream of which `gen` makes the summary (this project's choice).
 use Rattle.std.specs.Prelude.{ℕ, ◌≡◌, ◌≤◌, List, length}
 use Rattle.x7_part.specs.Part.{PartData}
 use Rattle.x7_engine.specs.Kept.{on_the_bench}

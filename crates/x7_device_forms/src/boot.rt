@@ -117,14 +117,14 @@ pub fn boot<'w, I: Inputs, F: Flash>(
     alloc: Global,
     inputs: &mut I,
     flash: &mut F,
-    part: &'w str,
+    part_name: &'w str,
     flash_name: &'w str,
 ) -> Result<PlayText, Refusal<'w>>
-    ensures ready { MakesReadyFrom (Booting part.now flash_name.now) (sources (I.state inputs.old) (F.state flash.old))
+    ensures ready { MakesReadyFrom (Booting part_name.now flash_name.now) (sources (I.state inputs.old) (F.state flash.old))
         (sources (I.state inputs.new) (F.state flash.new)) (result_by play_answer result) }
     ensures reads { ReadsFlash flash_name.now (F.state flash.old) (F.state flash.new) }
     ensures unwritten { CallWritesNothing F.Flash flash.old flash.new }
 {
-    let part = read_part(alloc, inputs, part)?;
+    let part = read_part(alloc, inputs, part_name)?;
     boot_from(alloc, &part, flash, flash_name)
 }

@@ -46,21 +46,21 @@ fn refusal_of<'w>(name: &'w str, fault: ScriptFault) -> Refusal<'w>
 fn read_given<'w, I: Inputs>(
     alloc: Global,
     inputs: &mut I,
-    part: &'w str,
-    stream: &'w str,
-    script: &'w str,
+    part_name: &'w str,
+    stream_name: &'w str,
+    script_name: &'w str,
 ) -> Result<Given, Refusal<'w>>
-    ensures caused { AnswersAs (step_over (part.now ∷ stream.now ∷ script.now ∷ []) (I.state inputs.old) (I.state inputs.new))
-        (λ known. debug_inputs known part.now stream.now script.now) (result_by debug_given result) }
-    ensures last_asked { IfOk result (λ given. IsLastAsked script.now script_limit (I.state inputs.new)) }
-    ensures stops { IfErr result (λ r. StopsAmong (limited part_limit part.now ∷ limited stream_limit stream.now ∷ limited script_limit script.now ∷ [])
+    ensures caused { AnswersAs (step_over (part_name.now ∷ stream_name.now ∷ script_name.now ∷ []) (I.state inputs.old) (I.state inputs.new))
+        (λ known. debug_inputs known part_name.now stream_name.now script_name.now) (result_by debug_given result) }
+    ensures last_asked { IfOk result (λ given. IsLastAsked script_name.now script_limit (I.state inputs.new)) }
+    ensures stops { IfErr result (λ r. StopsAmong (limited part_limit part_name.now ∷ limited stream_limit stream_name.now ∷ limited script_limit script_name.now ∷ [])
         (I.state inputs.old) (I.state inputs.new) (event_of r)) }
     ensures asks { AsksAtMost (I.state inputs.old) 3 (I.state inputs.new) }
     ensures inputs { InputsStay (I.state inputs.old) (I.state inputs.new) }
 {
-    let part = read_part(alloc, inputs, part)?;
-    let stream = read_data(alloc, inputs, stream)?;
-    let script = read_whole(alloc, inputs, script, SCRIPT_LIMIT)?;
+    let part = read_part(alloc, inputs, part_name)?;
+    let stream = read_data(alloc, inputs, stream_name)?;
+    let script = read_whole(alloc, inputs, script_name, SCRIPT_LIMIT)?;
     Ok(Given {
         part,
         stream,
@@ -110,7 +110,8 @@ fn shown_of<'w>(
     shown(alloc, &mut session, script)
 }
 
-/// The text of `debug` for a part, the data of a stream and the text of a script.
+/// The text of `debug` for a part, the data of a stream and the text of a script. `name` is the script's, for a
+/// refusal.
 fn text_of<'w>(alloc: Global, given: Given, name: &'w str) -> Result<Text, Refusal<'w>>
     ensures text { IfOk result (λ text. DebuggedAs name.now (Ok (debug_given given)) (Ok (text_answer text))) }
     ensures refused { IfErr result (λ r. (event_of r ≡ no_memory) ⊎ DebuggedAs name.now (Ok (debug_given given)) (Err (event_of r))) }
@@ -128,12 +129,12 @@ fn text_of<'w>(alloc: Global, given: Given, name: &'w str) -> Result<Text, Refus
 pub fn debug<'w, I: Inputs>(
     alloc: Global,
     inputs: &mut I,
-    part: &'w str,
-    stream: &'w str,
-    script: &'w str,
+    part_name: &'w str,
+    stream_name: &'w str,
+    script_name: &'w str,
 ) -> Result<Text, Refusal<'w>>
-    ensures { MakesReady (Debugging part.now stream.now script.now) (I.state inputs.old) (I.state inputs.new) (result_by text_answer result) }
+    ensures { MakesReady (Debugging part_name.now stream_name.now script_name.now) (I.state inputs.old) (I.state inputs.new) (result_by text_answer result) }
 {
-    let given = read_given(alloc, inputs, part, stream, script)?;
-    text_of(alloc, given, script)
+    let given = read_given(alloc, inputs, part_name, stream_name, script_name)?;
+    text_of(alloc, given, script_name)
 }

@@ -50,7 +50,8 @@ fn count_up(frame: &mut Vec<u32>, first: u32)
     }
 }
 
-/// Adds what is planned for the address `far` by `number`. `frame` is room for the words of a frame.
+/// Adds the frame that `number` plans for the address `far`, or nothing where it plans none. `frame` is room for the
+/// words of a frame.
 fn push_row(draft: &mut Draft, frame: &mut Vec<u32>, far: u32, number: u32) -> Result<(), NoMemory>
     requires width { length frame.old.items ≡ draft.old.width }
     ensures added { OnOk result (draft.new.rows ≡ draft.old.rows ++ row_by draft.old.width far number) }

@@ -14,13 +14,13 @@ use x7_playing::{Player, play_streams};
 use x7_report::PlayText;
 use x7_words::Inputs;
 
-/// The text of a play, ready to be written, or that too many words were read out.
+/// The text of a play, ready to be written; or that too many words were read out; or want of memory.
 fn text_of<'w>(alloc: Global, player: Player) -> Result<PlayText, Refusal<'w>>
     ensures text { IfOk result (λ text. (part : PartData) (bytes : List ℕ) → HasPlayed part bytes player → reported part bytes ≡ Ok (play_answer text)) }
     ensures refused { IfErr result (λ r. (event_of r ≡ no_memory)
         ⊎ ((event_of r ≡ too_many_reads) × ((part : PartData) (bytes : List ℕ) → HasPlayed part bytes player → reported part bytes ≡ Err too_many_reads))) }
 {
-    if player.is_over {
+    if player.is_over_limit {
         return Err(Refusal {
             reason: Why::TooLarge,
             name: "reads",
@@ -36,12 +36,12 @@ fn text_of<'w>(alloc: Global, player: Player) -> Result<PlayText, Refusal<'w>>
 pub fn play<'w, I: Inputs>(
     alloc: Global,
     inputs: &mut I,
-    part: &'w str,
+    part_name: &'w str,
     streams: &'w [String],
 ) -> Result<PlayText, Refusal<'w>>
-    ensures { MakesReady (Playing part.now (map string_bytes streams.now)) (I.state inputs.old) (I.state inputs.new) (result_by play_answer result) }
+    ensures { MakesReady (Playing part_name.now (map string_bytes streams.now)) (I.state inputs.old) (I.state inputs.new) (result_by play_answer result) }
 {
-    let part = read_part(alloc, inputs, part)?;
+    let part = read_part(alloc, inputs, part_name)?;
     let player = play_streams(alloc, &part, inputs, streams)?;
     text_of(alloc, player)
 }

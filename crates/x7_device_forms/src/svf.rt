@@ -47,19 +47,19 @@ fn refusal_of<'w>(name: &'w str, fault: SvfFault) -> Refusal<'w>
 fn read_given<'w, I: Inputs>(
     alloc: Global,
     inputs: &mut I,
-    part: &'w str,
-    text: &'w str,
+    part_name: &'w str,
+    text_name: &'w str,
 ) -> Result<Given, Refusal<'w>>
-    ensures caused { AnswersAs (step_over (part.now ∷ text.now ∷ []) (I.state inputs.old) (I.state inputs.new))
-        (λ known. part_and_text known part.now text.now) (result_by svf_given result) }
-    ensures last_asked { IfOk result (λ given. IsLastAsked text.now text_limit (I.state inputs.new)) }
-    ensures stops { IfErr result (λ r. StopsAmong (limited part_limit part.now ∷ limited text_limit text.now ∷ []) (I.state inputs.old) (I.state inputs.new) (event_of r)) }
+    ensures caused { AnswersAs (step_over (part_name.now ∷ text_name.now ∷ []) (I.state inputs.old) (I.state inputs.new))
+        (λ known. part_and_text known part_name.now text_name.now) (result_by svf_given result) }
+    ensures last_asked { IfOk result (λ given. IsLastAsked text_name.now text_limit (I.state inputs.new)) }
+    ensures stops { IfErr result (λ r. StopsAmong (limited part_limit part_name.now ∷ limited text_limit text_name.now ∷ []) (I.state inputs.old) (I.state inputs.new) (event_of r)) }
     ensures within { IfOk result (λ given. vec_len given.text ≤ text_limit) }
     ensures asks { AsksAtMost (I.state inputs.old) 2 (I.state inputs.new) }
     ensures inputs { InputsStay (I.state inputs.old) (I.state inputs.new) }
 {
-    let part = read_part(alloc, inputs, part)?;
-    let text = read_whole(alloc, inputs, text, TEXT_LIMIT)?;
+    let part = read_part(alloc, inputs, part_name)?;
+    let text = read_whole(alloc, inputs, text_name, TEXT_LIMIT)?;
     Ok(Given { part, text })
 }
 
@@ -96,7 +96,7 @@ fn played_text(alloc: Global, part: &Part, svf: &Svf) -> Result<PlayText, NoMemo
     PlayText::new(alloc, line, device, &[], stopped)
 }
 
-/// The text of `svf` for a part and an SVF text.
+/// The text of `svf` for a part and an SVF text. `name` is that of the text, for a refusal.
 fn text_of<'w>(alloc: Global, given: Given, name: &'w str) -> Result<PlayText, Refusal<'w>>
     requires { vec_len given.text ≤ text_limit }
     ensures text { IfOk result (λ text. PlayedSvf name.now (Ok (svf_given given)) (Ok (play_answer text))) }
@@ -111,11 +111,11 @@ fn text_of<'w>(alloc: Global, given: Given, name: &'w str) -> Result<PlayText, R
 pub fn svf<'w, I: Inputs>(
     alloc: Global,
     inputs: &mut I,
-    part: &'w str,
-    text: &'w str,
+    part_name: &'w str,
+    text_name: &'w str,
 ) -> Result<PlayText, Refusal<'w>>
-    ensures { MakesReady (PlayingSvf part.now text.now) (I.state inputs.old) (I.state inputs.new) (result_by play_answer result) }
+    ensures { MakesReady (PlayingSvf part_name.now text_name.now) (I.state inputs.old) (I.state inputs.new) (result_by play_answer result) }
 {
-    let given = read_given(alloc, inputs, part, text)?;
-    text_of(alloc, given, text)
+    let given = read_given(alloc, inputs, part_name, text_name)?;
+    text_of(alloc, given, text_name)
 }

@@ -15,8 +15,8 @@ use x7_update::UpdateFault;
 use x7_words::{Flash, Inputs};
 
 /// Why a flash wasn't updated.
-fn refusal_of<'w>(flash: &'w str, stream: &'w str, fault: UpdateFault) -> Refusal<'w>
-    ensures { event_of result ≡ update_event (record { flash = flash.now; stream = stream.now }) fault }
+fn refusal_of<'w>(flash_name: &'w str, stream_name: &'w str, fault: UpdateFault) -> Refusal<'w>
+    ensures { event_of result ≡ update_event (record { flash = flash_name.now; stream = stream_name.now }) fault }
 {
     match fault {
         UpdateFault::Failed { writing } => {
@@ -25,20 +25,20 @@ fn refusal_of<'w>(flash: &'w str, stream: &'w str, fault: UpdateFault) -> Refusa
             }
             Refusal {
                 reason: Why::ReadFault,
-                name: flash,
+                name: flash_name,
             }
         }
         UpdateFault::TooLong => Refusal {
             reason: Why::BadInput(InputFault::Long),
-            name: stream,
+            name: stream_name,
         },
         UpdateFault::NoLayout(place) => Refusal {
             reason: Why::BadInput(InputFault::Layout(place)),
-            name: flash,
+            name: flash_name,
         },
         UpdateFault::Differs { place, .. } => Refusal {
             reason: Why::Differs(place),
-            name: flash,
+            name: flash_name,
         },
         UpdateFault::NoMemory => Refusal::unnamed(Why::NoMemory),
     }
@@ -50,16 +50,16 @@ pub fn update<'w, I: Inputs, F: Flash>(
     inputs: &mut I,
     flash: &mut F,
     flash_name: &'w str,
-    stream: &'w str,
+    stream_name: &'w str,
 ) -> Result<(), Refusal<'w>>
-    ensures answered { AnsweredSilently (UpdatingFlash flash_name.now stream.now) (sources (I.state inputs.old) (F.state flash.old))
+    ensures answered { AnsweredSilently (UpdatingFlash flash_name.now stream_name.now) (sources (I.state inputs.old) (F.state flash.old))
         (sources (I.state inputs.new) (F.state flash.new)) (result_by (λ _. false) result) }
-    ensures flash { CallUsesFlash F.Flash (Some (UpdatingFlash flash_name.now stream.now)) (I.state inputs.old) flash.old flash.new }
+    ensures flash { CallUsesFlash F.Flash (Some (UpdatingFlash flash_name.now stream_name.now)) (I.state inputs.old) flash.old flash.new }
 {
     open_flash(flash, flash_name)?;
-    let read = read_stream(alloc, inputs, stream)?;
+    let read = read_stream(alloc, inputs, stream_name)?;
     match x7_update::update(alloc, flash, &read.bytes[read.start..]) {
         Ok(()) => Ok(()),
-        Err(fault) => Err(refusal_of(flash_name, stream, fault)),
+        Err(fault) => Err(refusal_of(flash_name, stream_name, fault)),
     }
 }

@@ -29,7 +29,7 @@ calm_bytes part kept h n m l c =
       newest = omega (arith, l, c.newest);
     }
 
--- an access that stops nothing, and leaves the watchdog off
+-- an access that stops nothing and leaves the watchdog off keeps a history calm
 pub calm_access : (part : PartData) (kept : Kept) (h : History) (access : Access) (n place : ℕ) → n ≤ place → IsCalm part kept h n
     → why_at_access part kept h access ≡ None → IsOff kept (entry access place ∷ h) → IsCalm part kept (entry access place ∷ h) place
 calm_access part kept h access n place l c none off =

@@ -29,7 +29,7 @@ abbrev pub after_writes : Checking → ℕ → List ℕ → Checking
 after_writes c register [] = c
 after_writes c register (w ∷ ws) = after_writes (after_write c register w) register ws
 
--- after an item, and after items in order
+-- the check and the command after an item, and after items in order
 abbrev pub after_item : Checking → Item → Checking
 after_item c Noop = c
 after_item c Dummy = c
@@ -42,11 +42,11 @@ abbrev pub after_items : Checking → List Item → Checking
 after_items c [] = c
 after_items c (i ∷ items) = after_items (after_item c i) items
 
--- the check and the command of a history; none is 0 and NULL
+-- the check and the command of a history, 0 and NULL where nothing was written
 abbrev pub checking_of : History → Checking
 checking_of h = record { check = running_check h; held = command_held h }
 
--- nothing written yet
+-- the check and the command where nothing was written yet
 abbrev pub at_first : Checking
 at_first = record { check = 0; held = 0 }
 
@@ -70,7 +70,7 @@ abbrev pub with_checks : Checking → List Piece → List Item
 with_checks c [] = []
 with_checks c (p ∷ pieces) = piece_item c p ∷ with_checks (after_item c (piece_item c p)) pieces
 
--- how many words pieces have
+-- how many words a piece has, and how many pieces have
 abbrev pub piece_length : Piece → ℕ
 piece_length (Put item) = length (item_words item)
 piece_length Check = 2

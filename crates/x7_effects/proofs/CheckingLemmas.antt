@@ -22,7 +22,7 @@ held_by_test : (b : Bool) (w old : ℕ) → (if b then w else old) % 2 ^ 5 ≡ (
 held_by_test true w old = refl
 held_by_test false w old = refl
 
--- one word more
+-- the check and the command after one word more that is written
 write_checked : (h : History) (r w place : ℕ) → checking_of (entry (access.Write r w) place ∷ h) ≡ after_write (checking_of h) r w
 write_checked h r w place =
     checking_is (checking_of (entry (access.Write r w) place ∷ h)) (after_write (checking_of h) r w)
@@ -74,7 +74,7 @@ pub pieces_fit : (c : Checking) (pieces : List Piece) → c.check < 2 ^ 32 → A
 pieces_fit c [] f a = tt
 pieces_fit c (p ∷ pieces) f a = (piece_fits c p f a.0, pieces_fit (after_item c (piece_item c p)) pieces (item_fits c (piece_item c p) f) a.1)
 
--- the word of a check is that of the items before it
+-- pieces after others are written with the checks that follow from those
 pub checks_after : (c : Checking) (prefix back : List Piece) → with_checks c (prefix ++ back) ≡ with_checks c prefix ++ with_checks (after_items c (with_checks c prefix)) back
 checks_after c [] back = refl
 checks_after c (p ∷ prefix) back = ap (λ t. piece_item c p ∷ t) (checks_after (after_item c (piece_item c p)) prefix back)

@@ -16,9 +16,9 @@ use Rattle.x7_flow.specs.FrameMemory.{memory_of}
 use Rattle.x7_engine.specs.declared.kept.Kept.{Kept}
 use Rattle.x7_engine.specs.Rest.{AtRest}
 use Rattle.x7_engine.specs.Startup.{phase_by, phase_of, startup_progress}
-use Rattle.x7_engine.specs.State.{history_by, memory_of_bytes, reads_of, state_of, first_stop_of_bytes, taken_by}
+use Rattle.x7_engine.specs.State.{history_by, memory_of_bytes, state_of, first_stop_of_bytes, taken_by}
 use Rattle.x7_engine.specs.Stop.{Stopped}
-use Rattle.x7_engine.specs.Value.{lines_by, read_out}
+use Rattle.x7_engine.specs.Value.{lines_by}
 use Rattle.x7_engine.proofs.UntilLemmas.{phase_going}
 use Rattle.x7_effects.proofs.Items.{Write, item_entered}
 use Rattle.x7_effects.proofs.Checking.{ArePieces, Check, ClearFirst, Piece, Put, pieces_length}
@@ -34,9 +34,6 @@ use Rattle.x7_effects.proofs.WalkLemmas.{IsReady, going_one, quiet_one}
 
 pub memory_all : (part : PartData) (kept : Kept) (bytes : List ℕ) → first_stop_of_bytes part kept bytes ≡ None → memory_of_bytes part kept bytes ≡ memory_of part (history_of bytes)
 memory_all part kept bytes e = ap (λ o. memory_of part (history_by o (history_of bytes))) e
-
-pub reads_all : (part : PartData) (kept : Kept) (bytes : List ℕ) → first_stop_of_bytes part kept bytes ≡ None → reads_of part kept bytes ≡ read_out part kept (history_of bytes)
-reads_all part kept bytes e = ap (λ o. read_out part kept (history_by o (history_of bytes))) e
 
 pub lines_going : (part : PartData) (kept : Kept) (wrapped : Bool) (bytes : List ℕ) → first_stop_of_bytes part kept bytes ≡ None → (state_of part kept wrapped bytes).lines ≡ lines_by part (startup_progress (history_of bytes) (length bytes))
 lines_going part kept wrapped bytes none = ap (λ (o : Option Stopped). lines_by part (startup_progress (history_by o (history_of bytes)) (taken_by o (length bytes)))) none
@@ -58,7 +55,7 @@ ready_begin part kept startup h n g c =
       memory = quiet_one part first (access.Write 12 part.idcode) (n + 4 + 8 + 4 + 4 + 4) (memory_of part h) refl (quiet_one part h (access.Write 4 7) (n + 4 + 4 + 4) (memory_of part h) refl (λ a. refl));
     }
 
--- the check
+-- a check that is written leaves a device ready as it was
 pub ready_check : (part : PartData) (kept : Kept) (startup : StartupProgress) (h : History) (n : ℕ) (m : FrameMap) → IsReady part kept startup h n m → IsReady part kept startup (written n (Check ∷ []) h) (n + 8) m
 ready_check part kept startup h n m r = record {
   going = going_one part kept startup h n 0 _ (record { start = refl; shutdown = refl; desync = refl }) (check_passes part kept h) refl r.going.calm.off r.going;

@@ -21,8 +21,8 @@ use Rattle.x7_memory.specs.Plan.{PlanRow, PlanData, IsPlan, planned, planned_add
 use Rattle.x7_memory.proofs.PlanLemmas.{planned_here, planned_after}
 use Rattle.x7_effects.proofs.Items.{Item, Write, WriteLong, items_entered, item_words, items_words, bytes_of_words, closed, opened, desync, bus_width_head}
 use Rattle.x7_effects.proofs.Checking.{Checking, Piece, Put, Check, IsPiece, ArePieces, ClearFirst, at_first, with_checks, piece_item, piece_length, pieces_length, after_item}
-use Rattle.x7_effects.proofs.Frames.{joined, AreWide, frame_of, frames_at, row_frames}
-use Rattle.x7_planner.specs.FullStream.{zero_frame}
+use Rattle.x7_effects.proofs.Frames.{joined, AreWide, frames_at, row_frames}
+use Rattle.x7_planner.specs.FullStream.{zero_frame, frame_at_slot}
 use Rattle.x7_planner.specs.PartialStream.{Section, Copies, Rows}
 use Rattle.x7_effects.proofs.Streams.{stream_of, full_pieces, full_stream, copy_pieces, section_pieces, sections_pieces, partial_pieces, read_pieces, HaveWords, IsSection, AreSections}
 use Rattle.x7_effects.proofs.FrameLemmas.{all_wide, plan_wide, first_small}
@@ -81,7 +81,7 @@ rows_words (r ∷ rows) last f g = (All-head (λ row. AreWords row.words) r rows
 pub frames_long : (part : PartData) (plan : PlanData) (places : List Slot) → IsPlan plan → plan.width ≡ frame_words part → length (joined (frames_at part plan places)) ≡ frame_words part * length places
 frames_long part plan places is e =
     joined_length (frame_words part) (frames_at part plan places) (all_wide part plan places (plan_wide part plan is e))
-    ∙ ap (λ k. frame_words part * k) (length-map places (frame_of part plan))
+    ∙ ap (λ k. frame_words part * k) (length-map places (frame_at_slot part plan))
 
 -- ---- the three streams
 
@@ -181,7 +181,7 @@ partial_fits part sections i f = (
   ),
 )
 
--- the check is cleared first
+-- each stream clears the check before the first one that it writes
 pub full_clears : (part : PartData) (plan : PlanData) → ClearFirst (full_pieces part plan)
 full_clears part plan c = refl
 
@@ -191,7 +191,7 @@ partial_clears part sections c = refl
 pub read_clears : (part : PartData) (far n : ℕ) → ClearFirst (read_pieces part far n)
 read_clears part far n c = refl
 
--- how long they are
+-- how many bytes a stream has
 pub closed_length : (leading : List ℕ) (items : List Item) (k : ℕ) → length (bytes_of_words (closed leading items k)) ≡ 4 * length leading + 4 + 4 * length (items_words items) + 8 + 4 * k
 closed_length leading items k =
     let words : length (items_words (items ++ desync ∷ [])) ≡ length (items_words items) + 2 = ap length (flat_map-append item_words items (desync ∷ [])) ∙ length-append (items_words items) (items_words (desync ∷ [])) in
@@ -201,7 +201,7 @@ closed_length leading items k =
     noops zero = refl
     noops (suc k) = omega (arith, noops k)
 
--- the checks do not change it
+-- a piece has as many words whatever its check
 pub piece_long : (c : Checking) (p : Piece) → length (item_words (piece_item c p)) ≡ piece_length p
 piece_long c (Put i) = refl
 piece_long c Check = refl
@@ -218,7 +218,7 @@ stream_length pieces k = omega (arith, closed_length bus_width_head (with_checks
 pub full_length : (part : PartData) (plan : PlanData) → IsPlan plan → plan.width ≡ frame_words part → length (full_stream part plan) ≡ 4 * (55 + frame_words part * length (slots_in part))
 full_length part plan is e = stream_length (full_pieces part plan) 16 ∙ omega (arith, frames_long part plan (slots_in part) is e)
 
--- a planner's stream after bytes that end searching
+-- a planner's stream may follow bytes at whose end the sync word is searched
 stream_parted : (bytes : List ℕ) (pieces : List Piece) (k : ℕ) → is_synced (reading_of bytes).place ≡ false → MayFollow (reading_of bytes).place (stream_of pieces k)
 stream_parted bytes pieces k e = record { searching = e; apart = inr (bytes_of_words (closed (0xFFFFFFFF ∷ 0xFFFFFFFF ∷ 0xFFFFFFFF ∷ 0x000000BB ∷ 0x11220044 ∷ 0xFFFFFFFF ∷ 0xFFFFFFFF ∷ []) (with_checks at_first pieces) k), refl) }
 

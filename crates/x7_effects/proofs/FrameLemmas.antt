@@ -31,8 +31,8 @@ use Rattle.x7_pipeline.specs.Runs.{onto, written_frames, put_over}
 use Rattle.x7_pipeline.specs.RunsInWords.{pair_of}
 use Rattle.x7_flow.proofs.InsideLemmas.{contains_or_not}
 use Rattle.x7_flow.proofs.StreamLemmas.{frames_land}
-use Rattle.x7_effects.proofs.Frames.{joined, AreWide, frame_of, frames_at, row_of, row_frames, row_slots}
-use Rattle.x7_planner.specs.FullStream.{zero_frame}
+use Rattle.x7_effects.proofs.Frames.{joined, AreWide, frames_at, row_of, row_frames, row_slots}
+use Rattle.x7_planner.specs.FullStream.{zero_frame, frame_at_slot}
 
 -- ---- lists
 
@@ -67,7 +67,7 @@ rows_land part base rows more last some a e =
 
 -- ---- a whole write of a plan
 
-frame_wide : (part : PartData) (plan : PlanData) (s : Slot) → ((far : ℕ) → length (frame_of part plan (Frame far)) ≡ frame_words part) → length (frame_of part plan s) ≡ frame_words part
+frame_wide : (part : PartData) (plan : PlanData) (s : Slot) → ((far : ℕ) → length (frame_at_slot part plan (Frame far)) ≡ frame_words part) → length (frame_at_slot part plan s) ≡ frame_words part
 frame_wide part plan (Frame far) w = w far
 frame_wide part plan Pad w = length-replicate (frame_words part) 0
 frame_wide part plan End w = length-replicate (frame_words part) 0
@@ -82,10 +82,10 @@ planned_wide width (r ∷ rows) far z a l =
       | inr n ↦ ap (λ t. length (unwrap_or t z)) (planned_after r rows far n.1) ∙ planned_wide width rows far z (All-tail (λ row. length row.words ≡ width) r rows a) l
     ]
 
-pub plan_wide : (part : PartData) (plan : PlanData) → IsPlan plan → plan.width ≡ frame_words part → (far : ℕ) → length (frame_of part plan (Frame far)) ≡ frame_words part
+pub plan_wide : (part : PartData) (plan : PlanData) → IsPlan plan → plan.width ≡ frame_words part → (far : ℕ) → length (frame_at_slot part plan (Frame far)) ≡ frame_words part
 plan_wide part plan is e far = planned_wide (frame_words part) plan.rows far (zero_frame part) (subst (λ (w : ℕ). All (λ row. length row.words ≡ w) plan.rows) e is.width) (length-replicate (frame_words part) 0)
 
-pub all_wide : (part : PartData) (plan : PlanData) (places : List Slot) → ((far : ℕ) → length (frame_of part plan (Frame far)) ≡ frame_words part) → AreWide (frame_words part) (frames_at part plan places)
+pub all_wide : (part : PartData) (plan : PlanData) (places : List Slot) → ((far : ℕ) → length (frame_at_slot part plan (Frame far)) ≡ frame_words part) → AreWide (frame_words part) (frames_at part plan places)
 all_wide part plan [] w = tt
 all_wide part plan (s ∷ places) w = (frame_wide part plan s w, all_wide part plan places w)
 
@@ -117,7 +117,7 @@ addresses_before_pad (End ∷ places) = addresses_before_pad places
 
 frames_at_append : (part : PartData) (plan : PlanData) (xs ys : List Slot) → frames_at part plan (xs ++ ys) ≡ frames_at part plan xs ++ frames_at part plan ys
 frames_at_append part plan [] ys = refl
-frames_at_append part plan (x ∷ xs) ys = ap (λ t. frame_of part plan x ∷ t) (frames_at_append part plan xs ys)
+frames_at_append part plan (x ∷ xs) ys = ap (λ t. frame_at_slot part plan x ∷ t) (frames_at_append part plan xs ys)
 
 -- the frames of all slots land at all addresses in order
 pub slots_land : (part : PartData) (plan : PlanData) → IsPart part → IsPlan plan → plan.width ≡ frame_words part
@@ -135,13 +135,13 @@ slots_land part plan is p same_width =
     ∙ ap (λ t. reverse (filter_map pair_of (zip t frames))) (slots_all part is ∙ e.split)
     ∙ ap reverse (frames_paired part plan e.prefix (Pad ∷ []) ∙ ap (map (row_of part plan)) (sym fars))
 
--- a map of addresses to frames of their own
-row_here : (part : PartData) (plan : PlanData) (fars : List ℕ) (far : ℕ) → Contains fars far → planned (map (row_of part plan) fars) far ≡ Some (frame_of part plan (Frame far))
+-- of the rows of addresses that of an address has its frame in a whole write
+row_here : (part : PartData) (plan : PlanData) (fars : List ℕ) (far : ℕ) → Contains fars far → planned (map (row_of part plan) fars) far ≡ Some (frame_at_slot part plan (Frame far))
 unfolding planned
 row_here part plan [] far (k, low, e) = absurd (omega arith)
 row_here part plan (a ∷ fars) far (k, low, e) =
     elim (eqb_tells far a) [
-      | inl y ↦ planned_here (row_of part plan a) (map (row_of part plan) fars) far y.1 ∙ ap (λ x. Some (frame_of part plan (Frame x))) (sym y.1)
+      | inl y ↦ planned_here (row_of part plan a) (map (row_of part plan) fars) far y.1 ∙ ap (λ x. Some (frame_at_slot part plan (Frame x))) (sym y.1)
       | inr n ↦ planned_after (row_of part plan a) (map (row_of part plan) fars) far n.1 ∙ row_here part plan fars far (later k low e n.1)
     ]
   where
@@ -157,7 +157,7 @@ some_or : (a : Option (List ℕ)) (z : List ℕ) → Some (unwrap_or a z) ≡ op
 some_or None z = refl
 some_or (Some x) z = refl
 
--- over any memory with frames at the part's addresses alone they leave the plan over zeros
+-- the frames of all addresses, over any memory with frames at the part's addresses alone, leave the plan over zeros
 pub whole_over : (part : PartData) (plan : PlanData) (memory : FrameMap) → IsPart part → IsPlan plan → plan.width ≡ frame_words part
     → ((far : ℕ) → Contains (planned_addresses plan.rows) far → Contains (addresses_in part) far) → ((far : ℕ) → (Contains (addresses_in part) far → ⊥) → memory far ≡ None)
     → HaveSameFrames (put_over (written_frames part (get_or (addresses_in part) 0 0) (onto (joined (frames_at part plan (slots_in part))) [])) memory) (total part plan)

@@ -83,7 +83,7 @@ no_dec part kept (e ∷ h) n s =
 
 -- ---- the bits of CTL0 that a full stream leaves as they were
 
--- 101 under the mask 501
+-- the word of CTL0 once 101 was written to it where MASK is 501, both hexadecimal
 abbrev written_ctl0 : ℕ → ℕ
 written_ctl0 old = bit_or (bit_and old (2 ^ 32 - 1 - 0x501)) (bit_and 0x101 0x501)
 

@@ -84,7 +84,7 @@ going_access part kept startup h access n place l g q none off =
       pending = still_none_pending h access place g.pending q.shutdown;
     }
 
--- DESYNC
+-- what DESYNC calls for in startup
 desync_call : (h : History) → startup_call h (access.Write 4 13) ≡ call.Desync (last_word 9 0 h) ∷ []
 desync_call h = refl
 
@@ -98,7 +98,7 @@ going_desync part kept startup h n place l g none =
       pending = still_none_pending h (access.Write 4 13) place g.pending refl;
     }
 
--- a command that is none of these
+-- an access that executes neither START, SHUTDOWN nor DESYNC: RCRC, and a FAR load under another command
 pub quiet_rcrc : (h : History) → IsQuiet h (access.Write 4 7)
 quiet_rcrc h = record { start = refl; shutdown = refl; desync = refl }
 

@@ -5,7 +5,7 @@ use Rattle.std.specs.List.{flat_map, AllByRecursion}
 use Rattle.std.proofs.lemmas.Grind.{flat_map-append, reverse_onto}
 use Rattle.std.proofs.lemmas.Bool.{cases_eq}
 use Rattle.std.proofs.lemmas.Bool.Decides.{nat_tests}
-use Rattle.x7_words.proofs.ListLemmas.{all_append, all_prefix, all_back}
+use Rattle.x7_words.proofs.ListLemmas.{all_append, all_prefix, all_back, same_by_test, same_as_itself}
 use Rattle.x7_part.specs.Part.{PartData}
 use Rattle.x7_memory.specs.FrameMap.{FrameMap, override, HaveSameFrames}
 use Rattle.x7_memory.specs.Plan.{PlanRow, planned, planned_addresses, AreInOrder}
@@ -16,7 +16,6 @@ use Rattle.x7_pipeline.proofs.LawLemmas.{put_twice}
 use Rattle.x7_planner.specs.PartialStream.{Section, Copies, Rows}
 use Rattle.x7_planner.specs.PartialStream.{with_content, is_shared, is_first_of_group, groups_led, rows_not_shared, follows, with_row, runs_of, sections_of}
 use Rattle.x7_planner.specs.PartialStream.{joined_runs, IsRunOfRows, AreLongest, pairs_of}
-use Rattle.x7_planner.proofs.ContentLemmas.{same_words_true, same_words_own}
 use Rattle.x7_effects.proofs.Groups.{put_sections}
 
 -- ---- the address is one of these rows'
@@ -84,7 +83,7 @@ same_map rows pairs a c far = elim (names_or_not far pairs) [
   | inr n ↦ unnamed pairs far n ∙ sym (uncovered rows pairs far c n)
 ]
 
--- rows of distinct addresses agree with themselves
+-- of rows in order each one after the first has a greater address than the first
 pub later : (far : ℕ) (r : PlanRow) (rows : List PlanRow) → AreInOrder (r ∷ rows) → Names far rows → r.far < far
 later far r rows o n = in_rows rows (λ k d h. o 0 (suc k) d (omega arith) (omega arith)) n
   where
@@ -158,7 +157,7 @@ content_agrees rows [] words a = tt
 content_agrees rows (q ∷ qs) words a = by_test (bytes_eq q.words words) refl (content_agrees rows qs words a.1)
   where
     by_test : (b : Bool) → bytes_eq q.words words ≡ b → Agree rows (Pairs words (with_content words qs)) → Agree rows (Pairs words (if b then q ∷ with_content words qs else with_content words qs))
-    by_test true t ih = (a.0 ∙ ap (λ x. Some x) (same_words_true q.words words t), ih)
+    by_test true t ih = (a.0 ∙ ap (λ x. Some x) (same_by_test q.words words t), ih)
     by_test false t ih = ih
 
 groups_agree : (all qs : List PlanRow) → Agree all all → Agree all (flat_map pairs_of (groups_led all qs))
@@ -206,7 +205,7 @@ sections_pairs part rows =
 pub sections_agree : (part : PartData) (rows : List PlanRow) → AreInOrder rows → Agree rows (flat_map pairs_of (sections_of part rows))
 sections_agree part rows o = rw (sections_pairs part rows) (all_append (λ p. planned rows p.far ≡ Some p.words) (flat_map pairs_of (groups_led rows rows)) (rows_not_shared rows rows) (groups_agree rows rows (own rows o)) (not_shared_agree rows rows (own rows o)))
 
--- the row is one of these
+-- the row is one of these rows
 abbrev IsIn : PlanRow → List PlanRow → Type 0
 IsIn r [] = ⊥
 IsIn r (q ∷ qs) = (q ≡ r) ⊎ IsIn r qs
@@ -218,10 +217,10 @@ content_names words q (r ∷ qs) i e = by_test (bytes_eq r.words words) refl i (
     by_test : (b : Bool) → bytes_eq r.words words ≡ b → (r ≡ q) ⊎ IsIn q qs → (IsIn q qs → Names q.far (Pairs words (with_content words qs))) → Names q.far (Pairs words (if b then r ∷ with_content words qs else with_content words qs))
     by_test true t (inl h) ih = inl (ap (λ (x : PlanRow). x.far) h)
     by_test true t (inr i) ih = inr (ih i)
-    by_test false t (inl h) ih = absurd (let y : bytes_eq words words ≡ true = same_words_own words in let z : r.words ≡ words = ap (λ (x : PlanRow). x.words) h ∙ e in let u : bytes_eq r.words words ≡ true = rw z y in cc)
+    by_test false t (inl h) ih = absurd (let y : bytes_eq words words ≡ true = same_as_itself words in let z : r.words ≡ words = ap (λ (x : PlanRow). x.words) h ∙ e in let u : bytes_eq r.words words ≡ true = rw z y in cc)
     by_test false t (inr i) ih = ih i
 
--- the first row of a content
+-- the first of the rows that have a content
 record LeadsContent (words : List ℕ) (qs : List PlanRow) : Type 0 where
   row : PlanRow
   there : IsIn row qs
@@ -233,7 +232,7 @@ content_led words [] h = absurd (omega arith)
 content_led words (r ∷ qs) h = by_test (bytes_eq r.words words) refl h (content_led words qs)
   where
     by_test : (b : Bool) → bytes_eq r.words words ≡ b → 0 < length (if b then r ∷ with_content words qs else with_content words qs) → (0 < length (with_content words qs) → LeadsContent words qs) → LeadsContent words (r ∷ qs)
-    by_test true t h ih = record { row = r; there = inl refl; has = same_words_true r.words words t; first = rw t refl }
+    by_test true t h ih = record { row = r; there = inl refl; has = same_by_test r.words words t; first = rw t refl }
     by_test false t h ih = let l : LeadsContent words qs = ih h in record { row = l.row; there = inr l.there; has = l.has; first = rw t l.first }
 
 -- the group that a row leads is there, and names what has its content
@@ -290,7 +289,7 @@ sections_cover part rows = rw (sections_pairs part rows) (all_rows_named rows ro
 pub plan_put : (part : PartData) (rows : List PlanRow) (memory : FrameMap) → AreInOrder rows → HaveSameFrames (put_sections memory (sections_of part rows)) (override memory (planned rows))
 plan_put part rows memory o = sections_put rows (sections_of part rows) memory (sections_agree part rows o) (sections_cover part rows)
 
--- the runs are the longest
+-- the first of the longest runs is a run
 run_first : (part : PartData) (run : List PlanRow) (runs : List (List PlanRow)) → AreLongest part (run ∷ runs) → IsRunOfRows part run
 run_first part run [] a = a
 run_first part run (next ∷ runs) a = a.0

@@ -23,7 +23,7 @@ abbrev pub IsPlaced : PartData → List PlanRow → Type 0
 IsPlaced part [] = ⊥
 IsPlaced part (r ∷ run) = (more : List Slot) × (slots_from part r.far ≡ row_slots (r ∷ run) ++ more)
 
--- the partial stream of a plan
+-- the pieces of the partial stream of a plan
 abbrev pub plan_pieces : PartData → List PlanRow → List Piece
 plan_pieces part rows = partial_pieces part (sections_of part rows)
 

@@ -44,7 +44,7 @@ partial_fits part bytes rows f =
 
 -- ---- in turn
 
--- a read stream after bytes that read nothing out and left this memory
+-- a read stream after bytes that read nothing more out and left this memory reads it back
 reads_back : (part : PartData) (kept : Kept) (bytes written : List ℕ) (m : FrameMap) (far n : ℕ) → AreBytes written → AtRest part kept written → IsPart part → CanRead part far n
     → reads_of part kept written ≡ reads_of part kept bytes → HaveSameFrames (memory_of_bytes part kept written) m → ReadsBack (device_after part kept bytes) written m far n
 reads_back part kept bytes written m far n f r is can none same =

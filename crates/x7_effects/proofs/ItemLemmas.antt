@@ -27,7 +27,7 @@ long_write_means r n g = grind (arith, nat_tests)
 pub long_read_means : (r n : ℕ) → n < 2 ^ 27 → meaning (Some r) (type2_read_header n) ≡ step.Read r n
 long_read_means r n g = grind (arith, nat_tests)
 
--- the packets of an item
+-- a packet by its header word, what this means, and its payload
 abbrev pub packet : ℕ → Step → List ℕ → Packet
 packet head s payload = record { head = head; step = s; payload = payload }
 
@@ -47,14 +47,14 @@ only_of_none r [] n = tt
 only_of_none r (w ∷ []) n = tt
 only_of_none r (w ∷ x ∷ ws) n = (n.0, only_of_none r (x ∷ ws) n.1)
 
--- a header without a payload
+-- a header word without a payload is a packet
 bare : (l : Option ℕ) (w : ℕ) (s : Step) → w < 2 ^ 32 → s ≡ meaning l w → IsPacket l (packet w s [])
 bare l w s f e = record { fits = (f, tt); means = e; most = omega arith; goes_on = tt }
 
 bare_whole : (w : ℕ) (s : Step) → count_of s ≡ 0 → IsWhole (packet w s [])
 bare_whole w s e = record { all = sym e; none_ends = tt }
 
--- a header with its whole payload
+-- a header word with its whole payload is a packet
 full : (l : Option ℕ) (w r : ℕ) (ws : List ℕ) → w < 2 ^ 32 → step.Open r (length ws) ≡ meaning l w → AreWords ws → NoneEnds r ws → IsPacket l (packet w (step.Open r (length ws)) ws)
 full l w r ws f e a n = record { fits = (f, a); means = e; most = omega arith; goes_on = only_of_none r ws n }
 

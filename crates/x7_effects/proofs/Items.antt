@@ -9,8 +9,8 @@ use Rattle.x7_packets.specs.History as access
 use Rattle.x7_packets.specs.History.{History, entry}
 pub use Rattle.x7_planner.specs.Writer.{bytes_of_words}
 
--- no-op, dummy word, words written to a register by a type 1 packet, the same by an empty type 1 packet and a type 2
--- packet, and reads of some words by either
+-- a no-op, a dummy word, words written to a register by a type 1 packet or by an empty type 1 packet and a type 2
+-- packet, and reads of some words of a register in these two ways
 pub data Item : Type 0 where
   Noop : Item
   Dummy : Item
@@ -31,8 +31,8 @@ item_words (ReadLong register count) = type1_read_header register 0 ∷ type2_re
 abbrev pub items_words : List Item → List ℕ
 items_words items = flat_map item_words items
 
--- the item can be written: register, count and words have their bits, a read asks for
--- some words, and no word ends the session
+-- the item can be written: the register has 5 bits, the count 11 in a type 1 packet and 27 in a type 2 packet, and each
+-- word 32; a read asks for some words, and no word ends the session
 abbrev pub IsItem : Item → Type 0
 IsItem Noop = Unit {0}
 IsItem Dummy = Unit {0}
@@ -44,12 +44,12 @@ IsItem (ReadLong register count) = (register < 2 ^ 5) × (0 < count) × (count <
 abbrev pub AreItems : List Item → Type 0
 AreItems items = AllByRecursion IsItem items
 
--- a history with words written to a register, the first of which begins at this place
+-- a history with words written to a register, the first of which begins at byte `place`, from 0
 abbrev pub writes_entered : ℕ → ℕ → List ℕ → History → History
 writes_entered place register [] h = h
 writes_entered place register (w ∷ ws) h = writes_entered (place + 4) register ws (entry (access.Write register w) (place + 4) ∷ h)
 
--- a history with the accesses of an item, whose first word begins at this place
+-- a history with the accesses of an item, whose first word begins at byte `place`, from 0
 abbrev pub item_entered : ℕ → Item → History → History
 item_entered place Noop h = h
 item_entered place Dummy h = h
@@ -58,7 +58,7 @@ item_entered place (WriteLong register ws) h = writes_entered (place + 8) regist
 item_entered place (Read register count) h = entry (access.Read register count) (place + 4) ∷ h
 item_entered place (ReadLong register count) h = entry (access.Read register count) (place + 8) ∷ h
 
--- a history after items in order
+-- a history with the accesses of items in order, the first of which begins at byte `place`, from 0
 abbrev pub items_entered : ℕ → List Item → History → History
 items_entered place [] h = h
 items_entered place (i ∷ items) h = items_entered (place + 4 * length (item_words i)) items (item_entered place i h)

@@ -25,7 +25,7 @@ use Rattle.x7_effects.proofs.RestingLemmas.{stream_history}
 
 -- ---- what a history says of one register
 
--- only words written to the register count
+-- what a history says of a register goes by the words written to it alone
 record Reads (r : ℕ) (f : History → ℕ) : Type 0 where
   write : (q w place : ℕ) (h : History) → (q == r) ≡ false → f (entry (access.Write q w) place ∷ h) ≡ f h
   read : (q n place : ℕ) (h : History) → f (entry (access.Read q n) place ∷ h) ≡ f h
@@ -36,7 +36,7 @@ reads_last r kept = record { write = λ q w place h e. ap (λ (b : Bool). if b t
 reads_masked : (r : ℕ) → Reads r (masked_register r)
 reads_masked r = record { write = λ q w place h e. rw e refl; read = λ q n place h. refl }
 
--- the piece doesn't write it
+-- the piece doesn't write register r
 abbrev IsApart : ℕ → Piece → Type 0
 IsApart r (Put (item.Write q ws)) = (q == r) ≡ false
 IsApart r (Put (item.WriteLong q ws)) = (q == r) ≡ false
@@ -67,7 +67,7 @@ module _ (r : ℕ) (f : History → ℕ) (of : Reads r f) where
 
 -- ---- registers that streams don't write
 
--- neither a partial stream nor a read stream writes it: it is none of CRC, FAR, FDRI, CMD, MFWR and IDCODE
+-- neither a partial stream nor a read stream writes register r: it is none of CRC, FAR, FDRI, CMD, MFWR and IDCODE
 pub record IsOther (r : ℕ) : Type 0 where
   crc : (0 == r) ≡ false
   far : (1 == r) ≡ false
@@ -76,7 +76,7 @@ pub record IsOther (r : ℕ) : Type 0 where
   mfwr : (10 == r) ≡ false
   idcode : (12 == r) ≡ false
 
--- nor a full stream: it isn't CTL0, MASK or COR0
+-- no planned stream writes register r: it is none of CRC, FAR, FDRI, CMD, MFWR, IDCODE, CTL0, MASK and COR0
 pub record IsUnwritten (r : ℕ) : Type 0 where
   other : IsOther r
   ctl0 : (5 == r) ≡ false

@@ -1,5 +1,5 @@
 -- The sections of a plan write each of its rows once.
-use Rattle.std.proofs.Common.{◌≡◌, ℕ, zero, suc, ◌<◌, ◌==◌, ◌&&◌, ◌⊎◌, inl, inr, Bool, not, true, false, if◌then◌else◌, List, [], ◌∷◌, ◌++◌, length, get_or, Option, Some, refl, ap, sym, subst, ◌∙◌, arith}
+use Rattle.std.proofs.Common.{◌≡◌, ℕ, zero, suc, ◌<◌, ◌==◌, ◌⊎◌, inl, inr, Bool, not, true, false, if◌then◌else◌, List, [], ◌∷◌, ◌++◌, length, get_or, Option, Some, refl, ap, sym, subst, ◌∙◌, arith}
 use Rattle.std.specs.Prelude.{bytes_eq, Contains, nat_le}
 use Rattle.std.specs.List.{AllByRecursion}
 use Rattle.std.proofs.lemmas.Bool.{eqb-true}
@@ -9,6 +9,7 @@ use Rattle.x7_part.specs.Part.{PartData}
 use Rattle.x7_memory.specs.Plan.{AreApart, AreInOrder, PlanRow, planned, planned_addresses}
 use Rattle.x7_planner.specs.PartialStream.{Copies, WritesOnce, groups_led, is_shared, is_first_of_group, rows_not_shared, pairs_in, sections_of, with_content}
 use Rattle.x7_effects.proofs.GroupLemmas.{Agree, Names, Pairs, content_agrees, later, names_either, own, sections_agree, sections_cover, sections_pairs}
+use Rattle.x7_words.proofs.CaseLemmas.{both_true}
 
 -- no address comes twice
 abbrev Apart : List PlanRow → Type 0
@@ -66,7 +67,7 @@ content_at rows [] words far a n = absurd n
 content_at rows (q ∷ qs) words far a (inl e) = ap (planned rows) (sym e) ∙ a.0
 content_at rows (q ∷ qs) words far a (inr n) = content_at rows qs words far a.1 n
 
--- a row that leads a group with this address
+-- a row of `qs` that leads a group, in which this address is
 record LedBy (all qs : List PlanRow) (far : ℕ) : Type 0 where
   row : PlanRow
   there : Names row.far qs
@@ -86,10 +87,6 @@ led_by all (q ∷ qs) far n = by (is_first_of_group all q) refl n (λ m. led_by 
       | inr m ↦ in_rest (ih m)
     ]
     by false e n ih = in_rest (ih n)
-
-both_true : (a b : Bool) → (a && b) ≡ true → (a ≡ true) × (b ≡ true)
-both_true true b e = (refl, e)
-both_true false b e = absurd (cc)
 
 shared_of : (all : List PlanRow) (r : PlanRow) → is_first_of_group all r ≡ true → is_shared all r ≡ true
 shared_of all r e = (both_true (is_shared all r) (get_or (planned_addresses (with_content r.words all)) 0 0 == r.far) e).0
@@ -119,7 +116,7 @@ groups_apart all (q ∷ qs) a o p = by (is_first_of_group all q) refl (groups_ap
     by true e ih = apart_append (Pairs q.words (with_content q.words all)) (pairs_in (groups_led all qs)) (content_apart q.words all o) ih (none e)
     by false e ih = ih
 
--- a row that is not shared
+-- the row at this address, whose content no group has
 record Alone (all qs : List PlanRow) (far : ℕ) : Type 0 where
   row : PlanRow
   lone : is_shared all row ≡ false

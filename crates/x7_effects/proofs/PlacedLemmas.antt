@@ -35,7 +35,7 @@ use Rattle.x7_effects.proofs.GroupLemmas.{run_rows, runs_joined}
 
 -- ---- slots that follow one another
 
--- from an address on the first slot is its frame
+-- the first of slots is the frame at the address
 record Begins (far : ℕ) (places : List Slot) : Type 0 where
   rest : List Slot
   is : places ≡ Frame far ∷ rest
@@ -71,7 +71,7 @@ from_next l a b (Frame x ∷ places) rest r e =
 from_next l a b (Pad ∷ places) rest r e = from_next l a b places rest r e
 from_next l a b (End ∷ places) rest r e = from_next l a b places rest r e
 
--- an address that follows another: the slots from the other on are its frame and the slots from there on
+-- a slot that `is_frame` finds at an address is the frame there
 frame_is : (b : ℕ) (s : Slot) → is_frame b s ≡ true → s ≡ Frame b
 frame_is b (Frame x) t = ap (λ (y : ℕ). Frame y) (eqb-true x b t)
 frame_is b Pad t = absurd (cc)

@@ -15,7 +15,6 @@ use Rattle.x7_part.specs.Part.{PartData, frame_words}
 use Rattle.x7_part.specs.Ranges.{IsPart}
 use Rattle.x7_part.specs.Slot.{slots_in}
 use Rattle.x7_part.specs.declared.slot.Slot.{Slot}
-use Rattle.x7_part.specs.declared.slot.Slot.TheVariants.{Frame, Pad, End}
 use Rattle.x7_memory.specs.Plan.{IsPlan, PlanData, PlanRow, planned_addresses}
 use Rattle.x7_planner.specs.Writer as planner
 use Rattle.x7_packets.specs.PacketWords as packet_words
@@ -25,8 +24,8 @@ use Rattle.x7_packets.specs.PacketWords.{sync_word}
 use Rattle.x7_effects.proofs.Items.{AreItems, Item, WriteLong, bus_width_head, bytes_of_words, desync, item_words, items_words, opened}
 use Rattle.x7_effects.proofs.Items as item
 use Rattle.x7_effects.proofs.Checking.{ArePieces, Check, Checking, IsPiece, Piece, Put, after_items, at_first, checking_of, piece_item, with_checks}
-use Rattle.x7_effects.proofs.Frames.{frame_of, frames_at, joined, row_frames}
-use Rattle.x7_planner.specs.FullStream.{zero_frame}
+use Rattle.x7_effects.proofs.Frames.{frames_at, joined, row_frames}
+use Rattle.x7_planner.specs.FullStream.{zero_frame, frame_at_slot}
 use Rattle.x7_effects.proofs.Groups.{plan_pieces}
 use Rattle.x7_effects.proofs.Streams.{command, copy_pieces, full_pieces, full_stream, one, read_stream, stream_of, section_pieces, sections_pieces}
 use Rattle.x7_planner.specs.PartialStream.{Section, copy_words, frames_words, groups_led, is_first_of_group, rows_not_shared, partial_stream, runs_of, section_words, sections_of, with_content}
@@ -48,11 +47,11 @@ abbrev spelled : Piece → planner.StreamPiece
 spelled (Put i) = planner.Words (item_words i)
 spelled Check = planner.Check
 
--- the bytes up to here
+-- the bytes of a stream up to the end of these pieces
 abbrev bytes_so : List Piece → List ℕ
 bytes_so pieces = bytes_of_words (opened bus_width_head (with_checks at_first pieces))
 
--- one item more
+-- the bytes of a stream with one item more
 item_more : (items : List Item) (i : Item) → bytes_of_words (opened bus_width_head (items ++ i ∷ [])) ≡ bytes_of_words (opened bus_width_head items) ++ bytes_of_words (item_words i)
 item_more items i =
     let last : items_words (items ++ i ∷ []) ≡ items_words items ++ item_words i = flat_map-append item_words items (i ∷ []) ∙ ap (λ t. items_words items ++ t) (append-nil (item_words i)) in
@@ -83,7 +82,7 @@ spelled_all prefix (p ∷ pieces) f g =
     ∙ spelled_all (prefix ++ p ∷ []) pieces (all_append IsPiece prefix (p ∷ []) f (g.0, tt)) g.1
     ∙ ap bytes_so (append_assoc prefix (p ∷ []) pieces)
 
--- DESYNC and the no-ops
+-- the bytes of a stream with DESYNC and the no-ops are those that the planner writes
 spelled_end : (pieces : List Piece) (noops : ℕ) → planner.with_piece (bytes_so pieces) (planner.Words ((packet_words.command Desync) ++ replicate noops packet_words.no_op)) ≡ stream_of pieces noops
 spelled_end pieces noops =
     let items : List Item = with_checks at_first pieces in
@@ -103,14 +102,9 @@ read_same part address n = refl
 
 -- ---- a full stream
 
-slot_same : (part : PartData) (plan : PlanData) (s : Slot) → full.frame_at_slot part plan s ≡ frame_of part plan s
-slot_same part plan (Frame far) = refl
-slot_same part plan Pad = refl
-slot_same part plan End = refl
-
 slots_same : (part : PartData) (plan : PlanData) (places : List Slot) → full.words_of_slots part plan places ≡ joined (frames_at part plan places)
 slots_same part plan [] = refl
-slots_same part plan (s ∷ places) = ap (λ t. t ++ full.words_of_slots part plan places) (slot_same part plan s) ∙ ap (λ t. frame_of part plan s ++ t) (slots_same part plan places)
+slots_same part plan (s ∷ places) = ap (λ t. frame_at_slot part plan s ++ t) (slots_same part plan places)
 
 -- the pieces up to the frame data
 abbrev opening : PartData → List ℕ → List Piece

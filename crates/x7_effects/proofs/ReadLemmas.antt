@@ -10,7 +10,7 @@ use Rattle.x7_part.specs.Slot.{slots_from}
 use Rattle.x7_pipeline.proofs.LawLemmas.{read_frames, read_pad_frame}
 use Rattle.x7_flow.specs.Standing.{readback_words}
 use Rattle.x7_effects.specs.Played.{slot_words, words_along}
-use Rattle.x7_flow.specs.HasFrames.{HasFrames}
+use Rattle.x7_flow.specs.HasOnlyFramesOf.{HasOnlyFramesOf}
 
 -- this many values of a function from a place on
 abbrev listed : (ℕ → ℕ) → ℕ → ℕ → List ℕ
@@ -49,17 +49,17 @@ listed_words (w ∷ ws) =
     ap (λ t. w ∷ t) (rest ∙ listed_words ws)
 
 -- the words of one slot
-frame_listed : (part : PartData) (m : FrameMap) (far : ℕ) (o : Option (List ℕ)) → HasFrames part m → m far ≡ o → listed (word_in_frame o) 0 (frame_words part) ≡ unwrap_or o (replicate (frame_words part) 0)
+frame_listed : (part : PartData) (m : FrameMap) (far : ℕ) (o : Option (List ℕ)) → HasOnlyFramesOf part m → m far ≡ o → listed (word_in_frame o) 0 (frame_words part) ≡ unwrap_or o (replicate (frame_words part) 0)
 frame_listed part m far None i e = listed_zeros 0 (frame_words part)
 frame_listed part m far (Some ws) i e = ap (listed (λ k. get_or ws k 0) 0) (sym (i.wide far ws e)) ∙ listed_words ws
 
-slot_listed : (part : PartData) (m : FrameMap) (s : Slot) → HasFrames part m → listed (word_at s m) 0 (frame_words part) ≡ slot_words part m s
+slot_listed : (part : PartData) (m : FrameMap) (s : Slot) → HasOnlyFramesOf part m → listed (word_at s m) 0 (frame_words part) ≡ slot_words part m s
 slot_listed part m (Frame far) i = frame_listed part m far (m far) i refl
 slot_listed part m Pad i = listed_zeros 0 (frame_words part)
 slot_listed part m End i = listed_zeros 0 (frame_words part)
 
 -- the words of slots in order, of which the first is slot j
-slots_listed : (part : PartData) (m : FrameMap) (f : ℕ → ℕ) (places : List Slot) (j n : ℕ) → HasFrames part m → n ≤ length places
+slots_listed : (part : PartData) (m : FrameMap) (f : ℕ → ℕ) (places : List Slot) (j n : ℕ) → HasOnlyFramesOf part m → n ≤ length places
     → ((k i : ℕ) → k < length places → i < frame_words part → f (frame_words part * (1 + (j + k)) + i) ≡ word_at (get_or places k End) m i)
     → listed f (frame_words part * (1 + j)) (frame_words part * n) ≡ flat_map (slot_words part m) (take n places)
 slots_listed part m f places j zero is l e = ap (listed f (frame_words part * (1 + j))) (let none : frame_words part * 0 ≡ 0 = omega arith in none)
@@ -79,7 +79,7 @@ slots_listed part m f (s ∷ places) j (suc n) is l e =
     ∙ ap (λ t. slot_words part m s ++ t) rest
 
 -- all words of a readback of n slots
-pub words_read : (part : PartData) (base : ℕ) (m : FrameMap) (n : ℕ) → HasFrames part m → n ≤ length (slots_from part base) → readback_words part base m 0 (frame_words part * (n + 1)) ≡ words_along part m base n
+pub words_read : (part : PartData) (base : ℕ) (m : FrameMap) (n : ℕ) → HasOnlyFramesOf part m → n ≤ length (slots_from part base) → readback_words part base m 0 (frame_words part * (n + 1)) ≡ words_along part m base n
 words_read part base m n is l =
     let w : ℕ = frame_words part in
     let f : ℕ → ℕ = readback_at part base m in

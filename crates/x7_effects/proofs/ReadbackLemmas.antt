@@ -38,7 +38,7 @@ use Rattle.x7_engine.proofs.UntilLemmas.{phase_going}
 use Rattle.x7_effects.proofs.Checking.{Piece, pieces_length}
 use Rattle.x7_effects.specs.Played.{PlaysRead, device_after, slot_words, words_along}
 use Rattle.x7_effects.proofs.Streams.{read_pieces, read_stream, stream_of}
-use Rattle.x7_effects.proofs.EndLemmas.{HasPlayed, lines_going, memory_all, played, reads_all}
+use Rattle.x7_effects.proofs.EndLemmas.{HasPlayed, lines_going, memory_all, played}
 use Rattle.x7_effects.proofs.FormLemmas.{read_clears, read_fits}
 use Rattle.x7_effects.proofs.FrameLemmas.{address_small}
 use Rattle.x7_effects.proofs.GoingLemmas.{IsGoing, far_passes, going_access, going_bytes, why_none, quiet_far, quiet_rcrc}
@@ -49,6 +49,7 @@ use Rattle.x7_effects.proofs.ReadLemmas as reading
 use Rattle.x7_effects.proofs.RestingLemmas.{going_at_rest, going_closed, stream_history}
 use Rattle.x7_effects.proofs.SectionLemmas.{IsTarget}
 use Rattle.x7_effects.proofs.WalkLemmas.{going_one, quiet_one}
+use Rattle.x7_engine.proofs.UntilReadLemmas.{reads_going}
 
 -- ---- the same words of the same memory
 
@@ -143,10 +144,10 @@ read_plays part kept bytes far n f r is has l =
     ap (λ x. x ++ words_read_by part kept c (access.Read 3 count) (at + 8)) (append-nil ((read_out part kept h ++ []) ++ []) ∙ append-nil (read_out part kept h ++ []) ∙ append-nil (read_out part kept h))
     ∙ ap (λ x. read_out part kept h ++ x) (read_answer part kept c count (at + 8) asks none ∙ words) in
     record {
-      reads = reads_all part kept (bytes ++ stream_of pieces 4) all.rests_again.no_stop
+      reads = reads_going part kept (bytes ++ stream_of pieces 4) all.rests_again.no_stop
           ∙ ap (read_out part kept) (stream_history bytes pieces 4 f r.searching fits (read_clears part far n))
           ∙ append-nil (read_out part kept d) ∙ out
-          ∙ ap (λ x. x ++ words_along part (memory_of part h) far n) (sym (reads_all part kept bytes r.no_stop))
+          ∙ ap (λ x. x ++ words_along part (memory_of part h) far n) (sym (reads_going part kept bytes r.no_stop))
           ∙ ap (λ (m : FrameMap). reads_of part kept bytes ++ words_along part m far n) (sym (memory_all part kept bytes r.no_stop));
       memory = λ x. all.memory x ∙ ap (λ (m : FrameMap). m x) (sym (memory_all part kept bytes r.no_stop));
       registers = settings_stay part kept bytes pieces 4 f r.searching fits (read_clears part far n) r.no_stop all.rests_again.no_stop (read_apart far count);

@@ -94,7 +94,7 @@ rests part kept startup bytes h n e l s g c =
       no_watchdog = all.calm.off;
     }
 
--- pieces that leave startup as it is, DESYNC and the no-ops
+-- where nothing stops the device and startup stays, DESYNC and no-ops change neither
 pub going_closed : (part : PartData) (kept : Kept) (startup : StartupProgress) (h : History) (n noops : ℕ) → IsGoing part kept startup h n → IsGoing part kept startup (entry (access.Write 4 13) (n + 8) ∷ h) (n + 8 + 4 * noops)
 going_closed part kept startup h n noops g =
     going_bytes part kept startup (entry (access.Write 4 13) (n + 8) ∷ h) (n + 8) (n + 8 + 4 * noops) (omega arith)

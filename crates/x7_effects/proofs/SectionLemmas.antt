@@ -42,13 +42,13 @@ use Rattle.x7_effects.proofs.WalkLemmas.{HasWritten, IsLoaded, IsReady, allows_w
 
 -- ---- copies
 
--- after MFW with this source
+-- a device that takes copies: CMD holds MFW, and `words` are the source
 record IsCopying (part : PartData) (kept : Kept) (startup : StartupProgress) (words : List ℕ) (h : History) (n : ℕ) (m : FrameMap) : Type 0 where
   ready : IsReady part kept startup h n m
   held_is : command_held h ≡ 2
   source_is : source_of part h ≡ Some words
 
--- MFW after the words of one frame
+-- MFW after the words of one frame makes this the source
 begins_copies : (part : PartData) (kept : Kept) (startup : StartupProgress) (far : ℕ) (words : List ℕ) (h : History) (n : ℕ) (m : FrameMap) → 0 < frame_words part → length words ≡ frame_words part → HasWritten part kept startup far words h n m
     → written_frames part far (onto words []) ≡ [] → IsCopying part kept startup words (written n (command Mfw ∷ []) h) (n + 8) m
 begins_copies part kept startup far words h n m some wide w none =

@@ -15,9 +15,9 @@ use Rattle.x7_effects.proofs.Items as item
 use Rattle.x7_effects.proofs.Items.{item_entered, writes_entered}
 use Rattle.x7_effects.proofs.Checking.{ArePieces, Check, Checking, ClearFirst, Piece, Put, checking_of, piece_item, piece_length}
 use Rattle.x7_effects.proofs.Streams.{copy_pieces, stream_of, section_pieces, sections_pieces}
-use Rattle.x7_effects.proofs.EndLemmas.{reads_all}
 use Rattle.x7_effects.proofs.GoingLemmas.{written}
 use Rattle.x7_effects.proofs.RestingLemmas.{stream_history}
+use Rattle.x7_engine.proofs.UntilReadLemmas.{reads_going}
 
 -- a piece that asks for no words
 abbrev pub IsSilent : Piece → Type 0
@@ -46,15 +46,15 @@ pieces_silent part kept place [] h s = refl
 pieces_silent part kept place (p ∷ pieces) h s =
     pieces_silent part kept (place + 4 * piece_length p) pieces (item_entered place (piece_item (checking_of h) p) h) s.1 ∙ piece_silent part kept place (checking_of h) p h s.0
 
--- a stream of such pieces that nothing stops
+-- a stream of pieces that ask for no words, and that nothing stops, reads nothing out
 pub stream_silent : (part : PartData) (kept : Kept) (bytes : List ℕ) (pieces : List Piece) (noops : ℕ) → AreBytes bytes → is_synced (reading_of bytes).place ≡ false → ArePieces pieces → ClearFirst pieces → AreSilent pieces
     → first_stop_of_bytes part kept bytes ≡ None → first_stop_of_bytes part kept (bytes ++ stream_of pieces noops) ≡ None → reads_of part kept (bytes ++ stream_of pieces noops) ≡ reads_of part kept bytes
 stream_silent part kept bytes pieces noops f e a c s before after =
-    reads_all part kept (bytes ++ stream_of pieces noops) after
+    reads_going part kept (bytes ++ stream_of pieces noops) after
     ∙ ap (read_out part kept) (stream_history bytes pieces noops f e a c)
     ∙ append-nil (read_out part kept (written (length bytes + 36) pieces (history_of bytes)))
     ∙ pieces_silent part kept (length bytes + 36) pieces (history_of bytes) s
-    ∙ sym (reads_all part kept bytes before)
+    ∙ sym (reads_going part kept bytes before)
 
 -- ---- the pieces of a plan's frames alone
 

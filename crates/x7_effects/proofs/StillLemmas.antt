@@ -28,11 +28,11 @@ startup_bytes h n m armed progress l k s =
       progress_is = ap progress_of (startup_more h n (m - n) l) ∙ progress_bytes (startup_calls h n) (m - n) ∙ ap (further (m - n)) s.progress_is;
     })
 
--- the calls with those of an access
+-- the calls of startup with those of one access more
 entered_by : (h : History) (access : Access) (place : ℕ) (calls : List Call) → startup_call h access ≡ calls → startup_calls (entry access place ∷ h) place ≡ startup_calls h place ++ calls
 entered_by h access place calls e = startup_entered h access place ∙ ap (λ (t : List Call). startup_calls h place ++ t) e
 
--- an access that asks nothing of startup
+-- an access that asks nothing of startup leaves it as it was
 pub startup_none : (h : History) (access : Access) (place : ℕ) (armed : Bool) (progress : StartupProgress) → startup_call h access ≡ [] → HasStartup h place armed progress → HasStartup (entry access place ∷ h) place armed progress
 startup_none h access place armed progress e s =
     let same : startup_calls (entry access place ∷ h) place ≡ startup_calls h place = entered_by h access place [] e ∙ append-nil (startup_calls h place) in
@@ -41,7 +41,7 @@ startup_none h access place armed progress e s =
       progress_is = ap progress_of same ∙ s.progress_is;
     }
 
--- START
+-- START arms startup
 pub startup_armed : (h : History) (access : Access) (place : ℕ) (armed : Bool) (progress : StartupProgress) → startup_call h access ≡ call.Arm ∷ [] → HasStartup h place armed progress → HasStartup (entry access place ∷ h) place true progress
 startup_armed h access place armed progress e s =
     let calls : startup_calls (entry access place ∷ h) place ≡ startup_calls h place ++ call.Arm ∷ [] = entered_by h access place (call.Arm ∷ []) e in
@@ -50,7 +50,7 @@ startup_armed h access place armed progress e s =
       progress_is = ap progress_of calls ∙ progress_arm (startup_calls h place) ∙ s.progress_is;
     }
 
--- a shutdown taken
+-- a shutdown that is taken leaves startup not begun
 pub startup_dropped : (h : History) (access : Access) (place : ℕ) → startup_call h access ≡ call.DropBack ∷ [] → HasStartup (entry access place ∷ h) place false NotBegun
 startup_dropped h access place e =
     let calls : startup_calls (entry access place ∷ h) place ≡ startup_calls h place ++ call.DropBack ∷ [] = entered_by h access place (call.DropBack ∷ []) e in
@@ -59,7 +59,7 @@ startup_dropped h access place e =
       progress_is = ap progress_of calls ∙ progress_drop (startup_calls h place);
     }
 
--- DESYNC
+-- DESYNC begins an armed startup that hasn't begun, and leaves it unarmed
 pub startup_desynced : (h : History) (access : Access) (place cor0 : ℕ) (armed : Bool) (progress : StartupProgress) → startup_call h access ≡ call.Desync cor0 ∷ [] → HasStartup h place armed progress
     → HasStartup (entry access place ∷ h) place false (progress_after_desync progress armed cor0)
 startup_desynced h access place cor0 armed progress e s =
@@ -81,7 +81,7 @@ disarmed h access place n cor0 e l =
     startup_desynced h access place cor0 (is_armed false (since_shutdown (startup_calls h place))) (startup_progress h place) e (record { armed_is = refl; progress_is = refl }) in
     (startup_bytes (entry access place ∷ h) place n false _ (omega arith) l here).armed_is
 
--- ---- startup that hasn't begun and isn't armed, or has ended, as in a progress: the phase and the COR0 that it began with
+-- ---- startup that hasn't begun and isn't armed, or has ended: the phase, and the COR0 that it began with
 
 -- startup has ended in a history and in a progress, with one COR0
 pub record HasEndedAs (part : PartData) (startup : StartupProgress) (h : History) (n : ℕ) : Type 0 where
@@ -142,7 +142,7 @@ still_none part startup h access place e (inr s) =
       same = ap (λ (t : List Call). cor0_of (progress_of t)) same ∙ s.same;
     })
 
--- startup that has begun goes on
+-- startup that has ended stays as it is over DESYNC
 goes_on : (part : PartData) (progress : StartupProgress) (armed : Bool) (cor0 : ℕ) → phase_by part progress ≡ 7 → progress_after_desync progress armed cor0 ≡ progress
 goes_on part NotBegun armed cor0 e = absurd (omega (arith, e))
 goes_on part (Begun c bytes) armed cor0 e = refl

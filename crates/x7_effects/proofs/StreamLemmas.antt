@@ -118,7 +118,7 @@ closed_place leading items k m f =
     reading_is (bytes_of_words (closed leading items k)) (session_of leading items ∷ []) (Searching (bytes_of_words (replicate k no_op))) (closed_reading leading items k m f) in
     sym is.1
 
--- items after other bytes
+-- words and items after n other bytes enter as they do alone, n bytes later
 writes_moved : (n place k r : ℕ) (ws : List ℕ) (h g : History) → k ≡ n + place → writes_entered k r ws (moved n h ++ g) ≡ moved n (writes_entered place r ws h) ++ g
 writes_moved n place k r [] h g e = refl
 writes_moved n place k r (w ∷ ws) h g e =

@@ -29,8 +29,8 @@ one register word = Put (Write (number_of register) (word ∷ []))
 abbrev pub stream_of : List Piece → ℕ → List ℕ
 stream_of pieces noops = bytes_of_words (closed bus_width_head (with_checks at_first pieces) noops)
 
--- a whole plan, by the idcode, the first address and the words of all slots from there on: SHUTDOWN, RCRC, the idcode,
--- startup's settings, the words, LFRM, START
+-- a whole plan, by the idcode, the first address and the words of all slots from there on: SHUTDOWN, RCRC, a no-op, the
+-- idcode, COR0, MASK and CTL0, WCFG, FAR, the words, a check, LFRM, START and a check
 abbrev pub full_with : ℕ → ℕ → List ℕ → List Piece
 full_with idcode first words =
     Put Noop ∷ command Shutdown ∷ command Rcrc ∷ Put Noop ∷ one Idcode idcode ∷ one Cor0 0x02003FE5 ∷ one Mask 0x501 ∷ one Ctl0 0x101

@@ -93,7 +93,7 @@ pub record IsLoaded (part : PartData) (kept : Kept) (startup : StartupProgress) 
   pub base_is : base_of part h ≡ far
   pub run_is : run_of part h ≡ []
 
--- an access that writes neither FDRI nor MFWR
+-- an access that writes neither FDRI nor MFWR leaves the memory
 pub quiet_one : (part : PartData) (h : History) (a : access.Access) (place : ℕ) (m : FrameMap) → (access.writes 2 a || access.writes 10 a) ≡ false → HaveSameFrames (memory_of part h) m → HaveSameFrames (memory_of part (entry a place ∷ h)) m
 quiet_one part h a place m q s = same_then (memory_of part (entry a place ∷ h)) (memory_of part h) m (quiet_memory part (entry a place ∷ []) h (q, tt)) s
 
@@ -117,7 +117,7 @@ ready_load part kept startup far h n m r s =
       run_is = ap (λ (f : Flow). f.run) loaded;
     }
 
--- words of frame data from there on
+-- a device that took these words of frame data from a FAR load on
 pub record HasWritten (part : PartData) (kept : Kept) (startup : StartupProgress) (far : ℕ) (words : List ℕ) (h : History) (n : ℕ) (m : FrameMap) : Type 0 where
   pub ready : IsReady part kept startup h n (put_over (written_frames part far (onto words [])) m)
   pub held_is : command_held h ≡ 1

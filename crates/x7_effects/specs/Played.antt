@@ -12,7 +12,7 @@ use Rattle.x7_part.specs.Slot.{slots_from}
 use Rattle.x7_startup.specs.Phases.{last_phase}
 use Rattle.x7_startup.specs.declared.lines.Lines.{Lines}
 use Rattle.x7_engine.specs.declared.kept.Kept.{Kept}
-use Rattle.x7_engine.specs.declared.regs.Regs.{Regs}
+use Rattle.x7_engine.specs.declared.snapshot.Snapshot.{Snapshot}
 use Rattle.x7_engine.specs.Rest.{AtRest}
 use Rattle.x7_engine.specs.State.{memory_of_bytes, reads_of, state_of}
 use Rattle.x7_planner.specs.FullStream.{full_stream, zero_frame}
@@ -30,7 +30,7 @@ pub record DeviceAfter : Type 0 where
 abbrev pub device_after : PartData → Kept → List ℕ → DeviceAfter
 device_after part kept bytes = record { part = part; kept = kept; bytes = bytes }
 
--- the device is at rest after its bytes, which are bytes, and the numbers of its part are in range
+-- the device is at rest after its bytes, which are numbers below 256, and the numbers of its part are in range
 pub record DeviceRests (d : DeviceAfter) : Type 0 where
   pub fits : AreBytes d.bytes
   pub at_rest : AtRest d.part d.kept d.bytes
@@ -62,7 +62,8 @@ bytes_with_both p later = bytes_with_full p ++ partial_stream p.device.part late
 abbrev pub memory_with_plan : PlannedPlay → FrameMap
 memory_with_plan p = override (memory_of_bytes p.device.part p.device.kept p.device.bytes) (planned p.plan.rows)
 
--- the words of a memory at a slot: its frame at an address, zeros at a pad
+-- the words of a memory at a slot: its frame at an address, zeros at a pad, past the last slot and where it has no
+-- frame
 abbrev pub slot_words : PartData → FrameMap → Slot → List ℕ
 slot_words part memory (Frame far) = unwrap_or (memory far) (zero_frame part)
 slot_words part memory Pad = zero_frame part
@@ -76,8 +77,9 @@ words_along part memory far n = zero_frame part ++ flat_map (slot_words part mem
 abbrev pub all_high : Lines
 all_high = record { done = true; gts = true; gwe = true }
 
--- the registers that no planned stream writes are as they were
-pub record KeepsUnwritten (old new : Regs) : Type 0 where
+-- the registers that keep a word and that no planned stream writes are as they were: COR1, CTL1, AXSS, WBSTAR, TIMER
+-- and BSPI
+pub record KeepsUnwritten (old new : Snapshot) : Type 0 where
   pub cor1 : new.cor1 ≡ old.cor1
   pub ctl1 : new.ctl1 ≡ old.ctl1
   pub axss : new.axss ≡ old.axss
@@ -85,9 +87,9 @@ pub record KeepsUnwritten (old new : Regs) : Type 0 where
   pub timer : new.timer ≡ old.timer
   pub bspi : new.bspi ≡ old.bspi
 
--- the registers that no planned stream writes, and the settings that a full stream writes, are as they were: all but
--- CRC, FAR, CMD and what shows the device's state
-pub record KeepsSettings (old new : Regs) : Type 0 where
+-- the registers that keep a word and that no planned stream writes, and the settings that a full stream writes (CTL0,
+-- MASK and COR0), are as they were; of CRC, FAR, CMD, IDCODE, STAT and BOOTSTS nothing is said
+pub record KeepsSettings (old new : Snapshot) : Type 0 where
   pub ctl0 : new.ctl0 ≡ old.ctl0
   pub mask : new.mask ≡ old.mask
   pub cor0 : new.cor0 ≡ old.cor0
@@ -114,8 +116,8 @@ pub record PlaysPartial (d : DeviceAfter) (stream : List ℕ) (plan : PlanData) 
   pub reads : reads_of d.part d.kept (d.bytes ++ stream) ≡ reads_of d.part d.kept d.bytes
   pub rests : AtRest d.part d.kept (d.bytes ++ stream)
 
--- A read stream reads out the words of n slots from an address on; memory, phase, lines and settings stay. There is no
--- stop, and the device is at rest again.
+-- A read stream reads out a frame of zeros and the words of n slots from an address on; memory, phase, lines and
+-- settings stay. There is no stop, and the device is at rest again.
 pub record PlaysRead (d : DeviceAfter) (stream : List ℕ) (far n : ℕ) : Type 0 where
   pub reads : reads_of d.part d.kept (d.bytes ++ stream) ≡ reads_of d.part d.kept d.bytes ++ words_along d.part (memory_of_bytes d.part d.kept d.bytes) far n
   pub memory : HaveSameFrames (memory_of_bytes d.part d.kept (d.bytes ++ stream)) (memory_of_bytes d.part d.kept d.bytes)
@@ -126,8 +128,9 @@ pub record PlaysRead (d : DeviceAfter) (stream : List ℕ) (far n : ℕ) : Type 
 
 -- ---- streams one after another
 
--- After the bytes `written`, which left this memory and read out no more than the device's own bytes did, the read
--- stream of n slots from an address on reads that memory out, and leaves it.
+-- After the bytes `written` and the read stream of n slots from an address on, the device has read out what its own
+-- bytes did, and then a frame of zeros and the words of this memory at the slots; its memory is this one, the phase is
+-- that after `written`, and it is at rest.
 pub record ReadsBack (d : DeviceAfter) (written : List ℕ) (memory : FrameMap) (far n : ℕ) : Type 0 where
   pub reads : reads_of d.part d.kept (written ++ read_stream d.part far n) ≡ reads_of d.part d.kept d.bytes ++ words_along d.part memory far n
   pub same : HaveSameFrames (memory_of_bytes d.part d.kept (written ++ read_stream d.part far n)) memory

@@ -10,7 +10,7 @@ use Rattle.x7_engine.specs.Course.{course_at}
 use Rattle.x7_engine.specs.State.{history_by, memory_of_bytes, state_by, state_of, first_stop_of_bytes, taken_by, why_stopped}
 use Rattle.x7_engine.specs.Stop.{Stopped, first_stop_of_history}
 use Rattle.x7_engine.specs.declared.kept.Kept.{Kept}
-use Rattle.x7_engine.specs.declared.regs.Regs.{Regs}
+use Rattle.x7_engine.specs.declared.snapshot.Snapshot.{Snapshot}
 
 module _ (part : PartData) (kept : Kept) (one other : List ℕ) (a : AreAlike one other) where
   pub alike_stop : first_stop_of_bytes part kept one ≡ first_stop_of_bytes part kept other
@@ -19,7 +19,7 @@ module _ (part : PartData) (kept : Kept) (one other : List ℕ) (a : AreAlike on
   pub alike_memory : memory_of_bytes part kept one ≡ memory_of_bytes part kept other
   alike_memory = ap (λ (o : Option Stopped). memory_of part (history_by o (history_of one))) alike_stop ∙ ap (λ (h : History). memory_of part (history_by (first_stop_of_bytes part kept other) h)) a.history
 
-  abbrev state_from : History → ℕ → Option Stopped → Bool → Bool → Regs
+  abbrev state_from : History → ℕ → Option Stopped → Bool → Bool → Snapshot
   state_from h n stop wrapped synced = state_by (course_at part kept (history_by stop h) (taken_by stop n)) wrapped (why_stopped stop) synced
 
   pub alike_state : (wrapped : Bool) → state_of part kept wrapped one ≡ state_of part kept wrapped other

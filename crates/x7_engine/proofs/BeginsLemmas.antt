@@ -41,7 +41,7 @@ abbrev progress_by : Option Beginning → ℕ → StartupProgress
 progress_by None n = NotBegun
 progress_by (Some b) n = Begun b.cor0 (n - b.place)
 
--- ---- the same by the calls
+-- ---- armed and begun, by the calls of startup
 
 begun_within : (h : History) (n : ℕ) (b : Beginning) → Placed n h → begun_in h ≡ Some b → b.place ≤ n
 begun_within [] n b p e = absurd (cc)
@@ -64,7 +64,7 @@ further_by (Some b) m n f l =
     let sum : m - b.place + (n - m) ≡ n - b.place = omega (arith, f b refl, l) in
     ap (Begun b.cor0) sum
 
--- what a call does to both
+-- with n bytes taken, the calls come to this: whether startup is armed, and where it began, if it has
 record AfterCall (calls : List Call) (armed : Bool) (o : Option Beginning) (n : ℕ) : Type 0 where
   armed_is : is_armed false (since_shutdown calls) ≡ armed
   progress_is : progress_of calls ≡ progress_by o n
@@ -113,7 +113,7 @@ after_history (e ∷ h) n p =
       progress_is = progress_bytes calls (n - e.place) ∙ ap (further (n - e.place)) here.progress_is ∙ further_by (begun_in (e ∷ h)) e.place n (λ b. begun_within (e ∷ h) e.place b placed) p.1;
     }
 
--- ---- the same in the guide's words
+-- ---- armed and begun, in the guide's words
 
 armed_is : (h : History) → IsTrue (armed_in h) ↔ IsArmed h
 armed_is [] = (λ e. absurd (cc), λ s. absurd (since_none (Executes 5) disarms s))
@@ -159,7 +159,7 @@ record BeganAt (h : History) (b : Beginning) : Type 0 where
   cor0_is : b.cor0 ≡ last_word 9 0 begins.older
   place_is : b.place ≡ begins.desync.place
 
--- a later access that takes no shutdown
+-- where startup began stays so with a later access that takes no shutdown
 began_on : (h : History) (x : Entry) (b : Beginning) → takes_shutdown h x.access ≡ false → BeganAt h b → BeganAt (x ∷ h) b
 began_on h x b t s =
     let g : StartupBegins h = s.begins in
@@ -204,7 +204,7 @@ began (x ∷ h) b e = by (takes_shutdown h x.access) (executes 13 h x.access) (a
           place_is = sym (ap (λ (z : Beginning). z.place) same);
         }
 
--- the first armed DESYNC begins it
+-- the first armed DESYNC since the last shutdown taken begins startup
 begun_at : (newer older : History) (e : Entry) → IsArmedDesync older e.access → (Since IsArmedDesync takes_shutdown older → ⊥) → NoneSince takes_shutdown newer (e ∷ older)
     → begun_in (newer ++ e ∷ older) ≡ Some (record { cor0 = last_word 9 0 older; place = e.place })
 begun_at [] older e s f l = by (takes_shutdown older e.access) (executes 13 older e.access) (armed_in older) (begun_in older) refl (no_taking older e.access 13 refl s.0) s.0 ((armed_is older).1 s.1)
@@ -232,7 +232,7 @@ begun_at (x ∷ newer) older e s f l =
     by false true a None t y = absurd (cc)
     by false false a o t y = y
 
--- ---- both ways
+-- ---- where startup begins, from the calls to the guide's words and back
 
 pub begins_by : (h : History) (n cor0 bytes : ℕ) → Placed n h → startup_progress h n ≡ Begun cor0 bytes → (b : StartupBegins h) × (cor0 ≡ last_word 9 0 b.older) × (b.desync.place + bytes ≡ n)
 begins_by h n cor0 bytes p e = by (begun_in h) refl (sym (after_history h n p).progress_is ∙ e)

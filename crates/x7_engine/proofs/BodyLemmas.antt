@@ -1,5 +1,5 @@
 -- Lemmas on the words of a payload that are taken one by one.
-use Rattle.std.proofs.Common.{◌≡◌, ◌+◌, ◌-◌, ◌*◌, ◌/◌, ◌<◌, ◌≤◌, ℕ, zero, suc, Bool, if◌then◌else◌, Option, None, [], ◌∷◌, ◌++◌, List, length, take, get_or, map, refl, sym, ap, subst, ◌∙◌, arith}
+use Rattle.std.proofs.Common.{◌≡◌, ◌+◌, ◌-◌, ◌*◌, ◌/◌, ◌<◌, ◌≤◌, ℕ, Bool, if◌then◌else◌, Option, None, [], ◌∷◌, ◌++◌, List, length, take, get_or, map, refl, sym, ap, subst, ◌∙◌, arith}
 use Rattle.std.proofs.lemmas.Bool.{le-ltb}
 use Rattle.std.proofs.lemmas.List.{get_or-map, length-map, length-take-le, map-append, take-map, take_all, take_more}
 use Rattle.std.specs.Simd.{first_chunks}
@@ -21,7 +21,7 @@ write_more register n w ws h =
     ap (λ t. entered_all n t h) (map-append _ ws (w ∷ []))
     ∙ entered_all_append n (payload_steps register ws) (payload_steps register (w ∷ [])) h
 
--- the words of the first chunks, and one chunk more
+-- the words of the first i chunks, four bytes each, and then that of the next chunk
 pub chunk_word : (bytes : List ℕ) (chunks : List (List ℕ)) (i w : ℕ) → chunks ≡ first_chunks 4 (length bytes / 4) bytes → i < length chunks → w ≡ word_of_bytes (get_or chunks i [])
     → take (i + 1) (words_of_bytes bytes) ≡ take i (words_of_bytes bytes) ++ w ∷ []
 chunk_word bytes chunks i w e l f =
@@ -30,23 +30,7 @@ chunk_word bytes chunks i w e l f =
     take_more (words_of_bytes bytes) i 0 within
     ∙ ap (λ (x : ℕ). take i (words_of_bytes bytes) ++ x ∷ []) (ap (λ t. get_or t i 0) words ∙ get_or-map word_of_bytes chunks i [] 0 l ∙ sym f)
 
--- there is a word for each four bytes
-pub length_of_words : (bytes : List ℕ) → length (words_of_bytes bytes) ≡ length bytes / 4
-length_of_words bytes = by_fours (length bytes / 4) bytes refl
-  where
-    by_fours : (n : ℕ) (bs : List ℕ) → length bs / 4 ≡ n → length (words_of_bytes bs) ≡ n
-    by_fours zero [] h = refl
-    by_fours zero (a ∷ []) h = refl
-    by_fours zero (a ∷ b ∷ []) h = refl
-    by_fours zero (a ∷ b ∷ c ∷ []) h = refl
-    by_fours zero (a ∷ b ∷ c ∷ d ∷ bs) h = absurd (omega arith)
-    by_fours (suc n) [] h = absurd (omega arith)
-    by_fours (suc n) (a ∷ []) h = absurd (omega arith)
-    by_fours (suc n) (a ∷ b ∷ []) h = absurd (omega arith)
-    by_fours (suc n) (a ∷ b ∷ c ∷ []) h = absurd (omega arith)
-    by_fours (suc n) (a ∷ b ∷ c ∷ d ∷ bs) h = ap suc (by_fours n bs (omega arith))
-
--- all chunks are all words
+-- there are as many words as chunks of four bytes
 pub chunks_are : (bytes : List ℕ) (chunks : List (List ℕ)) → chunks ≡ first_chunks 4 (length bytes / 4) bytes → length (words_of_bytes bytes) ≡ length chunks
 chunks_are bytes chunks e = ap length (words_by_chunks (length bytes / 4) bytes refl ∙ ap (map word_of_bytes) (sym e)) ∙ length-map chunks word_of_bytes
 
@@ -98,7 +82,7 @@ word_on part kept old new register n i w left taken m ws h e l t k r g f s =
     ∙ word_entered register n i w taken ws h e l t in
     subst (λ (x : History). RegistersStandFor part kept new x m) all one
 
--- all words
+-- registers that took all words, and that nothing stopped, are those after these words
 pub words_all : (part : PartData) (kept : Kept) (d : RegistersState) (register n i m : ℕ) (ws : List ℕ) (h : History) → length ws ≤ i → d.stop ≡ None → RegistersStandFor part kept d (entered_all n (payload_steps register (take i ws)) h) m
     → RegistersStandFor part kept d (until (counted_in d.stop m) (entered_all n (payload_steps register ws) h)) m
 words_all part kept d register n i m ws h l e s =

@@ -22,6 +22,7 @@ use Rattle.x7_engine.specs.Stop.{Stopped, asks_decryption, why_at_access, needs_
 use Rattle.x7_engine.proofs.BeginsLemmas.{begins_by}
 use Rattle.x7_engine.proofs.StateLemmas.{counted_least, no_stop_before, stop_place, parts_none}
 use Rattle.x7_engine.proofs.TurnLemmas.{until_until}
+use Rattle.x7_words.proofs.CaseLemmas.{not_false}
 
 pub none_at : (place : ℕ) (o : Option StopCause) → stop_at_place place o ≡ None → o ≡ None
 none_at place None e = refl
@@ -67,7 +68,7 @@ counted_most (stop.Fault fault.Multi) place = omega arith
 counted_most (stop.Fault fault.Encrypted) place = omega arith
 counted_most stop.Iprog place = omega arith
 
--- ---- nor anything before the stop of bytes
+-- ---- no access that ends before the last byte taken stops a device
 
 pub taken_placed : (part : PartData) (kept : Kept) (bytes : List ℕ) → AreBytes bytes → Placed (taken_of part kept bytes) (history_taken part kept bytes)
 taken_placed part kept bytes fits = by (first_stop_of_bytes part kept bytes)
@@ -100,7 +101,7 @@ none_before part kept bytes access place older fits s l = by (first_stop_of_byte
         ∙ kept_on.1 in
         no_why part kept kept_on.0 older access place (length prefix) (ap (λ (h : History). first_stop_of_history part kept h (length prefix)) (sym same) ∙ none)
 
--- ---- what this means
+-- ---- what holds of a write that stops nothing
 
 none_of : {A : Type 0} (a b c d e : Bool) (v w x y z : A) → (if a then Some v else if b then Some w else if c then Some x else if d then Some y else if e then Some z else None) ≡ None → (a ≡ false) × (b ≡ false) × (c ≡ false) × (d ≡ false)
 none_of true b c d e v w x y z q = absurd (cc)
@@ -112,10 +113,6 @@ none_of false false false false e v w x y z q = (refl, refl, refl, refl)
 write_none : (part : PartData) (kept : Kept) (h : History) (register w : ℕ) → why_at_access part kept h (Write register w) ≡ None
     → ((register == 0 && not (w == running_check h)) ≡ false) × (asks_decryption h register w ≡ false) × ((register == 12 && not (same_idcode part.idcode w)) ≡ false) × ((needs_idcode h register w && not (has_idcode part.idcode h)) ≡ false)
 write_none part kept h register w e = none_of _ _ _ _ _ _ _ _ _ _ (parts_none (why_by_write part kept h register w) _ e).0
-
-not_false : (b : Bool) → not b ≡ false → b ≡ true
-not_false true e = refl
-not_false false e = absurd (cc)
 
 and_not : (a b : Bool) → (a && not b) ≡ false → a ≡ true → b ≡ true
 and_not true b e f = not_false b e

@@ -85,7 +85,7 @@ or_assoc (Some x) b c d = refl
 or_assoc None (Some x) c d = refl
 or_assoc None None c d = refl
 
--- the stop of bytes more
+-- the first stop with k bytes more is that of before, or else the first firing at these
 pub stop_more_bytes : (part : PartData) (kept : Kept) (h : History) (n k : ℕ) → newest_place h ≤ n → first_stop_of_history part kept h (n + k) ≡ option_or (first_stop_of_history part kept h n) (stop_at_firing (first_firing part kept h n k))
 stop_more_bytes part kept [] n k l =
     let first : 0 + n ≡ n = omega arith in
@@ -103,7 +103,7 @@ stop_more_bytes part kept (e ∷ h) n k l =
     ∙ ap (λ (o : Option Stopped). option_or before (option_or why o)) (watchdog_or first (first_firing part kept (e ∷ h) n k))
     ∙ or_assoc before why (stop_at_firing first) (stop_at_firing (first_firing part kept (e ∷ h) n k))
 
--- the stop at the place of an access more
+-- where nothing stopped before, the stop at the place of an access more is by this access
 pub stop_of_access : (part : PartData) (kept : Kept) (h : History) (access : Access) (place : ℕ) → first_stop_of_history part kept h place ≡ None → first_stop_of_history part kept (entry access place ∷ h) place ≡ stop_at_place place (why_at_access part kept h access)
 stop_of_access part kept h access place e =
     let none : place - place ≡ 0 = omega arith in
@@ -165,7 +165,7 @@ full_not : (on : Bool) (c v : ℕ) → ¬ (IsTrue on × (c ≡ v)) → (on && c 
 full_not true c v f = elim (c == v) as (λ b. (c == v) ≡ b → b ≡ false) [ true ↦ λ e. absurd (f (refl, grind (arith, nat_tests, e))) | false ↦ λ e. refl ] refl
 full_not false c v f = refl
 
--- the calls of one byte more
+-- the watchdog's calls with one byte more
 pub one_watched : (part : PartData) (h : History) (n : ℕ) → newest_place h ≤ n → watch_calls part h (n + 1) ≡ watch_calls part h n ++ Watched (has_ended part h (n + 1)) ∷ []
 one_watched part h n l =
     let here : n + 0 + 1 ≡ n + 1 = omega arith in
@@ -188,7 +188,7 @@ fires_not part kept h n l f =
     full_not (is_on off (timer_held kept h) eos) (watched_count off kept.timer (watch_calls part h (n + 1))) (timer_value_of (timer_held kept h) * 4)
     (λ g. f (subst (λ (t : ℕ). IsTrue (is_on off t eos)) (sym timer) g.0, sym (ap (watched_count off kept.timer) (one_watched part h n l)) ∙ g.1 ∙ sym (ap (λ (t : ℕ). timer_value_of t * 4) timer)))
 
--- ---- bytes that are alike
+-- ---- bytes that are alike: startup has ended at each of them, or at none
 
 one_more_alike : (k : ℕ) (e : Bool) → bytes_alike k e ++ Watched e ∷ [] ≡ bytes_alike (suc k) e
 one_more_alike k e =
@@ -211,7 +211,7 @@ none_fires part kept h n (suc count) f =
     ap (λ (o : Option ℕ). fired_or o (watchdog_fires part kept h (n + count + 1)) (n + count + 1)) (none_fires part kept h n count (λ i l. f i (omega arith)))
     ∙ ap (λ (b : Bool). fired_or None b (n + count + 1)) (f count (omega arith))
 
--- the first byte that fires
+-- where the watchdog fires at none of i bytes, and at the next one, it first fires there
 pub first_is : (part : PartData) (kept : Kept) (h : History) (n i count : ℕ) → i < count → first_firing part kept h n i ≡ None → watchdog_fires part kept h (n + i + 1) ≡ true → first_firing part kept h n count ≡ Some (n + (i + 1))
 first_is part kept h n i count l e f =
     let split : count ≡ i + (suc (count - i - 1)) = omega arith in
@@ -223,14 +223,14 @@ first_is part kept h n i count l e f =
     ∙ firing_more part kept h n (suc i) (count - i - 1)
     ∙ ap (λ (o : Option ℕ). option_or o (first_firing part kept h (n + suc i) (count - i - 1))) here
 
--- one byte more that doesn't fire
+-- one byte more at which the watchdog doesn't fire
 pub none_more : (part : PartData) (kept : Kept) (h : History) (n i : ℕ) → first_firing part kept h n i ≡ None → watchdog_fires part kept h (n + i + 1) ≡ false → first_firing part kept h n (i + 1) ≡ None
 none_more part kept h n i e f =
     let next : i + 1 ≡ suc i = omega arith in
     ap (first_firing part kept h n) next
     ∙ ap (λ (o : Option ℕ). fired_or o (watchdog_fires part kept h (n + i + 1)) (n + i + 1)) e ∙ ap (λ (b : Bool). fired_or None b (n + i + 1)) f
 
--- one byte of those that are alike fires by the calls before it
+-- at a byte of those that are alike the watchdog fires as the calls before it say
 alike_here : (part : PartData) (kept : Kept) (h : History) (n i : ℕ) (eos : Bool) → newest_place h ≤ n → ((j : ℕ) → j < i + 1 → has_ended part h (n + j + 1) ≡ eos)
     → FiresNext (is_fallback kept.kind) kept.timer (watch_calls part h (n + i)) (has_ended part h (n + i + 1)) ≡ FiresNext (is_fallback kept.kind) kept.timer (watch_calls part h n ++ bytes_alike i eos) eos
 alike_here part kept h n i eos l f =
@@ -266,7 +266,7 @@ pub last_of : (part : PartData) (p : StartupProgress) → phase_by part p ≤ 7
 last_of part NotBegun = omega arith
 last_of part (Begun cor0 bytes) = (phase_is part (Begun cor0 bytes)).most
 
--- where startup has ended before and after some bytes or neither, so it is all along
+-- where startup has ended both before and after some bytes, or neither, so it is at each of them
 pub ends_alike : (part : PartData) (h : History) (n count i : ℕ) (eos : Bool) → newest_place h ≤ n → eos ≡ has_ended part h n → eos ≡ has_ended part h (n + count) → i < count → has_ended part h (n + i + 1) ≡ eos
 ends_alike part h n count i eos l e f m =
     let near : n + i + 1 ≡ n + (i + 1) = omega arith in

@@ -1,9 +1,9 @@
 -- Lemmas on frame data that is taken at once.
-use Rattle.std.proofs.Common.{◌≡◌, ◌+◌, ◌*◌, ◌/◌, ◌%◌, ◌-◌, ◌≤◌, ℕ, true, inl, inr, List, [], ◌∷◌, ◌++◌, length, take, drop, Option, None, Some, refl, sym, ap, subst, ◌∙◌, arith}
+use Rattle.std.proofs.Common.{◌≡◌, ◌+◌, ◌*◌, ◌/◌, ◌%◌, ◌-◌, ◌≤◌, ℕ, true, inl, inr, List, [], ◌∷◌, ◌++◌, length, take, drop, Option, None, Some, sym, ap, subst, ◌∙◌, arith}
 use Rattle.std.proofs.lemmas.List.{length-drop, length-map, length-take-le, map-append, take-append-drop, take_all}
 use Rattle.std.specs.Option.{option_or}
 use Rattle.x7_words.specs.Word.{words_of_bytes}
-use Rattle.x7_words.proofs.WordLemmas.{words_of_bytes_append}
+use Rattle.x7_words.proofs.WordLemmas.{words_of_bytes_append, words_count}
 use Rattle.x7_packets.specs.History.{History, Write, entered_all, entry}
 use Rattle.x7_packets.specs.Packet.{payload_steps}
 use Rattle.x7_packets.proofs.HistoryLemmas.{entered_all_append}
@@ -19,9 +19,9 @@ use Rattle.x7_regs.specs.Register.{number_of}
 use Rattle.x7_engine.specs.declared.kept.Kept.{Kept}
 use Rattle.x7_engine.specs.declared.stop.StopCause.{StopCause}
 use Rattle.x7_engine.specs.Stop.{why_by_frames, why_by_write, why_at_access}
-use Rattle.x7_engine.proofs.BodyLemmas.{length_of_words}
 use Rattle.x7_engine.proofs.FrameLemmas.{why_fdri, why_mfwr}
 use Rattle.x7_engine.proofs.PlainLemmas.{IsQuiet, NoneStop, fdri_quiet, mfwr_quiet}
+use Rattle.std.proofs.Math.Seq.{take-append_seam}
 
 -- words of a register on a device whose IDCODE was written, none of which the frames refuse, stop nothing
 none_stop : (part : PartData) (kept : Kept) (r : Reg) (n : ℕ) (ws : List ℕ) (h : History) → ((g : History) (w : ℕ) → has_idcode part.idcode g ≡ true → why_by_write part kept g (number_of r) w ≡ None)
@@ -45,16 +45,12 @@ data_quiet r t = elim t [
   | inr e ↦ rw e mfwr_quiet
 ]
 
-take_prefix : (prefix rest : List ℕ) → take (length prefix) (prefix ++ rest) ≡ prefix
-take_prefix [] rest = refl
-take_prefix (x ∷ prefix) rest = ap (λ t. x ∷ t) (take_prefix prefix rest)
-
 -- the words before the refused one
 pub given : (part : PartData) (f : FramesState) (h : History) (x : WordsTo) (seen : ℕ × Option RunFault) → WordsTaken part f h x seen
     → (NoneRefused part x.register x.place (take (count_taken seen.0 seen.1) x.words) h) × FramesStandFor part f (with_words_to x.register x.place (take (count_taken seen.0 seen.1) x.words) h) 0
 given part f h x seen t =
     let size : count_taken seen.0 seen.1 ≡ length t.taken = by seen.1 t.counted in
-    let prefix : take (count_taken seen.0 seen.1) x.words ≡ t.taken = ap (λ (k : ℕ). take k x.words) size ∙ ap (take (length t.taken)) t.words_are ∙ take_prefix t.taken t.rest in (
+    let prefix : take (count_taken seen.0 seen.1) x.words ≡ t.taken = ap (λ (k : ℕ). take k x.words) size ∙ ap (take (length t.taken)) t.words_are ∙ take-append_seam t.taken t.rest in (
       subst (λ (ws : List ℕ). NoneRefused part x.register x.place ws h) (sym prefix) t.none_refused,
       subst (λ (ws : List ℕ). FramesStandFor part f (with_words_to x.register x.place ws h) 0) (sym prefix) t.stands,
     )
@@ -74,7 +70,7 @@ data_entered : (register n m : ℕ) (bytes : List ℕ) (h : History) → m % 4 �
 data_entered register n m bytes h whole l =
     let prefix : List ℕ = words_of_bytes (take m bytes) in
     let rest : List ℕ = words_of_bytes (drop m bytes) in
-    let size : length (payload_steps register prefix) ≡ length (take m bytes) / 4 = length-map prefix _ ∙ length_of_words (take m bytes) in
+    let size : length (payload_steps register prefix) ≡ length (take m bytes) / 4 = length-map prefix _ ∙ words_count (take m bytes) in
     let place : n + 4 * length (payload_steps register prefix) ≡ n + m = omega (arith, size, length-take-le m bytes l, whole) in
     sym (ap (λ (ws : List ℕ). entered_all n (payload_steps register ws) h) (data_words m bytes whole l)
     ∙ ap (λ t. entered_all n t h) (map-append _ prefix rest)

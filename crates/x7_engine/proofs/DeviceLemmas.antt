@@ -9,7 +9,7 @@ use Rattle.x7_packets.specs.declared.cutter.Cut.TheVariants.{Body, Head, Need, S
 use Rattle.x7_packets.specs.Mode.{Mode}
 use Rattle.x7_packets.specs.declared.header.Step.{Step}
 use Rattle.x7_packets.specs.declared.header.Step.TheVariants as step
-use Rattle.x7_packets.specs.Cutter.{AtPlace, between, CutterState, CutterStandsFor, IsLent, IsRun, LongerSession, AfterRun, run_bytes, run_steps, syncs_to_give}
+use Rattle.x7_packets.specs.Cutter.{AtPlace, between, CutterState, CutterStandsFor, IsLent, IsRun, LongerSession, AfterRun, run_bytes, run_steps}
 use Rattle.x7_packets.specs.History.{History, Placed, entered_all, history_of, next_word, until}
 use Rattle.x7_packets.specs.Packet.{Packet, payload_steps}
 use Rattle.x7_packets.specs.Reading.{EndedSession, IsReading, Place, Searching, Synced, tail_of}
@@ -18,19 +18,13 @@ use Rattle.x7_packets.proofs.HistoryLemmas.{cut_enters, next_word_is, words_end}
 use Rattle.x7_part.specs.Part.{PartData}
 use Rattle.x7_engine.specs.declared.kept.Kept.{Kept}
 use Rattle.x7_engine.specs.declared.stop.StopCause.{StopCause}
-use Rattle.x7_engine.specs.Standing.{DeviceStandsFor, DeviceState, EndsWords, RunLiesWithin, IsCutterOf, RegistersStandFor, counted_in, due_count, reads_given, words_still_due}
+use Rattle.x7_engine.specs.Standing.{DeviceStandsFor, DeviceState, EndsWords, FitsWithin, IsCutterOf, RegistersStandFor, counted_in, due_count, reads_given, words_still_due}
 use Rattle.x7_engine.specs.State.{history_by, history_taken, reads_of, first_stop_of_bytes}
 use Rattle.x7_engine.specs.Stop.{Stopped, first_stop_of_history, stop_at_place}
 use Rattle.x7_engine.specs.Value.{read_out}
-use Rattle.x7_engine.proofs.BodyLemmas.{length_of_words}
 use Rattle.x7_engine.proofs.FrameLemmas.{length_left}
 use Rattle.x7_engine.proofs.TurnLemmas.{history_until, no_rest, stop_until}
-
--- at most one sync word is still to be given
-pub one_sync : (mode : Mode) → syncs_to_give mode ≤ 1
-one_sync Mode.Searching = omega arith
-one_sync Mode.SyncFound = omega arith
-one_sync Mode.Synced = omega arith
+use Rattle.x7_words.proofs.WordLemmas.{words_count}
 
 -- the words given, where all that is read out are these and some more that are due
 prefix_given : (known rest : List ℕ) (due : ℕ) → length rest ≡ due → take (length (known ++ rest) - due) (known ++ rest) ≡ known
@@ -52,8 +46,8 @@ between_prefix piece from at left l =
 pub length_between : (piece : List ℕ) (from to : ℕ) → from ≤ to → to ≤ length piece → length (between piece from to) ≡ to - from
 length_between piece from to l m = length-take-le (to - from) (drop from piece) (omega (arith, length-drop from piece))
 
--- a lent run lies in the piece
-pub holds_run : (c n : CutterState) (run : Cut) (left count : ℕ) (cut : List ℕ) → IsLent c left run → c.kept ++ cut ≡ run_bytes run ++ n.kept → count ≡ length cut → RunLiesWithin run count
+-- a lent payload has no more bytes than were taken of the piece
+pub holds_run : (c n : CutterState) (run : Cut) (left count : ℕ) (cut : List ℕ) → IsLent c left run → c.kept ++ cut ≡ run_bytes run ++ n.kept → count ≡ length cut → FitsWithin run count
 holds_run c n Need left count cut k e l = tt
 holds_run c n (Skip bs) left count cut k e l = tt
 holds_run c n Sync left count cut k e l = tt
@@ -61,7 +55,7 @@ holds_run c n (Head w s) left count cut k e l = tt
 holds_run c n (Word r w) left count cut k e l = tt
 holds_run c n (Body r bs) left count cut k e l = omega (arith, ap length e, length-append c.kept cut, length-append bs.now n.kept, ap length k.0, l)
 
--- nothing of a lent run is kept before it
+-- a cutter that keeps no byte stands in a session without a tail
 no_tail : (c : CutterState) (m : Mode) (gap tail : List ℕ) (packets : List Packet) → AtPlace c m (Synced gap packets tail) → c.kept ≡ [] → tail ≡ []
 no_tail c Mode.Searching gap tail packets a e = absurd a
 no_tail c Mode.SyncFound gap tail packets a e = a.1
@@ -75,7 +69,7 @@ words_place n bytes gap tail packets more sessions new_sessions new s l =
     omega (arith, next_word_is bytes new_sessions new s.reading, ap length ends.1, ends.0)
 
 body_words : (register : ℕ) (bs : List ℕ) → length (payload_steps register (words_of_bytes bs)) ≡ length bs / 4
-body_words register bs = length-map (words_of_bytes bs) _ ∙ length_of_words bs
+body_words register bs = length-map (words_of_bytes bs) _ ∙ words_count bs
 
 pub one_word_ends : (n : CutterState) (bytes cut gap tail : List ℕ) (packets : List Packet) (s : ℕ × Step) (sessions new_sessions : List EndedSession) (new : Place) → IsReading bytes sessions (Synced gap packets tail) → CutterStandsFor n (bytes ++ cut) new_sessions new
     → LongerSession gap packets (s ∷ []) sessions new_sessions new → (let from : ℕ = next_word sessions (Synced gap packets tail) in (length bytes < from + 4) × (from + 4 ≡ length bytes + length cut))
@@ -105,7 +99,7 @@ ends_words c n bytes cut sessions (Synced gap packets tail) (Body register bs) l
 pub going_taken : (part : PartData) (kept : Kept) (bytes : List ℕ) → first_stop_of_bytes part kept bytes ≡ None → history_taken part kept bytes ≡ history_of bytes
 going_taken part kept bytes e = ap (λ (o : Option Stopped). history_by o (history_of bytes)) e
 
--- a run more
+-- the device after a run more
 pub turned : (part : PartData) (kept : Kept) (wrapped : Bool) (d e : DeviceState) (bytes cut more rest : List ℕ) (run : Cut) (count left room : ℕ) → DeviceStandsFor part kept wrapped d bytes → d.registers.stop ≡ None
     → ((sessions : List EndedSession) (place : Place) → CutterStandsFor d.cutter bytes sessions place → AfterRun d.cutter e.cutter (bytes ++ cut) sessions place run)
     → ((h : History) (from n : ℕ) → EndsWords run from n count → RegistersStandFor part kept d.registers h n → RegistersStandFor part kept e.registers (until (counted_in e.registers.stop (n + (count - left))) (entered_all from (run_steps run) h)) (n + (count - left)))

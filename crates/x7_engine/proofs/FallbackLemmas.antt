@@ -14,7 +14,7 @@ use Rattle.x7_engine.specs.State.{history_by, memory_of_bytes, state_by, state_o
 use Rattle.x7_engine.specs.Stop.{Stopped, first_stop_of_history, stop_at_place, stop_at_firing, why_at_access}
 use Rattle.x7_engine.specs.Watching.{first_firing, timer_held, turns_on}
 use Rattle.x7_engine.specs.declared.kept.Kept.{Kept}
-use Rattle.x7_engine.specs.declared.regs.Regs.{Regs}
+use Rattle.x7_engine.specs.declared.snapshot.Snapshot.{Snapshot}
 use Rattle.x7_engine.specs.declared.stop.StopCause.{StopCause}
 use Rattle.x7_engine.proofs.RestLemmas.{never_fires}
 
@@ -45,8 +45,8 @@ module _ (part : PartData) (one other : Kept) (bytes : List ℕ) (f : AreFallbac
   pub kept_memory : memory_of_bytes part one bytes ≡ memory_of_bytes part other bytes
   kept_memory = ap (λ (o : Option Stopped). memory_of part (history_by o (history_of bytes))) kept_stop
 
-  -- the registers but those that tell what was kept
-  abbrev registers : Kept → Bool → Option Stopped → Regs
+  -- the state after the bytes, by their first stop, without what shows what was kept
+  abbrev registers : Kept → Bool → Option Stopped → Snapshot
   registers kept wrapped o = without_kept (state_by (course_at part kept (history_by o (history_of bytes)) (taken_by o (length bytes))) wrapped (why_stopped o) (is_synced (reading_of bytes).place))
 
   not_kept : (wrapped : Bool) (o : Option Stopped) → registers one wrapped o ≡ registers other wrapped o

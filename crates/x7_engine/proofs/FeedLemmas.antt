@@ -57,7 +57,7 @@ stands_given part kept wrapped d r bytes old new going on s registers g = record
   none_due_at_stop = λ why q. absurd (none-some _ (sym on ∙ q));
 }
 
--- words more after words more
+-- a buffer after words, and then after more, is that after all of them
 pub words_append : (b : ReadBufState) (first more : List ℕ) → with_words (with_words b first) more ≡ with_words b (first ++ more)
 words_append b first more = ap (λ ws. record { most = b.most; words = ws }) (by_most b.most b.words first more)
   where
@@ -65,7 +65,7 @@ words_append b first more = ap (λ ws. record { most = b.most; words = ws }) (by
     by_most None words first more = refl
     by_most (Some most) words first more = append_assoc words first more
 
--- no words more
+-- a buffer after no words is as it was
 pub words_none : (b : ReadBufState) → b ≡ with_words b []
 words_none b = ap (λ ws. record { most = b.most; words = ws }) (by_most b.most b.words)
   where
@@ -73,7 +73,7 @@ words_none b = ap (λ ws. record { most = b.most; words = ws }) (by_most b.most 
     by_most None words = refl
     by_most (Some most) words = sym (append-nil words)
 
--- the bytes taken before and in a run
+-- the bytes of a piece up to a place, and then those up to a later one
 pub taken_more : (bytes piece : List ℕ) (from to : ℕ) → from ≤ to → (bytes ++ take from piece) ++ between piece from to ≡ bytes ++ take to piece
 taken_more bytes piece from to l =
     let sum : from + (to - from) ≡ to = omega arith in
@@ -83,7 +83,7 @@ taken_more bytes piece from to l =
     ∙ ap (λ t. take from (take to piece) ++ t) (sym (ap (λ (k : ℕ). drop from (take k piece)) (sym sum) ∙ drop-take from (to - from) piece))
     ∙ take-append-drop from (take to piece))
 
--- a run more of a piece
+-- the device after the bytes of a piece up to a place, and then up to a later one
 pub stands_on : (part : PartData) (kept : Kept) (wrapped : Bool) (d e : DeviceState) (bytes piece : List ℕ) (from to : ℕ) → from ≤ to
     → ((b : List ℕ) → DeviceStandsFor part kept wrapped d b → DeviceStandsFor part kept wrapped e (b ++ between piece from to))
     → DeviceStandsFor part kept wrapped d (bytes ++ take from piece) → DeviceStandsFor part kept wrapped e (bytes ++ take to piece)
@@ -102,7 +102,7 @@ now_given p x y z q g m = (
   g.2 ∙ ap (λ t. t ++ g.0) m.2 ∙ append_assoc (reads_given_at x.device p) m.0 g.0,
 )
 
--- what is answered for a stop
+-- the answer for a stop at a place says that the bytes up to there were taken
 pub taken_by_stop : (why : StopCause) (n at : ℕ) → taken_in n (answer_at_stop why at) ≡ at
 taken_by_stop (stop.Fault f) n at = refl
 taken_by_stop stop.Iprog n at = refl
@@ -160,7 +160,7 @@ one_due part f h count i l s =
     let next : count - i ≡ count - (i + 1) + 1 = omega (arith, l) in
     subst (FramesStandFor part f h) next s
 
--- a word more
+-- a buffer that gets one word of frame data more
 pub got_more : (part : PartData) (f : FramesState) (h : History) (count i w : ℕ) (first read new : ReadBufState) → i < count → GotAllBut (words_due part h (count - i)) (words_due part h count) first read
     → FramesStandFor part f h (count - i) → ((due : ℕ) → FramesStandFor part f h (due + 1) → words_due part h (suc due) ≡ w ∷ words_due part h due)
     → new ≡ with_words read (w ∷ []) → GotAllBut (words_due part h (count - (i + 1))) (words_due part h count) first new
@@ -173,7 +173,7 @@ got_more part f h count i w first read new l g s word e =
       words_are = g.words_are ∙ ap (λ (k : ℕ). g.more ++ words_due part h k) later ∙ ap (λ t. g.more ++ t) (word due (one_due part f h count i l s)) ∙ sym (append_assoc g.more (w ∷ []) (words_due part h due));
     }
 
--- a dropping buffer takes them all
+-- a dropping buffer takes all words
 pub got_dropped : (words : List ℕ) (read : ReadBufState) → read.most ≡ None → GotAllBut [] words read read
 got_dropped words read e = record {
   more = words;
@@ -181,7 +181,7 @@ got_dropped words read e = record {
   words_are = sym (append-nil words);
 }
 
--- fewer words of frame data are due of those of one read
+-- where all words due are frame data, so are fewer of them
 fewer_among : (h : History) (count left : ℕ) → left ≤ count → count ≡ frames_among h count → left ≡ frames_among h left
 fewer_among [] count left l e = omega (arith, l, e)
 fewer_among (a ∷ h) count left l e = by (reads_frame_data h a.access) e

@@ -20,11 +20,11 @@ none_of_none : (o p : Option ℕ) → option_or o p ≡ None → o ≡ None
 none_of_none None p e = refl
 none_of_none (Some x) p e = absurd (none-some _ (sym e))
 
--- of fewer bytes than those without a firing none fires
+-- where the watchdog fires at none of b bytes, it fires at none of the first of them
 pub firing_less : (part : PartData) (kept : Kept) (h : History) (n a b : ℕ) → a ≤ b → first_firing part kept h n b ≡ None → first_firing part kept h n a ≡ None
 firing_less part kept h n a b l e = none_of_none (first_firing part kept h n a) (first_firing part kept h (n + a) (b - a)) (firing_upto part kept h n a b l ∙ e)
 
--- of the bytes before the one that fires none does
+-- the watchdog fires at none of the bytes before the one at which it first fires
 pub firing_first : (part : PartData) (kept : Kept) (c : ClockState) (h : History) (n count k : ℕ) → ClockTakes (course_at part kept h n) c count (Some k) → first_firing part kept h n (k - 1) ≡ None
 firing_first part kept c h n count k t =
     by (first_firing part kept h n (k - 1)) (firing_within part kept h n (k - 1)) (firing_upto part kept h n (k - 1) count (omega (arith, t.1)) ∙ t.3)

@@ -51,7 +51,7 @@ none_newest part kept n (e ∷ h) p = let not_here : (e.place == suc n) ≡ fals
 some_newest : (part : PartData) (kept : Kept) (n : ℕ) (h : History) (access : Access) → why_at_newest part kept (entry access n ∷ h) n ≡ why_at_access part kept h access
 some_newest part kept n h access = let here : (n == n) ≡ true = grind (arith, nat_tests) in rw here refl
 
--- the stop up to the byte itself, before its access
+-- the first stop up to one byte more, without the access that ends there
 fired_next : (part : PartData) (kept : Kept) (h : History) (n : ℕ) → Placed n h → first_stop_of_history part kept h (suc n) ≡ option_or (first_stop_of_history part kept h n) (stop_at_firing (fired_or None (watchdog_fires part kept h (suc n)) (suc n)))
 fired_next part kept h n p =
     let next : suc n ≡ n + 1 = omega arith in
@@ -59,7 +59,7 @@ fired_next part kept h n p =
     ap (first_stop_of_history part kept h) next ∙ stop_more_bytes part kept h n 1 (newest_within n h p)
     ∙ ap (λ (m : ℕ). option_or (first_stop_of_history part kept h n) (stop_at_firing (fired_or None (watchdog_fires part kept h m) m))) here
 
--- the stop with the access of the byte
+-- the first stop up to a byte, with the access that ends there
 fired_entered : (part : PartData) (kept : Kept) (h : History) (n : ℕ) (access : Access) → first_stop_of_history part kept (entry access n ∷ h) n ≡ option_or (first_stop_of_history part kept h n) (stop_at_place n (why_at_access part kept h access))
 fired_entered part kept h n access =
     let none : n - n ≡ 0 = omega arith in
@@ -104,7 +104,7 @@ none_more whys n f e m some few = elim (m == suc n) as (λ b. (m == suc n) ≡ b
   | false ↦ λ q. f m some (let less : m ≤ n = grind (arith, nat_tests, q, few) in less)
 ] refl
 
--- of a row that is none up to here, and of one that is some
+-- what a row comes to at place n: none where no place up to it has a cause, else the least place that has one
 abbrev Found : (ℕ → Option StopCause) → ℕ → Option Stopped → Type 0
 Found whys n None = AreNone whys n
 Found whys n (Some s) = IsLeast whys n s
@@ -120,7 +120,7 @@ found stops whys most (suc n) r l =
     subst (λ (o : Option Stopped). Found whys (suc n) o) (sym (r.1 n (omega (arith, l))))
     (found_more whys n (stops n) (whys (suc n)) refl (found stops whys most n r (omega (arith, l))))
 
--- two that are least are one
+-- what a row comes to is the least place that has a cause
 one_least : (whys : ℕ → Option StopCause) (most : ℕ) (o : Option Stopped) (s : Stopped) → Found whys most o → IsLeast whys most s → o ≡ Some s
 one_least whys most None s f i = absurd (let no : Some s.why ≡ None = sym i.holds ∙ f s.place i.some i.within in cc)
 one_least whys most (Some t) s f i = by (t.place == s.place) refl
@@ -139,7 +139,7 @@ one_least whys most (Some t) s f i = by (t.place == s.place) refl
         less_or_more : (a b : ℕ) → (a == b) ≡ false → (a < b) ⊎ (b < a)
         less_or_more a b e = grind (arith, nat_tests, e)
 
--- ---- of bytes
+-- ---- the first stop of bytes
 
 -- the history of a byte more
 pub one_more : (bytes : List ℕ) (n : ℕ) → AreBytes bytes → n < length bytes → Placed n (history_of (take n bytes)) × OneMore (suc n) (history_of (take n bytes)) (history_of (take (suc n) bytes))

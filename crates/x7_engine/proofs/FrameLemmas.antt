@@ -59,7 +59,7 @@ frames_of part f why h due e s =
 pub goes_on : (why : Option StopCause) → why ≡ None → is_refusal why ≡ false
 goes_on why e = ap is_refusal e
 
--- nor has one that the watchdog stopped
+-- a device that goes on, or that the watchdog stopped, has refused nothing
 pub ticks_on : (why : Option StopCause) (P : Type 0) → ((l : StopCause) → why ≡ Some l → (l ≡ stop.Fault fault.Watchdog) × P) → is_refusal why ≡ false
 ticks_on None P f = refl
 ticks_on (Some l) P f = ap (λ (x : StopCause). is_refusal (Some x)) (f l refl).0
@@ -88,7 +88,7 @@ none_left part h due.Nothing e = refl
 none_left part h (due.Same word count) e = ap (λ (n : ℕ). replicate n word) e
 none_left part h (due.Frames count) e = ap (λ (n : ℕ). words_due part h n) e
 
--- no words are due
+-- where no word is due, the words read out are the same without those due
 pub no_word_due : (reads : List ℕ) (part : PartData) (h : History) (d : Due) → due_count d ≡ 0 → reads ≡ reads ++ words_still_due part h d
 no_word_due reads part h d e = sym (ap (λ (ws : List ℕ). reads ++ ws) (none_left part h d e) ∙ append-nil reads)
 
@@ -101,12 +101,12 @@ length_left part h due.Nothing = refl
 length_left part h (due.Same word count) = length-replicate count word
 length_left part h (due.Frames count) = length_from part _ _ _ count
 
--- where none is due, a value is that of the history
+-- where no word is due, a value is that of the history
 pub value_now : (part : PartData) (kept : Kept) (f : Option Fault) (h : History) (n : ℕ) (r : Reg) → value_owing (course_at part kept h n) f 0 r ≡ register_value (course_at part kept h n) false f r
 value_now part kept f h n reg.Far = ap (far_in part) (sym (no_less (flow_of part h)))
 value_now part kept f h n r = refl
 
--- where no word is due and no access was refused
+-- where no word is due and nothing stopped the device, the frames stand for the whole history
 pub standing_frames : (part : PartData) (f : FramesState) (why : Option StopCause) (h : History) (d : Due) → why ≡ None → due_count d ≡ 0 → FramesAre part f why h (frames_due d) → FramesStandFor part f h 0
 standing_frames part f why h d e z s = frames_of part f why h 0 (goes_on why e) (subst (λ (n : ℕ). FramesAre part f why h n) (none_frames d z) s)
 
@@ -124,7 +124,7 @@ why_fdri part kept h w t = rw t refl
 pub why_mfwr : (part : PartData) (kept : Kept) (h : History) (w : ℕ) → has_idcode part.idcode h ≡ true → why_by_write part kept h 10 w ≡ None
 why_mfwr part kept h w t = rw t refl
 
--- an access that the frames refuse stops it by nothing else
+-- an access that the frames refuse stops a device by nothing else
 pub one_why : (part : PartData) (kept : Kept) (h : History) (access : Access) (fault : RunFault) → frame_fault part h access ≡ Some fault → why_besides_frames part kept h access ≡ None
 one_why part kept h (Read r count) fault e = refl
 one_why part kept h (Bad w) fault e = absurd (none-some _ e)
@@ -150,7 +150,7 @@ one_why part kept h (Write r w) fault e = by (r == 1) (r == 4) (r == 2 && takes_
     by false false false true e p q = q refl
     by false false false false e p q = absurd (none-some _ e)
 
--- an access by its register alone is no refusal of the frames
+-- a stop by an access, the faults of frames left out, is no refusal of the frames
 no_refusal : (part : PartData) (kept : Kept) (h : History) (access : Access) → is_refusal (why_besides_frames part kept h access) ≡ false
 no_refusal part kept h (Read r count) = refl
 no_refusal part kept h (Bad w) = refl
@@ -172,7 +172,7 @@ no_refusal part kept h (Write r w) =
 
 -- ---- one access more
 
--- a refused one leaves the frames as they are
+-- a refused access leaves the frames as they are
 pub refused : (part : PartData) (f : FramesState) (h : History) (e : Entry) (refusal : RunFault) → frame_fault part h e.access ≡ Some refusal → FramesStandFor part f h 0 → FramesAre part f (Some (stop_of_refused refusal)) (e ∷ h) 0
 refused part f h e refusal r s = by refusal r
   where
@@ -184,7 +184,7 @@ refused part f h e refusal r s = by refusal r
     by Overrun r = record { stands = s; memory_same = λ x. sym (refused_memory part e h Overrun r x); far_same = far Overrun r }
     by Multi r = record { stands = s; memory_same = λ x. sym (refused_memory part e h Multi r x); far_same = far Multi r }
 
--- after an access, by why it stops the device
+-- the frames after an access, by why it stops the device
 pub access_frames : (part : PartData) (kept : Kept) (f g : FramesState) (h : History) (e : Entry) (why now : Option StopCause) (result : Option RunFault) → FramesStandFor part f h 0
     → AfterAccess part g h e result → result ≡ frame_fault part h e.access → why ≡ why_besides_frames part kept h e.access → now ≡ option_or why (why_by_frames result) → FramesAre part g now (e ∷ h) 0
 access_frames part kept f g h e why now None s after r l n =

@@ -36,7 +36,7 @@ gap_phase part kept wrapped bytes e f =
     ap (λ (h : History). phase_by part (startup_progress h (taken_of part kept bytes))) (gap_taken part kept bytes e f)
     ∙ ap (phase_by part) (not_begun (taken_of part kept bytes))
 
--- bytes without the sync word
+-- bytes without the sync word stop no fallback, and startup doesn't begin in them
 pub no_sync_goes_on : (part : PartData) (kept : Kept) (bytes : List ℕ) → AreBytes bytes → is_fallback kept.kind ≡ true → HasNoSync bytes → first_stop_of_bytes part kept bytes ≡ None
 no_sync_goes_on part kept bytes fits e n = gap_goes_on part kept bytes e (nothing_read bytes fits n).1
 

@@ -21,7 +21,6 @@ mod PhaseLemmas
 mod PlainLemmas
 pub mod ReadsLemmas
 pub mod RestLemmas
-mod RunningLemmas
 pub mod SameLemmas
 mod SequenceLemmas
 mod SinceLemmas
@@ -31,6 +30,6 @@ mod TimeoutLemmas
 pub mod TurnLemmas
 mod UndoLemmas
 pub mod UntilLemmas
-mod UntilReadLemmas
+pub mod UntilReadLemmas
 mod WrapLemmas
 mod WriteLemmas

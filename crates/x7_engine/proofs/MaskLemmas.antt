@@ -1,5 +1,5 @@
 -- Lemmas on a register under MASK: its bits.
-use Rattle.std.proofs.Common.{◌≡◌, ◌-◌, ◌^◌, ◌<◌, ◌==◌, ◌⊎◌, inl, inr, ℕ, Bool, true, false, if◌then◌else◌, [], ◌∷◌, refl, ap, ◌∙◌, arith, bit_and, bit_or, min, max, w32}
+use Rattle.std.proofs.Common.{◌≡◌, ◌-◌, ◌^◌, ◌<◌, ◌==◌, inl, inr, ℕ, if◌then◌else◌, [], ◌∷◌, ap, ◌∙◌, arith, bit_and, bit_or, min, max, w32}
 use Rattle.std.proofs.lemmas.Nat.Bits.{bit_at_and, bit_at_or, bit_at_not, bit_at-zero, bit_at-lt}
 use Rattle.std.proofs.lemmas.Bool.Decides.{nat_tests}
 use Rattle.std.proofs.lemmas.Nat.{or_lt}
@@ -8,10 +8,7 @@ use Rattle.std.specs.Int.{bit_at}
 use Rattle.x7_packets.specs.History.{Access, AllFit, Bad, FitsAccess, History, Read, Write, last_word, written}
 use Rattle.x7_flow.specs.Controls.{mask_held, masked_register, masked_word}
 use Rattle.x7_engine.specs.Registers.{HasMaskedBits, bit_written}
-
-true_or_false : (b : Bool) → (b ≡ true) ⊎ (b ≡ false)
-true_or_false true = inl refl
-true_or_false false = inr refl
+use Rattle.x7_words.proofs.CaseLemmas.{true_or_false}
 
 choose : (o w m : ℕ) → o < 2 → w < 2 → m < 2 → max (min o (1 - m)) (min w m) ≡ (if m == 1 then w else o)
 choose o w m a b c = grind (arith, nat_tests)

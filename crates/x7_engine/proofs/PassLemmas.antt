@@ -23,7 +23,7 @@ use Rattle.x7_engine.proofs.DeviceLemmas.{going_taken, given_by}
 use Rattle.x7_engine.proofs.FrameLemmas.{no_word_due}
 use Rattle.x7_engine.proofs.TurnLemmas.{history_until, no_rest, quiet_until}
 
--- one stretch of a piece and the next
+-- the bytes of a piece from a place to a second, and from there to a third
 pub between_join : (piece : List ℕ) (from at to : ℕ) → from ≤ at → at ≤ to → between piece from at ++ between piece at to ≡ between piece from to
 between_join piece from at to l m =
     let sum : at - from + (to - at) ≡ to - from = omega (arith, l, m) in

@@ -22,6 +22,7 @@ use Rattle.x7_engine.specs.declared.stop.StopCause.TheVariants as stop
 use Rattle.x7_engine.proofs.FallbackLemmas.{none_fired}
 use Rattle.x7_engine.proofs.SameLemmas.{IsSame, check, faults, held, mask}
 use Rattle.x7_engine.proofs.StateLemmas.{parts_none}
+use Rattle.x7_engine.proofs.CheckedLemmas.{none_at}
 
 -- ---- why a write stops a device, by what was left before it
 
@@ -52,11 +53,8 @@ lets_pass part fallback check mask ctl0 matched held r w e =
     (r == number_of reg.Cmd && (w % 2 ^ 5 == code_of command.Iprog && not fallback)) (r == number_of reg.Cmd && (w % 2 ^ 5 == code_of command.Iprog && not true))
     (stop.Fault (fault.Crc check w)) (stop.Fault fault.Encrypted) (stop.Fault (fault.Id part.idcode w)) (stop.Fault (fault.Id part.idcode 0)) stop.Iprog (and_right (r == number_of reg.Cmd) (w % 2 ^ 5 == code_of command.Iprog && not true) (and_right (w % 2 ^ 5 == code_of command.Iprog) false refl)) e
 
-stopped_none : (place : ℕ) (w : Option StopCause) → stop_at_place place w ≡ None → w ≡ None
-stopped_none place None e = refl
-stopped_none place (Some w) e = absurd (cc)
-
--- an access at which nothing stops, in a fallback; and back, in any attempt
+-- a fallback without a stop has none after an access that stops nothing; and an attempt without a stop after an access
+-- had none before it, nor by it
 pub goes_past : (part : PartData) (kept : Kept) (h : History) (a : Access) (place m : ℕ) → is_fallback kept.kind ≡ true → first_stop_of_history part kept h place ≡ None → why_at_access part kept h a ≡ None → first_stop_of_history part kept (entry a place ∷ h) m ≡ None
 goes_past part kept h a place m fell before why =
     ap (λ (o : Option Stopped). option_or o (option_or (stop_at_place place (why_at_access part kept h a)) (stop_at_firing (first_firing part kept (entry a place ∷ h) place (m - place))))) before
@@ -68,7 +66,7 @@ went_past part kept h e m none =
     let fired : Option Stopped = stop_at_firing (first_firing part kept (e ∷ h) e.place (m - e.place)) in
     let here : Option Stopped = stop_at_place e.place (why_at_access part kept h e.access) in
     let parts : (first_stop_of_history part kept h e.place ≡ None) × (option_or here fired ≡ None) = parts_none (first_stop_of_history part kept h e.place) (option_or here fired) none in
-    (parts.0, stopped_none e.place (why_at_access part kept h e.access) (parts_none here fired parts.1).0)
+    (parts.0, none_at e.place (why_at_access part kept h e.access) (parts_none here fired parts.1).0)
 
 module _ (part : PartData) (kept power : Kept) (low : ℕ) (g h : History) (fell : is_fallback kept.kind ≡ true) (s : IsSame part low g h) where
   passes : (a : Access) → why_besides_frames part power h a ≡ None → why_besides_frames part kept g a ≡ None

@@ -17,7 +17,7 @@ each_by_fields d e Fact same f part kept wrapped bytes s =
     subst (λ (p : PartData). Fact (past_of p kept wrapped bytes)) here
     (f kept wrapped bytes (subst (λ (x : DeviceState). DeviceStandsFor d.part kept wrapped x bytes) (sym same) (subst (λ (p : PartData). DeviceStandsFor p kept wrapped e bytes) (sym here) s)))
 
--- a device that took bytes
+-- a device that took bytes has a past, where it had one before
 pub past_later : (old new : DeviceState) (more : List ℕ) → TakesJust old new more → HasSomePast old → HasSomePast new
 past_later old new more takes s = record { past = later s.past more; has = takes s.past.part s.past.kept s.past.wrapped s.past.bytes s.has }
 
@@ -54,7 +54,7 @@ past_equal d e same s =
     let p : Past = s.past in
     subst HasSomePast (sym same) (record { past = p; has = stands_fed p.part p.kept p.wrapped e p.bytes d.fed s.has })
 
--- a device that has the stored values of an old one
+-- a device that has the stored values of another is equal to it but for the bytes ever fed
 pub equal_back : (d e : DeviceState) → d.part ≡ e.part → d.cutter ≡ e.cutter → d.registers ≡ e.registers → d.wrapped ≡ e.wrapped → d.taken ≡ e.taken → AreEqualButForFed d e
 equal_back d e part cutter registers wrapped taken =
     ap (λ x. record d { part = x }) part

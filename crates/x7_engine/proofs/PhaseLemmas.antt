@@ -1,4 +1,4 @@
--- How fast startup goes: over k bytes by a phase for each four of them that are begun, whatever they are.
+-- How fast startup goes: over k bytes by one phase at most for each four of them that are begun, whatever they are.
 use Rattle.std.proofs.Common.{◌≡◌, ◌+◌, ◌-◌, ◌/◌, ◌<◌, ◌≤◌, ◌⊎◌, inl, inr, ℕ, zero, suc, Bool, true, false, if◌then◌else◌, List, [], ◌∷◌, ◌++◌, length, length-append, refl, ap, sym, subst, ◌∙◌, append_assoc, append-nil, replicate, arith}
 use Rattle.std.proofs.lemmas.Bool.{cases_lt}
 use Rattle.x7_words.specs.Word.{AreBytes}
@@ -35,7 +35,7 @@ placed_first p q k false d (inl e) = inl (ap (λ (x : StartupProgress). progress
 placed_first p q k armed d (inr (inl r)) = inr (inl (r.0, r.1, r.2, ap (λ (x : StartupProgress). progress_after_desync x armed d) r.3))
 placed_first p q k armed d (inr (inr r)) = inr (inr (r.0, r.1, ap (λ (x : StartupProgress). progress_after_desync x armed d) r.2, r.3))
 
--- a call of an access
+-- the call of an access keeps what k bytes reach
 called : (p : StartupProgress) (calls : List Call) (k : ℕ) (arms drops desyncs : Bool) (d : ℕ) → Reaches p (progress_of calls) k
     → Reaches p (progress_of (calls ++ (if arms then Arm ∷ [] else if drops then DropBack ∷ [] else if desyncs then Desync d ∷ [] else []))) k
 called p calls k true drops desyncs d r = subst (λ (x : StartupProgress). Reaches p x k) (sym (progress_arm calls)) r
@@ -45,11 +45,11 @@ called p calls k false false false d r = subst (λ (t : List Call). Reaches p (p
 
 -- ---- a byte more
 
--- this many bytes after a history
+-- how far startup is k bytes further in a history
 startup_on : (h : History) (n k : ℕ) → Placed n h → startup_progress h (n + k) ≡ further k (startup_progress h n)
 startup_on h n k placed = ap progress_of (startup_more h n k (newest_within n h placed)) ∙ progress_bytes (startup_calls h n) k
 
--- an access that ends at the byte
+-- an access that ends at the last byte keeps what k bytes reach
 startup_entered : (p : StartupProgress) (h : History) (access : Access) (n k : ℕ) → Reaches p (startup_progress h n) k → Reaches p (startup_progress (entry access n ∷ h) n) k
 startup_entered p h access n k r =
     let none : n - n ≡ 0 = omega arith in
@@ -89,7 +89,7 @@ reach_bytes p bytes (x ∷ more) k fits r =
 
 -- ---- phases
 
--- a phase comes at its tick at the soonest
+-- j phases further take j ticks at least
 first_tick_late : (w : ℕ → ℕ) (p j : ℕ) → first_tick_of w p + j ≤ first_tick_of w (p + j)
 first_tick_late w p zero = let e : p + 0 ≡ p = omega arith in rw e (omega arith)
 first_tick_late w p (suc j) =
@@ -98,7 +98,7 @@ first_tick_late w p (suc j) =
     let g : first_tick_of w (p + j) + 1 ≤ first_tick_of w (suc (p + j)) = first_tick_grows w (p + j) in
     rw e (omega arith)
 
--- this many ticks later it is higher by as many at most
+-- d ticks later the phase is higher by d at most
 phase_within : (w : ℕ → ℕ) (t u d p q : ℕ) → IsPhase w t p → IsPhase w u q → u ≤ t + d → q ≤ p + d
 phase_within w t u d p q a b l = elim (cases_lt (p + d) q) [
   | inr low ↦ low

@@ -32,8 +32,9 @@ use Rattle.x7_engine.specs.Stop.{why_besides_frames, why_by_frames, why_at_acces
 use Rattle.x7_engine.specs.Watching.{fired_or, watchdog_fires, first_firing, timer_held, watch_call, watch_calls, watched_bytes}
 use Rattle.x7_engine.proofs.ClockLemmas.{startup_entered, startup_more, stop_more_bytes, watch_entered, watch_more}
 use Rattle.x7_engine.proofs.TurnLemmas.{prefix_until, newest_within}
+use Rattle.std.proofs.lemmas.Bool.{or_parts}
 
--- words of the register move no flag, no register under MASK and no clock
+-- words of the register move no flag, no register under MASK and no clock, and are just folded into the check
 pub record IsQuiet (register : ℕ) : Type 0 where
   pub crc : (register == 0) ≡ false
   pub far : (register == 1) ≡ false
@@ -51,27 +52,23 @@ pub record IsPlain (register : ℕ) : Type 0 where
   pub mfwr : (register == 10) ≡ false
   pub cbc : (register == 11) ≡ false
 
-both_false : (a b : Bool) → (a || b) ≡ false → (a ≡ false) × (b ≡ false)
-both_false true b p = absurd cc
-both_false false b p = (refl, p)
-
 pub quiet_is : (register : ℕ) → is_controlling register ≡ false → IsQuiet register
 quiet_is register e =
-    let crc = both_false (register == 0) _ e in
-    let far = both_false (register == 1) _ crc.1 in
-    let cmd = both_false (register == 4) _ far.1 in
-    let ctl0 = both_false (register == 5) _ cmd.1 in
-    let lout = both_false (register == 8) _ ctl0.1 in
-    let idcode = both_false (register == 12) _ lout.1 in
-    let timer = both_false (register == 17) _ idcode.1 in
-    let ctl1 = both_false (register == 24) _ timer.1 in
+    let crc = or_parts (register == 0) _ e in
+    let far = or_parts (register == 1) _ crc.1 in
+    let cmd = or_parts (register == 4) _ far.1 in
+    let ctl0 = or_parts (register == 5) _ cmd.1 in
+    let lout = or_parts (register == 8) _ ctl0.1 in
+    let idcode = or_parts (register == 12) _ lout.1 in
+    let timer = or_parts (register == 17) _ idcode.1 in
+    let ctl1 = or_parts (register == 24) _ timer.1 in
     record { crc = crc.0; far = far.0; cmd = cmd.0; ctl0 = ctl0.0; lout = lout.0; idcode = idcode.0; timer = timer.0; ctl1 = ctl1.0 }
 
 pub plain_is : (register : ℕ) → has_effect register ≡ false → IsPlain register
 plain_is register e =
-    let fdri = both_false (register == 2) _ e in
-    let mfwr = both_false (register == 10) _ fdri.1 in
-    let cbc = both_false (register == 11) _ mfwr.1 in
+    let fdri = or_parts (register == 2) _ e in
+    let mfwr = or_parts (register == 10) _ fdri.1 in
+    let cbc = or_parts (register == 11) _ mfwr.1 in
     record { quiet = quiet_is register cbc.1; fdri = fdri.0; mfwr = mfwr.0; cbc = cbc.0 }
 
 pub fdri_quiet : IsQuiet 2
@@ -99,7 +96,7 @@ why_none part kept h register w p =
     sym (ap (λ (o : Option StopCause). option_or o (why_by_frames (frame_fault part h (Write register w)))) (own_none part kept h register w p)
     ∙ ap (λ (a : Asked). why_by_frames (fault_by part a (flow_of part h))) (plain_asks part.idcode h register w p))
 
--- the flags stay
+-- the flags are those of the history
 pub record AreFlags (idcode : ℕ) (matched pending ghigh iprog : Bool) (h : History) : Type 0 where
   pub matched_is : matched ≡ has_idcode idcode h
   pub pending_is : pending ≡ is_pending h
@@ -118,7 +115,7 @@ flags_more idcode matched pending ghigh iprog h register w place p s =
       iprog_is = s.iprog_is ∙ sym (ap (λ b. b && w % 2 ^ 5 == 15 || wrote_iprog h) p.cmd);
     }
 
--- a read or a word that is no header asks nothing of the clock
+-- an access that asks nothing of startup and of the watchdog leaves the clock
 pub clock_other : (part : PartData) (kept : Kept) (c : ClockState) (h : History) (access : Access) (place : ℕ) → startup_call h access ≡ [] → watch_call h access ≡ [] → IsClock part kept c h place → IsClock part kept c (entry access place ∷ h) place
 clock_other part kept c h access place start watch s =
     let calls : startup_calls (entry access place ∷ h) place ≡ startup_calls h place = startup_entered h access place ∙ ap (λ t. startup_calls h place ++ t) start ∙ append-nil (startup_calls h place) in
@@ -135,7 +132,7 @@ clock_plain part kept c h register w place p s =
     let watch : watch_call h (Write register w) ≡ [] = rw (executes_none (command_held h) register w p, p.timer) refl in
     clock_other part kept c h (Write register w) place start watch s
 
--- the last of the words is the one that is held
+-- of words written to a register the last one is held, and other registers hold what they held
 pub word_held_all : (kept : Kept) (r register n last : ℕ) (prefix : List ℕ) (h : History) → word_held kept r (entered_all n (payload_steps register (prefix ++ last ∷ [])) h) ≡ (if register == r then last else word_held kept r h)
 word_held_all kept r register n last [] h = refl
 word_held_all kept r register n last (x ∷ prefix) h =
@@ -159,17 +156,17 @@ words_last chunks last w e f =
     ∙ map-append word_of_bytes (take (length chunks - 1) chunks) (last ∷ [])
     ∙ ap (λ x. map word_of_bytes (take (length chunks - 1) chunks) ++ x ∷ []) (sym f)
 
--- registers under MASK stay
+-- registers under MASK stay after words written to a quiet register
 pub controls_stay : (d : ControlsState) (register n : ℕ) (ws : List ℕ) (h : History) → IsQuiet register → AreControls d h → AreControls d (entered_all n (payload_steps register ws) h)
 controls_stay d register n ws h p s =
     kept_all (AreControls d) register (λ (h : History) (w place : ℕ) (s : AreControls d h). record { ctl0 = rw p.ctl0 s.ctl0; ctl1 = rw p.ctl1 s.ctl1 }) n ws h s
 
--- the flags stay after all of them
+-- the flags stay after words written to a quiet register
 pub flags_stay : (idcode : ℕ) (matched pending ghigh iprog : Bool) (register n : ℕ) (ws : List ℕ) (h : History) → IsQuiet register → AreFlags idcode matched pending ghigh iprog h → AreFlags idcode matched pending ghigh iprog (entered_all n (payload_steps register ws) h)
 flags_stay idcode matched pending ghigh iprog register n ws h p s =
     kept_all (AreFlags idcode matched pending ghigh iprog) register (λ (h : History) (w place : ℕ) (s : AreFlags idcode matched pending ghigh iprog h). flags_more idcode matched pending ghigh iprog h register w place p s) n ws h s
 
--- ---- its words after bytes that the clock took already
+-- ---- words of a quiet or plain register, after bytes that the clock took already
 
 plain_calls : (h : History) (register w : ℕ) → IsQuiet register → startup_call h (Write register w) ≡ []
 plain_calls h register w p = rw (executes_none (command_held h) register w p, p.crc) refl

@@ -83,7 +83,7 @@ newer_stop part kept (x ∷ newer) h first most n s a l none e =
         let less : x.place + 0 < s.place = watchdog_after part kept (x ∷ (newer ++ h)) x.place 0 (n - x.place) s (omega arith) refl g in
         omega (arith, less, a.0)
 
--- ---- so all accesses of the first bytes are counted_most
+-- ---- so all accesses of the first bytes count
 
 until_all : (first n : ℕ) (h : History) → Placed first h → first ≤ n → until n h ≡ h
 until_all first n [] p l = refl

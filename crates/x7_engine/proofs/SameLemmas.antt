@@ -44,7 +44,7 @@ more_calls (x ∷ t) a b s =
     subst (λ (y : List Call). SameStartup y (b ++ x ∷ t)) (append_assoc a (x ∷ []) t)
     (subst (λ (y : List Call). SameStartup ((a ++ x ∷ []) ++ t) y) (append_assoc b (x ∷ []) t) (more_calls t (a ++ x ∷ []) (b ++ x ∷ []) (one_more x a b s)))
 
--- the calls with those of an access, which asks the same, and of bytes
+-- startup stays the same with an access that asks the same of it, and with bytes
 after_access : (low : ℕ) (g h : History) (e : Entry) → low ≤ e.place → ((n : ℕ) → low ≤ n → SameStartup (startup_calls g n) (startup_calls h n)) → startup_call g e.access ≡ startup_call h e.access
     → (n : ℕ) → low ≤ n → SameStartup (startup_calls (e ∷ g) n) (startup_calls (e ∷ h) n)
 after_access low g h e l s same n m =
@@ -52,9 +52,10 @@ after_access low g h e l s same n m =
     more_calls bytes (startup_calls g e.place ++ startup_call g e.access) (startup_calls h e.place ++ startup_call h e.access)
     (subst (λ (c : List Call). SameStartup (startup_calls g e.place ++ startup_call g e.access) (startup_calls h e.place ++ c)) same (more_calls (startup_call g e.access) (startup_calls g e.place) (startup_calls h e.place) (s e.place l)))
 
--- ---- the same for a device
+-- ---- what two histories have left of a device
 
--- from a place on, two histories have left the same: all but WBSTAR's word
+-- from a place on, two histories have left the same, but for WBSTAR's word, CTL1, GHIGH_B, the watchdog's count, and
+-- whether IPROG was written
 pub record IsSame (part : PartData) (low : ℕ) (g h : History) : Type 0 where
   pub words : (r d : ℕ) → (16 == r) ≡ false → last_word r d g ≡ last_word r d h
   pub ctl0 : ctl0_held g ≡ ctl0_held h
@@ -127,7 +128,7 @@ module _ (part : PartData) (low : ℕ) (g h : History) (s : IsSame part low g h)
 
 -- ---- before RCRC
 
--- no frame has been written, copied or read
+-- a flow is as it began, but for its command: base 0, no word of a run or a readback, and no source
 pub record IsIdle (f : Flow) : Type 0 where
   pub base : f.base ≡ 0
   pub run : f.run ≡ []
@@ -138,7 +139,8 @@ pub ordered : (part : PartData) (c : Command) (f : Flow) → IsIdle f → far_of
 ordered part c f i =
     ap (λ (b : ℕ). far_of part b f.run f.given) i.base ∙ ap (λ (r : List ℕ). far_of part 0 r f.given) i.run ∙ ap (far_of part 0 []) i.given ∙ far_loaded part 0
 
--- two histories have left the same but for WBSTAR, CMD, the check and the flow's command
+-- from a place on, two histories have left the same, but for what `IsSame` leaves out, CMD, the check and the flow's
+-- command; the flow of each is else as it began
 pub record IsNear (part : PartData) (low : ℕ) (g h : History) : Type 0 where
   pub words : (r d : ℕ) → (16 == r) ≡ false → (4 == r) ≡ false → last_word r d g ≡ last_word r d h
   pub ctl0 : ctl0_held g ≡ ctl0_held h
@@ -150,7 +152,7 @@ pub record IsNear (part : PartData) (low : ℕ) (g h : History) : Type 0 where
   pub startup : (n : ℕ) → low ≤ n → SameStartup (startup_calls g n) (startup_calls h n)
 
 module _ (part : PartData) (low : ℕ) (g h : History) (s : IsNear part low g h) where
-  -- a register of its own
+  -- a word written to WBSTAR, TIMER or BSPI
   pub near_write : (r w place : ℕ) → (r ≡ 16) ⊎ ((r ≡ 17) ⊎ (r ≡ 31)) → low ≤ place → IsNear part low (entry (Write r w) place ∷ g) (entry (Write r w) place ∷ h)
   unfolding flow_of memory_of
   near_write r w place (inl e) l = subst (λ (x : ℕ). IsNear part low (entry (Write x w) place ∷ g) (entry (Write x w) place ∷ h)) (sym e) (record {
@@ -184,7 +186,7 @@ module _ (part : PartData) (low : ℕ) (g h : History) (s : IsNear part low g h)
     startup = after_access low g h (entry (Write 31 w) place) l s.startup refl;
   })
 
-  -- NULL, the SPI read command and SHUTDOWN
+  -- NULL, BSPI_READ and SHUTDOWN, written to CMD
   pub near_null : (place : ℕ) → low ≤ place → IsNear part low (entry (Write 4 0) place ∷ g) (entry (Write 4 0) place ∷ h)
   unfolding flow_of memory_of
   near_null place l = record {
@@ -224,7 +226,7 @@ module _ (part : PartData) (low : ℕ) (g h : History) (s : IsNear part low g h)
     startup = after_access low g h (entry (Write 4 11) place) l s.startup refl;
   }
 
-  -- RCRC
+  -- RCRC, written to CMD, after which the histories have left the same
   written_rcrc : (r : ℕ) (x y : ℕ) (b : Bool) → (4 == r) ≡ b → (b ≡ false → x ≡ y) → written r (Write 4 7) x ≡ written r (Write 4 7) y
   written_rcrc r x y true e f = rw e refl
   written_rcrc r x y false e f = ap (written r (Write 4 7)) (f refl)

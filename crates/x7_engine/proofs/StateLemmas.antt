@@ -55,7 +55,7 @@ firing_later part kept h from count (suc more) place e =
     ap (first_firing part kept h from) next
     ∙ ap (λ (o : Option ℕ). fired_or o (watchdog_fires part kept h (from + (count + more) + 1)) (from + (count + more) + 1)) (firing_later part kept h from count more place e)
 
--- a firing after more bytes is the one that there was
+-- the first firing among bytes is also that among more of them
 watchdog_later : (part : PartData) (kept : Kept) (h : History) (from n m : ℕ) (s : Stopped) → n ≤ m → stop_at_firing (first_firing part kept h from n) ≡ Some s → stop_at_firing (first_firing part kept h from m) ≡ Some s
 watchdog_later part kept h from n m s l e = by_firing (first_firing part kept h from n) refl e
   where
@@ -65,7 +65,7 @@ watchdog_later part kept h from n m s l e = by_firing (first_firing part kept h 
         let sum : m ≡ n + (m - n) = omega arith in
         ap stop_at_firing (ap (first_firing part kept h from) sum ∙ firing_later part kept h from n (m - n) place f) ∙ g
 
--- the later of two stops
+-- the first of three stops stays, where the third stays
 later_why : (first why : Option Stopped) (now next : Option Stopped) (s : Stopped) → (now ≡ Some s → next ≡ Some s) → option_or first (option_or why now) ≡ Some s → option_or first (option_or why next) ≡ Some s
 later_why (Some x) why now next s f e = e
 later_why None (Some x) now next s f e = e
@@ -180,7 +180,7 @@ stop_is_final_state part kept wrapped bytes more s f e =
     ∙ stopped_state part kept wrapped s.why (history_taken part kept bytes) s.place session (is_synced (reading_of bytes).place)
     ∙ sym (ap (λ (o : Option Stopped). state_by (course_at part kept (history_taken part kept bytes) (taken_by o (length bytes))) wrapped (why_stopped o) (is_synced (reading_of bytes).place)) e)
 
--- no bytes before the place of a stop have one
+-- bytes that end before the place of a stop have none
 pub no_stop_before : (part : PartData) (kept : Kept) (bytes more : List ℕ) (s : Stopped) → AreBytes (bytes ++ more) → first_stop_of_bytes part kept (bytes ++ more) ≡ Some s → length bytes < s.place → first_stop_of_bytes part kept bytes ≡ None
 no_stop_before part kept bytes more s f e l = by_stop (first_stop_of_bytes part kept bytes) refl
   where
@@ -190,7 +190,7 @@ no_stop_before part kept bytes more s f e l = by_stop (first_stop_of_bytes part 
         let same : t ≡ s = (let later : first_stop_of_bytes part kept (bytes ++ more) ≡ Some t = stop_is_final_stop part kept bytes more t f g in cc) in
         absurd (omega (arith, (stop_place part kept bytes t (all_prefix (λ b. b < 256) bytes more f) g).1, ap (λ (x : Stopped). x.place) same, l))
 
--- the last byte that counts is none of those before the last one
+-- each byte before the place of a stop counts
 pub counted_most : (why : StopCause) (place n : ℕ) → n < place → n ≤ last_counted why place
 counted_most (stop.Fault (fault.Packet w)) place n l = omega (arith, l)
 counted_most (stop.Fault (fault.Id want got)) place n l = omega (arith, l)

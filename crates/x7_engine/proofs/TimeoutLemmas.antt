@@ -53,7 +53,7 @@ count_call off t h calls (Write register w) = by (executes 17 h (Write register 
 abbrev Counts : PartData → Kept → List ℕ → ℕ → Type 0
 Counts part kept bytes n = watched_count (is_fallback kept.kind) kept.timer (watch_calls part (history_of (take n bytes)) n) ≡ bytes_on_after part kept bytes (last_load (history_of (take n bytes))) (n - last_load (history_of (take n bytes)))
 
--- up to a byte itself, before its access
+-- the count up to byte n + 1, without the access that ends there
 counted_here : (part : PartData) (kept : Kept) (bytes : List ℕ) (n : ℕ) → Placed n (history_of (take n bytes)) → Counts part kept bytes n
     → watched_count (is_fallback kept.kind) kept.timer (watch_calls part (history_of (take n bytes)) (n + 1)) ≡ bytes_on_after part kept bytes (last_load (history_of (take n bytes))) (suc n - last_load (history_of (take n bytes)))
 counted_here part kept bytes n p e =

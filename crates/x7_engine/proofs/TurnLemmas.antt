@@ -44,7 +44,7 @@ steps_after : (m p : ℕ) (ss : List (ℕ × Step)) (h : History) → m < p + 4 
 steps_after m p [] h l = refl
 steps_after m p (s ∷ ss) h l = steps_after m (p + 4) ss (entered (p + 4) s.1 h) (omega (arith, l)) ∙ step_after m (p + 4) s.1 h l
 
--- the accesses of some words up to a byte before the end of the k-th word after them
+-- up to a byte before the end of word k + 1, the accesses of words are those of the first k
 pub prefix_until : (n k m : ℕ) (ss : List (ℕ × Step)) (h : History) → k ≤ length ss → m < n + 4 * k + 4 → until m (entered_all n ss h) ≡ until m (entered_all n (take k ss) h)
 prefix_until n k m ss h l e =
     let count : length (take k ss) ≡ k = length-take-le k ss l in
@@ -52,7 +52,7 @@ prefix_until n k m ss h l e =
     ∙ ap (until m) (entered_all_append n (take k ss) (drop k ss) h)
     ∙ steps_after m (n + 4 * length (take k ss)) (drop k ss) (entered_all n (take k ss) h) (omega (arith, count, e))
 
--- up to a byte before it, a word more is none
+-- up to a byte before its end, a word more enters no access
 pub step_until : (n m p : ℕ) (s : Step) (h : History) → Placed n h → n ≤ m → m < p → until m (entered p s h) ≡ h
 step_until n m p s h a l e = step_after m p s h e ∙ until_placed m h (placed_within n m h l a)
 
@@ -113,7 +113,7 @@ pub newest_within : (n : ℕ) (h : History) → Placed n h → newest_place h �
 newest_within n [] p = omega arith
 newest_within n (e ∷ h) p = p.1
 
--- bytes that fire no watchdog
+-- the registers after bytes at none of which the watchdog fires
 pub ticked : (part : PartData) (kept : Kept) (d : RegistersState) (clock : ClockState) (h : History) (n count m : ℕ) → m ≡ n + count → d.stop ≡ None → RegistersStandFor part kept d h n → ClockTakes (course_at part kept h n) clock count None
     → RegistersStandFor part kept (record d { clock = clock }) h m
 ticked part kept d clock h n count m i e s t = subst (λ (x : ℕ). RegistersStandFor part kept (record d { clock = clock }) h x) (sym i) record {
@@ -133,7 +133,7 @@ ticked part kept d clock h n count m i e s t = subst (λ (x : ℕ). RegistersSta
   due_kind = s.due_kind;
 }
 
--- the firing is that of the bytes up to it
+-- the first firing among bytes is also that among those up to it
 some_some : (o p : Option ℕ) (k : ℕ) → option_or o p ≡ Some k → (o ≡ Some k) ⊎ ((o ≡ None) × (p ≡ Some k))
 some_some None p k e = inr (refl, e)
 some_some (Some x) p k e = inl e
@@ -146,13 +146,13 @@ fires_last part kept h n count k a b e =
       | inr f ↦ absurd (omega (arith, (firing_within part kept h (n + k) (count - k) (n + k) f.1).0))
     ]
 
--- the frames stay where it fires
+-- the frames stay where the watchdog fires
 frames_fired : (part : PartData) (d : RegistersState) (h : History) (due : ℕ) → d.stop ≡ None → FramesAre part d.frames d.stop h due → FramesAre part d.frames (Some (stop.Fault fault.Watchdog)) h due
 frames_fired part d h due e s =
     let now : FramesAre part d.frames None h due = subst (λ (o : Option StopCause). FramesAre part d.frames o h due) e s in
     record { stands = now.stands; memory_same = now.memory_same; far_same = now.far_same }
 
--- bytes up to the one at which it fires
+-- the registers after bytes up to the one at which the watchdog fires
 pub fired : (part : PartData) (kept : Kept) (d : RegistersState) (clock : ClockState) (h : History) (n count k m : ℕ) → m ≡ n + k → d.stop ≡ None → RegistersStandFor part kept d h n → ClockTakes (course_at part kept h n) clock count (Some k)
     → RegistersStandFor part kept (record d { clock = clock; stop = Some (stop.Fault fault.Watchdog) }) h m
 fired part kept d clock h n count k m i e s t =
@@ -178,7 +178,7 @@ fired part kept d clock h n count k m i e s t =
 pub all_counted : (part : PartData) (kept : Kept) (d : RegistersState) (h : History) (m : ℕ) → counted_in d.stop m ≡ m → RegistersStandFor part kept d h m → RegistersStandFor part kept d (until (counted_in d.stop m) h) m
 all_counted part kept d h m e s = subst (λ (t : History). RegistersStandFor part kept d t m) (sym (ap (λ (k : ℕ). until k h) e ∙ until_placed m h s.places)) s
 
--- at a firing the word that ends there, or after it, is none
+-- at a firing of the watchdog a word that ends there, or after it, enters no access
 pub fired_until : (d : Option StopCause) (n count left : ℕ) (s : Step) (h : History) → is_some d ≡ true → ((why : StopCause) → d ≡ Some why → (why ≡ stop.Fault fault.Watchdog) × (left < count)) → Placed n h
     → until (counted_in d (n + (count - left))) (entered (n + count) s h) ≡ h
 fired_until None n count left s h e f p = absurd cc

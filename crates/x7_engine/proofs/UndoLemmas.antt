@@ -1,4 +1,4 @@
--- A device that took up to four bytes since it was kept goes back to what it was.
+-- A device that took up to four bytes since it was saved goes back to what it was.
 use Rattle.std.proofs.Common.{◌≡◌, ℕ, ◌+◌, ◌<◌, ◌≤◌, inl, inr, ◌⊎◌, Bool, true, false, if◌then◌else◌, List, [], ◌∷◌, ◌++◌, length, Option, None, Some, refl, ap, sym, subst, ◌∙◌, arith, append-nil, length-append}
 use Rattle.std.specs.Prelude.{nat_lt}
 use Rattle.x7_words.specs.Word.{AreBytes}
@@ -50,7 +50,7 @@ taken_one part kept bytes more (Some why) f few some e =
     (until_one (length bytes) (last_counted why place) (history_of bytes) (history_of (bytes ++ more)) (counted_most why place (length bytes) (omega (arith, long, some))) (placed_of bytes (all_prefix (λ b. b < 256) bytes more f))
     (enter_once bytes more f few))
 
--- a device that went on had no stop
+-- a device that took more bytes had no stop before them
 no_stop : (part : PartData) (kept : Kept) (bytes more : List ℕ) (now why : Option StopCause) → AreBytes (bytes ++ more) → 0 < length more → first_stop_of_bytes part kept bytes ≡ stop_at_place (length bytes) now → first_stop_of_bytes part kept (bytes ++ more) ≡ stop_at_place (length (bytes ++ more)) why
     → now ≡ None
 no_stop part kept bytes more None why f some e g = refl
@@ -107,7 +107,7 @@ pub frames_back : (part : PartData) (kept : Kept) (wrapped : Bool) (u : UndoStat
 frames_back part kept wrapped u old new bytes [] k o n none few s t = frames_none part kept wrapped u old new bytes [] k o n refl s t
 frames_back part kept wrapped u old new bytes (x ∷ more) k o n none few s t = frames_more part kept wrapped u old new bytes (x ∷ more) k o n none few (omega arith) s t
 
--- a device that took up to four bytes since it was kept
+-- what was saved of a device leads back to it from the same device after up to four bytes
 pub leads_back : (part : PartData) (kept : Kept) (wrapped : Bool) (u : UndoState) (old new : DeviceState) (bytes more : List ℕ) → SavesDevice u old → FramesFit new.part new.registers.frames → NoWordDue old → length more ≤ 4
     → DeviceStandsFor part kept wrapped old bytes → DeviceStandsFor part kept wrapped new (bytes ++ more) → UndoLeadsBack u new old
 leads_back part kept wrapped u old new bytes more k n none few s t =
@@ -121,7 +121,7 @@ leads_back part kept wrapped u old new bytes more k n none few s t =
           (subst (λ (p : PartData). FramesFit p new.registers.frames) here n) none few s t);
     }
 
--- a feed with a dropping buffer
+-- what a feed with a dropping buffer answers also holds of the buffer as it began
 pub answers_dropping : (p : Past) (d : DeviceState) (more : List ℕ) (first read : ReadBufState) (f : Fed) → first ≡ dropping → read ≡ with_words first more → AnswersAt p d read f → AnswersAt p d dropping f
 answers_dropping p d more first read fed.All e g a = a
 answers_dropping p d more first read (fed.Stopped n) e g a = a

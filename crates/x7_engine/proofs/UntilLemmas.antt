@@ -43,7 +43,7 @@ use Rattle.x7_engine.proofs.TurnLemmas.{prefix_until, step_until}
 
 -- ---- accesses that write no CMD begin no startup
 
--- a write to another register executes no DESYNC
+-- an access that doesn't write CMD executes no DESYNC
 no_desync : (h : History) (access : Access) → writes 4 access ≡ false → executes 13 h access ≡ false
 no_desync h (Read r n) e = refl
 no_desync h (Bad w) e = refl
@@ -60,7 +60,7 @@ no_command (Write r w) e = e
 no_command (Read r n) e = absurd e
 no_command (Bad w) e = absurd e
 
--- bytes begin none
+-- bytes alone begin no startup
 bytes_begin_none : (k : ℕ) (p : StartupProgress) → p ≡ NotBegun → further k p ≡ NotBegun
 bytes_begin_none k p e = ap (further k) e
 
@@ -74,7 +74,7 @@ unbegun_at_any (x ∷ h) n m e =
     let calls : List Call = startup_calls h x.place ++ startup_call h x.access in
     progress_bytes calls (m - x.place) ∙ bytes_begin_none (m - x.place) (progress_of calls) (none_before_bytes (n - x.place) (progress_of calls) (sym (progress_bytes calls (n - x.place)) ∙ e))
 
--- a call of such an access
+-- the call of an access that executes no DESYNC begins no startup
 called : (calls : List Call) (arms drops desyncs : Bool) (d : ℕ) → desyncs ≡ false → progress_of calls ≡ NotBegun
     → progress_of (calls ++ (if arms then Arm ∷ [] else if drops then DropBack ∷ [] else if desyncs then Desync d ∷ [] else [])) ≡ NotBegun
 called calls true drops desyncs d e p = progress_arm calls ∙ p
@@ -106,7 +106,7 @@ quieter_until m (x ∷ newer) h e w = by (nat_lt m x.place) (quieter_until m new
     by true q = q
     by false q = (x ∷ newer, refl, w)
 
--- the writes of a register other than CMD
+-- words written to a register other than CMD
 quieter_body : (register from : ℕ) (ws : List ℕ) (h : History) → (register == 4) ≡ false → IsQuieter h (entered_all from (payload_steps register ws) h)
 quieter_body register from ws h e =
     kept_all (IsQuieter h) register (λ x w place q. (entry (Write register w) place ∷ q.0, ap (λ t. entry (Write register w) place ∷ t) q.1, (e, q.2))) from ws h ([], refl, tt)
@@ -151,7 +151,7 @@ run_commands c n bytes cut sessions place run left s w r i = λ k l.
     quieter_run run from (length bytes) (length cut) m (history_of bytes) (placed_of bytes here) (omega (arith, count)) (omega (arith, count, l)) r (ends_words c n bytes cut sessions place run left s w r i) in
     (q.0, ◌∙◌ {c = q.0 ++ history_of bytes} prefix q.1, q.2)
 
--- the prefix of such bytes
+-- where of bytes none but the last ends a command, so it is of a prefix of them
 pub prefix_commands : (bytes cut more rest : List ℕ) → cut ≡ more ++ rest → CommandsLast bytes cut → CommandsLast bytes more
 prefix_commands bytes cut more rest e f = λ k l.
     let longer : length cut ≡ length more + length rest = ap length e ∙ length-append more rest in
@@ -163,7 +163,7 @@ prefix_commands bytes cut more rest e f = λ k l.
         let all : take (length a) (a ++ b) ≡ a = take-append_seam a b in
         sym (take-take k (length a) (a ++ b) l) ∙ ap (take k) all
 
--- bytes that enter no access
+-- of bytes that enter no access none ends a command
 pub quiet_commands : (bytes more : List ℕ) → AreBytes (bytes ++ more) → history_of (bytes ++ more) ≡ history_of bytes → CommandsLast bytes more
 quiet_commands bytes more fits e = λ k l.
     let joined : (bytes ++ take k more) ++ drop k more ≡ bytes ++ more = append_assoc bytes (take k more) (drop k more) ∙ ap (λ (t : List ℕ). bytes ++ t) (take-append-drop k more) in
@@ -281,7 +281,7 @@ between_before piece end from to l m =
     ∙ ap (take (to - from)) (drop-take from (end - from) piece)
     ∙ take-take (to - from) (end - from) (drop from piece) few
 
--- so is a part of the slice that a turn is given
+-- a part of the slice that a turn is given is that part of the piece
 slice_long : (piece : List ℕ) (end : ℕ) → end ≤ length piece → length (take end piece) ≡ end
 slice_long piece end l = length-take-le end piece l
 
@@ -304,7 +304,7 @@ turn_first part kept wrapped d e bytes piece end from to m l k going s after f b
     subst (NoneStarted part kept bytes more) count
     (none_started part kept wrapped e bytes more (s.stop_is ∙ ap (stop_at_place (length bytes)) going) (turn_stands part kept wrapped e bytes piece end from to m l k after) not (subst (CommandsLast bytes) same f) soon)
 
--- what holds before, and in a turn more
+-- what holds at each byte of a piece before a place, and at each from there up to a later one, holds at all of them
 pub holds_on : (P : List ℕ → Type 0) (bytes piece : List ℕ) (from to : ℕ) → from ≤ to → ((k : ℕ) → k < from → P (bytes ++ take k piece))
     → ((k : ℕ) → k < to - from → P ((bytes ++ take from piece) ++ take k (between piece from to))) → (k : ℕ) → k < to → P (bytes ++ take k piece)
 holds_on P bytes piece from to l f g k m = elim (cases_lt k from) [

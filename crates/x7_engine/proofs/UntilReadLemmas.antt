@@ -29,7 +29,7 @@ writes_read_none part kept (e ∷ newer) h w =
     none (Bad x) f = absurd f
 
 -- the words read out of bytes in which nothing stopped the device
-reads_going : (part : PartData) (kept : Kept) (bytes : List ℕ) → first_stop_of_bytes part kept bytes ≡ None → reads_of part kept bytes ≡ read_out part kept (history_of bytes)
+pub reads_going : (part : PartData) (kept : Kept) (bytes : List ℕ) → first_stop_of_bytes part kept bytes ≡ None → reads_of part kept bytes ≡ read_out part kept (history_of bytes)
 reads_going part kept bytes none = ap (λ (o : Option Stopped). read_out part kept (history_by o (history_of bytes))) none
 
 turn_reads_none : (part : PartData) (kept : Kept) (wrapped : Bool) (d e : DeviceState) (bytes more : List ℕ) → d.registers.stop ≡ None → DeviceStandsFor part kept wrapped d bytes → DeviceStandsFor part kept wrapped e (bytes ++ more) → CommandsLast bytes more

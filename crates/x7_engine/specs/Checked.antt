@@ -1,5 +1,6 @@
--- What a stream has been through where startup has begun (this project's choice:
--- a stop ends the taking of bytes at once).
+-- Where an access stands in a history; and what a history has where the phase of startup is above 0: IDCODE written,
+-- then START, then DESYNC (UG470, startup and IDCODE register; that a stop ends the taking of bytes at once is this
+-- project's choice).
 use Rattle.std.specs.Prelude.{◌≡◌, ℕ, ◌<◌, ◌≤◌, ◌∷◌, ◌++◌, IsTrue}
 use Rattle.x7_packets.specs.History.{Access, Entry, History, entry}
 use Rattle.x7_regs.specs.declared.command.Command.TheVariants.{Desync, Start}
@@ -12,7 +13,8 @@ pub record StandsIn (h : History) (access : Access) (place : ℕ) (older : Histo
   pub newer : History
   pub split : h ≡ newer ++ entry access place ∷ older
 
--- START was executed on a device whose IDCODE was written, and DESYNC after it, by byte n
+-- this idcode, whatever its version, was written to IDCODE; after that START was executed, and after START DESYNC,
+-- whose last byte is byte n, from 1, or one before it
 pub record HasStartAndDesync (idcode : ℕ) (h : History) (n : ℕ) : Type 0 where
   pub newer : History
   pub desync : Entry

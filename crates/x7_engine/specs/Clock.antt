@@ -26,7 +26,7 @@ pub record IsClock (part : PartData) (kept : Kept) (c : ClockState) (h : History
   pub startup : StandsForCalls part.lock part.matched c.startup (startup_calls h n)
   pub watchdog : WatchesFor (is_fallback kept.kind) kept.timer c.watchdog (watch_calls part h n)
 
--- the place of the newest access
+-- the place of the newest access, and 0 where there is none
 abbrev pub newest_place : History → ℕ
 newest_place [] = 0
 newest_place (e ∷ h) = e.place
@@ -35,13 +35,13 @@ newest_place (e ∷ h) = e.place
 abbrev pub ForEachHistoryOfStartup : StartupState → (PartData → History → ℕ → Type 0) → Type 0
 ForEachHistoryOfStartup s Fact = (part : PartData) (h : History) (n : ℕ) → StandsForCalls part.lock part.matched s (startup_calls h n) → Fact part h n
 
--- `Fact` holds of all that the clock of a part's device is a clock of: what the reset kept, the history, and the number
--- of bytes taken, among which each access of the history ends
+-- `Fact` holds of each course of a device of the part whose clock this is: what the reset kept, the history, and the
+-- number of bytes taken, among which each access of the history ends
 abbrev pub ForEachCourseOfClock : PartData → ClockState → (Kept → History → ℕ → Type 0) → Type 0
 ForEachCourseOfClock part c Fact = (kept : Kept) (h : History) (n : ℕ) → newest_place h ≤ n → IsClock part kept c h n → Fact kept h n
 
--- The clock takes `count` bytes more: the watchdog fires at none of them; or it fires first at byte k of them, and the
--- bytes up to that one are taken.
+-- The clock takes `count` bytes more: the watchdog fires at none of them, and all are taken; or it fires first at byte
+-- k of them, from 1, and the bytes up to that one are taken.
 abbrev pub ClockTakes : Course → ClockState → ℕ → Option ℕ → Type 0
 ClockTakes c clock count None =
     IsClock c.part c.kept clock c.history (c.taken + count)
@@ -53,7 +53,7 @@ ClockTakes c clock count (Some k) =
     × (first_firing c.part c.kept c.history c.taken count ≡ Some (c.taken + k))
 
 -- A part's clock takes `count` bytes more, whatever course it is the clock of: all of them, or those
--- up to byte k, at which the watchdog fires.
+-- up to byte k, from 1, at which the watchdog fires.
 pub record ClockTakesInAny (part : PartData) (old new : ClockState) (count : ℕ) (result : Option ℕ) : Type 0 where
   pub within : IfSome result (λ k. (0 < k) × (k ≤ count))
   pub takes : ForEachCourseOfClock part old (λ kept h n. ClockTakes (course_at part kept h n) new count result)

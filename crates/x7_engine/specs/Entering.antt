@@ -43,7 +43,7 @@ change_of part old new = record { part = part; old = registers_in old; new = reg
 abbrev pub EntersHistory : Change → Extension → ℕ → Type 0
 EntersHistory x longer taken = ForEachHistory x.part x.old (λ kept h n. RegistersStandFor x.part kept x.new (longer n h) (n + taken))
 
--- the longer history up to the stop, where one came
+-- the longer history without what comes after the `taken` bytes, and without a word that ends where the watchdog fired
 abbrev pub up_to_stop : RegistersState → Extension → ℕ → Extension
 up_to_stop new longer taken n h = until (counted_in new.stop (n + taken)) (longer n h)
 
@@ -53,17 +53,19 @@ EntersHistoryIf Condition x longer taken =
     (kept : Kept) (h : History) (n : ℕ) → Condition → RegistersStandFor x.part kept x.old h n
     → RegistersStandFor x.part kept x.new (longer n h) (n + taken)
 
--- an access entered at the next place
+-- an access entered at a place where it may come next and up to which all bytes were taken: the history that the
+-- registers stand for became the longer one
 abbrev pub EntersHistoryAt : Change → Extension → Type 0
 EntersHistoryAt x longer =
     (kept : Kept) (h : History) (place : ℕ) → IsNextAccess place h → RegistersStandFor x.part kept x.old h place
     → RegistersStandFor x.part kept x.new (longer place h) place
 
--- the longer history reads out the words that are due, and no others
+-- the longer history reads out the words of the old one, then those that are due, and no others
 abbrev pub AreRead : PartData → Kept → History → History → Due → Type 0
 AreRead part kept h longer due = read_out part kept longer ≡ read_out part kept h ++ words_still_due part longer due
 
--- where a condition holds, the longer history reads out the words that are then due, and no others
+-- where a condition holds, the longer history reads out the words of the old one, then those that are due after the
+-- change, and no others
 abbrev pub ReadsIf : Type 0 → Change → Extension → Type 0
 ReadsIf Condition x longer =
     (kept : Kept) (h : History) (n : ℕ) → Condition → RegistersStandFor x.part kept x.old h n → AreRead x.part kept h (longer n h) x.new.due
@@ -90,16 +92,17 @@ step_entered step count n h = entered (n + count) step h
 abbrev pub read_entered : ℕ → ℕ → Extension
 read_entered register count place h = entry (Read register count) place ∷ h
 
--- a history after the words of a run, the first of which begins at place `from`
+-- a history after the words of a run, the first of which begins after `from` bytes
 abbrev pub run_entered : Cut → ℕ → History → History
 run_entered run from h = entered_all from (run_steps run) h
 
--- a run was taken, `count` bytes of which were new, and its words entered up to the stop
+-- a run came, `count` bytes of which were new, `taken` bytes were taken, and the words of the run entered up to the
+-- stop, if there was one
 abbrev pub RunEnters : Cut → ℕ → Change → ℕ → Type 0
 RunEnters run count x taken = (kept : Kept) (h : History) (from n : ℕ) → EndsWords run from n count → RegistersStandFor x.part kept x.old h n
     → RegistersStandFor x.part kept x.new (until (counted_in x.new.stop (n + taken)) (run_entered run from h)) (n + taken)
 
--- a run, whose words entered up to the stop, reads out the words that are then due, and no others
+-- a run, whose words entered up to the stop, if there was one, reads out the words that are due after it, and no others
 abbrev pub RunReads : Cut → ℕ → Change → ℕ → Type 0
 RunReads run count x taken = (kept : Kept) (h : History) (from n : ℕ) → EndsWords run from n count → RegistersStandFor x.part kept x.old h n
     → AreRead x.part kept h (until (counted_in x.new.stop (n + taken)) (run_entered run from h)) x.new.due

@@ -55,7 +55,7 @@ pub record GivesWordsDue (old new : DeviceAndBuffer) : Type 0 where
   pub stands : ForEachPast old.device (λ p. HasPast new.device p)
   pub given : ForEachPast old.device (λ p. GivesWordsNext p p old new)
 
--- the answer says what the old bytes, and then those taken of a piece, come to
+-- the answer of a feed says what the old bytes, and then those taken of a piece, come to
 abbrev pub AnswersFor : DeviceState → DeviceAndBuffer → List ℕ → Fed → Type 0
 AnswersFor old new piece answer = ForEachPast old (λ p. AnswersAt (later p (prefix_taken piece answer)) new.device new.buffer answer)
 

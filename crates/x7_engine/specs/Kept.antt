@@ -6,10 +6,10 @@ use Rattle.x7_regs.specs.declared.boot_status.Kind.TheVariants.{Bench, Power, Ip
 use Rattle.x7_regs.specs.declared.register.Reg.TheVariants.{Wbstar, Timer, Bspi}
 use Rattle.x7_regs.specs.Register.{number_of}
 use Rattle.x7_engine.specs.declared.kept.Kept.{Kept}
-use Rattle.x7_engine.specs.declared.regs.End.TheVariants as at_end
-use Rattle.x7_engine.specs.declared.regs.Regs.{Regs}
+use Rattle.x7_engine.specs.declared.snapshot.End.TheVariants as at_end
+use Rattle.x7_engine.specs.declared.snapshot.Snapshot.{Snapshot}
 
--- a device on the bench keeps nothing
+-- what a device on the bench, which no flash boots, keeps over its reset: nothing
 abbrev pub on_the_bench : Kept
 on_the_bench = record { wbstar = 0; timer = 0; bspi = 0; kind = Bench; before = None }
 
@@ -33,5 +33,5 @@ AreFallbacks one other = (is_fallback one.kind ≡ true) × (is_fallback other.k
 
 -- the state without what shows what was kept over the reset: WBSTAR, TIMER, BSPI, BOOTSTS, and the end, which may
 -- show WBSTAR
-abbrev pub without_kept : Regs → Regs
+abbrev pub without_kept : Snapshot → Snapshot
 without_kept r = record r { end = at_end.Searching; wbstar = 0; timer = 0; bspi = 0; bootsts = 0 }

@@ -1,8 +1,8 @@
 -- Pasts. A past is all that the state of a device is a function of: the part, what the last reset kept,
 -- whether the flash has ended since then, and the bytes since then. A clause on a device speaks of each
 -- past that the device has (this project's choice).
--- What ends in `_at` takes a past. Most are a definition of State.antt, Standing.antt or UntilStarted.antt that takes the
--- past's values one by one: `state_at` is `state_of`, and `first_stop_at` is `first_stop_of_bytes`.
+-- What ends in `_at` takes a past. Most are a definition of State.antt, Standing.antt or UntilStarted.antt that takes
+-- the past's values one by one: `state_at` is `state_of`, and `first_stop_at` is `first_stop_of_bytes`.
 use Rattle.std.specs.Prelude.{◌≡◌, ℕ, ◌<◌, ◌==◌, ◌++◌, Bool, false, List, length, take, Option, None, Some}
 use Rattle.x7_words.specs.Word.{AreBytes}
 use Rattle.x7_packets.specs.History.{Access, History}
@@ -16,7 +16,7 @@ use Rattle.x7_engine.specs.declared.fed.Fed.{Fed}
 use Rattle.x7_engine.specs.declared.fed.Fed.TheVariants as fed
 use Rattle.x7_engine.specs.declared.stop.StopCause.TheVariants as stop
 use Rattle.x7_engine.specs.declared.kept.Kept.{Kept}
-use Rattle.x7_engine.specs.declared.regs.Regs.{Regs}
+use Rattle.x7_engine.specs.declared.snapshot.Snapshot.{Snapshot}
 use Rattle.x7_engine.specs.declared.until_started.UntilStarted.{UntilStarted}
 use Rattle.x7_engine.specs.declared.until_started.UntilStarted.TheVariants as until
 use Rattle.x7_engine.specs.ReadBuffer.{IsFull, ReadBufState}
@@ -56,10 +56,10 @@ ForEachPast d Fact = (part : PartData) (kept : Kept) (wrapped : Bool) (bytes : L
     → DeviceStandsFor part kept wrapped d bytes → Fact (past_of part kept wrapped bytes)
 
 -- the state that the bytes of a past leave
-abbrev pub state_at : Past → Regs
+abbrev pub state_at : Past → Snapshot
 state_at p = state_of p.part p.kept p.wrapped p.bytes
 
--- the first stop in the bytes of a past
+-- the first stop in the bytes of a past, where there is one
 abbrev pub first_stop_at : Past → Option Stopped
 first_stop_at p = first_stop_of_bytes p.part p.kept p.bytes
 
@@ -97,7 +97,7 @@ started_at p = has_started p.part p.kept p.bytes
 abbrev pub IsBootAttempt : Kept → Type 0
 IsBootAttempt kept = kept.kind ≡ Bench → ⊥
 
--- the device stopped, and then more bytes came
+-- the bytes of a past have this first stop, and the bytes `more` come after them
 pub record HasStoppedBefore (p : Past) (more : List ℕ) (s : Stopped) : Type 0 where
   pub fits : AreBytes (p.bytes ++ more)
   pub stop : first_stop_at p ≡ Some s
@@ -127,9 +127,9 @@ TakesJust old new more = ForEachPast old (λ p. HasPast new (later p more))
 abbrev pub GivesNoWord : DeviceState → DeviceState → List ℕ → Type 0
 GivesNoWord old new more = ForEachPast old (λ p. reads_given_at new (later p more) ≡ reads_given_at old p)
 
--- what a feed answers, where `p` is the past with the bytes that it took. All: nothing stopped the device, and no word is
--- due. Stopped, Iprog: the last of these bytes stopped it, and no word is due. ReadFull: nothing stopped it, a word is
--- due, and the buffer is full.
+-- what a feed answers, where `p` is the past with the bytes that it took. All: nothing stopped the device, and no word
+-- is due. Stopped, Iprog: a fault, or an obeyed IPROG, stopped it at the last of these bytes, and no word is due.
+-- ReadFull: nothing stopped it, a word is due, and the buffer is full.
 abbrev pub AnswersAt : Past → DeviceState → ReadBufState → Fed → Type 0
 AnswersAt p d read fed.All = (first_stop_at p ≡ None) × NoWordDue d
 AnswersAt p d read (fed.Stopped n) = (f : Fault) × (first_stop_at p ≡ Some (record { place = length p.bytes; why = stop.Fault f })) × NoWordDue d
@@ -142,7 +142,7 @@ abbrev pub AnswersUntilAt : Past → DeviceState → ReadBufState → UntilStart
 AnswersUntilAt p d read (until.Started n) = NoWordDue d
 AnswersUntilAt p d read (until.Fed answer) = AnswersAt p d read answer
 
--- the bytes taken of a piece, by what is answered
+-- the bytes taken of a piece, by what a feed answers
 abbrev pub prefix_taken : List ℕ → Fed → List ℕ
 prefix_taken piece answer = take (taken_in (length piece) answer) piece
 

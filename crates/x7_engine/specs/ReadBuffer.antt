@@ -16,7 +16,7 @@ no_room = record { most = Some 0; words = [] }
 abbrev pub dropping : ReadBufState
 dropping = record { most = None; words = [] }
 
--- the words of a buffer after more of them
+-- the words of a buffer after more of them, which one that drops each word doesn't get
 abbrev pub gathered : Option ℕ → List ℕ → List ℕ → List ℕ
 gathered None words more = words
 gathered (Some most) words more = words ++ more

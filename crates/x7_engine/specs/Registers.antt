@@ -14,11 +14,11 @@ use Rattle.x7_flow.specs.Controls.{mask_held}
 use Rattle.x7_engine.specs.declared.kept.Kept.{Kept}
 use Rattle.x7_engine.specs.Kept.{kept_word}
 
--- the last word written to a register; where none was, the one kept over the reset
+-- the last word written to a register; where none was, the one kept over the reset, and 0 for one that keeps none
 abbrev pub word_held : Kept → ℕ → History → ℕ
 word_held kept register h = last_word register (kept_word kept register) h
 
--- COR0 after a history
+-- COR0 after a history, and 0 where it was never written
 abbrev pub cor0_held : History → ℕ
 cor0_held h = last_word (number_of Cor0) 0 h
 
@@ -53,11 +53,12 @@ clears_check_by command check access = is_command (code_of Rcrc) command || writ
 abbrev pub clears_check : History → Access → Bool
 clears_check h access = clears_check_by (executed_by (command_held h) access) (running_check h) access
 
--- whether a shutdown is pending after a command, by whether the check was cleared
+-- whether a shutdown is pending after a command, by whether the check was cleared and whether one was pending before
 abbrev pub is_pending_after : Option ℕ → Bool → Bool → Bool
 is_pending_after command cleared pending = if cleared then false else is_command (code_of Shutdown) command || pending
 
--- a shutdown is pending: SHUTDOWN was executed since the check was last cleared (UG470, command register)
+-- a shutdown is pending: SHUTDOWN was executed since the check was last cleared, or since the reset (UG470, command
+-- register)
 abbrev pub is_pending : History → Bool
 is_pending [] = false
 is_pending (e ∷ h) = is_pending_after (executed_by (command_held h) e.access) (clears_check h e.access) (is_pending h)
@@ -66,7 +67,7 @@ is_pending (e ∷ h) = is_pending_after (executed_by (command_held h) e.access) 
 abbrev pub takes_shutdown : History → Access → Bool
 takes_shutdown h access = clears_check h access && is_pending h
 
--- GHIGH_B after a command, by whether a shutdown was taken
+-- GHIGH_B after a command, by whether a shutdown was taken and by what it was before
 abbrev pub has_ghigh_after : Option ℕ → Bool → Bool → Bool
 has_ghigh_after command taken ghigh = if is_command (code_of Lfrm) command then true else if is_command (code_of Aghigh) command || taken then false else ghigh
 
@@ -85,7 +86,7 @@ abbrev pub wrote_iprog : History → Bool
 wrote_iprog [] = false
 wrote_iprog (e ∷ h) = writes_command (code_of Iprog) e.access || wrote_iprog h
 
--- the registers of which a written word moves a flag, a register under MASK or the clock, or isn't just folded into the
+-- the registers where a written word moves a flag, a register under MASK or the clock, or isn't just folded into the
 -- check: a word for LOUT isn't folded (this project's choice)
 abbrev pub controlling_registers : List Reg
 controlling_registers = Crc ∷ Far ∷ Cmd ∷ Ctl0 ∷ Lout ∷ Idcode ∷ Timer ∷ Ctl1 ∷ []

@@ -1,4 +1,5 @@
--- A device at rest: what a stream that is planned apart may begin on (this project's choice).
+-- A device at rest: a stream of a plan may begin on it, whatever bytes it took before; and a last gap that goes on
+-- (this project's choice).
 use Rattle.std.specs.Prelude.{◌≡◌, ℕ, ◌&&◌, ◌++◌, false, not, ◌⊎◌, List, length, None}
 use Rattle.x7_packets.specs.ByHand.{reading_of}
 use Rattle.x7_packets.specs.History.{history_of}
@@ -17,7 +18,7 @@ use Rattle.x7_regs.specs.Control.{forbids_reading}
 use Rattle.x7_engine.specs.Watching.{timer_held, turns_on}
 
 -- After these bytes there is no stop, and the sync word is searched. Startup hasn't begun or has ended, SBITS are 00,
--- no shutdown is pending and no watchdog runs.
+-- no shutdown is pending, and TIMER turns no watchdog on or the attempt is a fallback, which has none.
 pub record AtRest (part : PartData) (kept : Kept) (bytes : List ℕ) : Type 0 where
   pub no_stop : first_stop_of_bytes part kept bytes ≡ None
   pub searching : is_synced (reading_of bytes).place ≡ false

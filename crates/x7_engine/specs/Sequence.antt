@@ -1,4 +1,4 @@
--- Startup, shutdowns and GHIGH_B in the words of the guide (UG470, startup sequence and command register).
+-- Startup, shutdowns and GHIGH_B in the words of the guide (UG470, startup and command register).
 use Rattle.std.specs.Prelude.{◌≡◌, ◌||◌, ℕ, Bool, ◌∷◌, ◌++◌, IsTrue}
 use Rattle.x7_packets.specs.History.{Access, Entry, History, executes}
 use Rattle.x7_regs.specs.declared.command.Command.TheVariants.{Aghigh, Desync, Lfrm, Shutdown, Start}

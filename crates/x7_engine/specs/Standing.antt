@@ -55,7 +55,8 @@ pub record ProgressState : Type 0 where
   pub iprog : Bool
 
 -- the stored values of a device's registers: the last words written by register number, those under MASK, the check and
--- the flags, what the boot history says of the attempt, the stop, the words that are due, and the frames
+-- the flags, what the boot history says of the attempt, startup and the watchdog, the stop, the words that are due, and
+-- the frames
 pub record RegistersState : Type 0 where
   pub words : List ℕ
   pub controls : ControlsState
@@ -141,7 +142,8 @@ registers_in d = record {
   frames = d.frames;
 }
 
--- the stored words are the last ones written to the registers by number, or those that the reset kept
+-- the stored words, by register number from 0, are the last ones written; where none was, those that the reset kept,
+-- and 0 for a register that keeps none
 pub record AreLastWords (kept : Kept) (last : List ℕ) (h : History) : Type 0 where
   pub each : (register : ℕ) → register < reg_number_count → slice_index last register ≡ word_held kept register h
 
@@ -176,10 +178,14 @@ pub record RegistersStandFor (part : PartData) (kept : Kept) (d : RegistersState
   pub frames : FramesAre part d.frames d.stop h (frames_due d.due)
   pub due_kind : frames_due d.due ≡ frames_among h (due_count d.due)
 
--- the last byte whose access counts, where n bytes are taken and this is the stop
+-- how many of n bytes taken count for accesses, with this stop, if any
 abbrev pub counted_in : Option StopCause → ℕ → ℕ
 counted_in None n = n
 counted_in (Some why) n = last_counted why n
+
+-- the stop, if any, is no firing of the watchdog: an access that ends at the last byte taken counts
+abbrev pub CountsAll : Option StopCause → Type 0
+CountsAll stop = (n : ℕ) → counted_in stop n ≡ n
 
 -- a step of a word in a header's place
 abbrev pub IsHeaderStep : Step → Type 0
@@ -193,20 +199,20 @@ HasNoWord (Skip bytes) = Unit {0}
 HasNoWord Sync = Unit {0}
 HasNoWord _ = ⊥
 
--- a run's lent slice lies in the `count` bytes that were taken last
-abbrev pub RunLiesWithin : Cut → ℕ → Type 0
-RunLiesWithin (Body register bytes) count = length bytes.now ≤ count
-RunLiesWithin _ count = Unit {0}
+-- a run's lent payload has no more bytes than the `count` that were taken last
+abbrev pub FitsWithin : Cut → ℕ → Type 0
+FitsWithin (Body register bytes) count = length bytes.now ≤ count
+FitsWithin _ count = Unit {0}
 
--- a run's words, the first of which begins at byte `from`, end where its `count` new bytes after the first n do
+-- a run's words, the first of which begins after `from` bytes, end where its `count` new bytes after the first n do
 abbrev pub EndsWords : Cut → ℕ → ℕ → ℕ → Type 0
 EndsWords (Head w step) from n count = (n < from + 4) × (from + 4 ≡ n + count)
 EndsWords (Word register w) from n count = (n < from + 4) × (from + 4 ≡ n + count)
 EndsWords (Body register bytes) from n count = (from ≡ n) × (length bytes.now ≡ count)
 EndsWords _ from n count = Unit {0}
 
--- a device: its part, its stored values, whether the flash has ended in this attempt, the bytes taken since its reset,
--- and those that it was ever fed
+-- a device: its part, its stored values, whether the flash has ended in this attempt, how many bytes it took since its
+-- reset, and how many it was ever fed
 pub record DeviceState : Type 0 where
   pub part : PartData
   pub cutter : CutterState
@@ -215,11 +221,12 @@ pub record DeviceState : Type 0 where
   pub taken : ℕ
   pub fed : ℕ
 
--- the number of bytes that a device was ever fed, counted up to the last number of 64 bits
+-- the number of bytes that a device was ever fed: those that feeds took, which a reset and an undo leave; counted up to
+-- the last number of 64 bits
 abbrev pub fed_of : DeviceState → ℕ
 fed_of d = min d.fed (2 ^ 64 - 1)
 
--- the number of bytes that a device was ever fed, after `count` bytes more
+-- the number of bytes that a device was ever fed, after `count` bytes more, counted up to the last number of 64 bits
 abbrev pub fed_more : DeviceState → ℕ → ℕ
 fed_more d count = min (d.fed + count) (2 ^ 64 - 1)
 
@@ -268,7 +275,7 @@ pub record AreGivenOrDue (part : PartData) (d : RegistersState) (h : History) (r
   pub all : reads ≡ given ++ words_still_due part h d.due
 
 -- A device took all of `bytes` since a reset that kept `kept`: it has no stop, or its stop came at the last byte. Where
--- it stopped, its cutter may be past that byte.
+-- it stopped, no word is due, and its cutter may be past that byte.
 pub record DeviceStandsFor (part : PartData) (kept : Kept) (wrapped : Bool) (d : DeviceState) (bytes : List ℕ) : Type 0 where
   pub fits : AreBytes bytes
   pub part_is : d.part ≡ part
@@ -291,7 +298,7 @@ taken_in length (fed.Stopped n) = n
 taken_in length (fed.Iprog n) = n
 taken_in length (fed.ReadFull n) = n
 
--- what a feed answers for a stop at place `at` of a piece
+-- what a feed answers for a stop that came when `at` bytes of a piece were taken
 abbrev pub answer_at_stop : StopCause → ℕ → Fed
 answer_at_stop (stop.Fault f) at = fed.Stopped at
 answer_at_stop stop.Iprog at = fed.Iprog at

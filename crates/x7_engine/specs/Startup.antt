@@ -20,21 +20,22 @@ startup_call_by command takes_shutdown cor0 =
 abbrev pub startup_call : History → Access → List Call
 startup_call h access = startup_call_by (executed_by (command_held h) access) (takes_shutdown h access) (cor0_held h)
 
--- the calls of a history with n bytes taken: each byte's before that of the access that ends there
+-- the calls of startup of a history with n bytes taken: each byte's before that of the access that ends there
 abbrev pub startup_calls : History → ℕ → List Call
 startup_calls [] n = replicate n call.Byte
 startup_calls (e ∷ h) n = startup_calls h e.place ++ startup_call h e.access ++ replicate (n - e.place) call.Byte
 
--- how far startup is
+-- how far startup is after a history with n bytes taken
 abbrev pub startup_progress : History → ℕ → StartupProgress
 startup_progress h n = progress_of (startup_calls h n)
 
--- the greatest phase, up to the one given last, that has begun after `ticks` ticks
+-- the greatest phase, up to the last argument, that has begun after `ticks` ticks, by the ticks for which each phase
+-- waits
 abbrev pub greatest_begun : (ℕ → ℕ) → ℕ → ℕ → ℕ
 greatest_begun wait ticks zero = 0
 greatest_begun wait ticks (suc p) = if nat_le (first_tick_of wait (suc p)) ticks then suc p else greatest_begun wait ticks p
 
--- the phase after `ticks` ticks
+-- the phase after `ticks` ticks, by the ticks for which each phase waits
 unfoldable pub phase_at : (ℕ → ℕ) → ℕ → ℕ
 phase_at wait ticks = greatest_begun wait ticks last_phase
 
@@ -43,10 +44,10 @@ abbrev pub phase_by : PartData → StartupProgress → ℕ
 phase_by part NotBegun = 0
 phase_by part (Begun cor0 bytes) = phase_at (wait_of part.lock part.matched cor0) (bytes / tick_size)
 
--- the phase of startup
+-- the phase of startup, 0 to 7, after a history with n bytes taken
 abbrev pub phase_of : PartData → History → ℕ → ℕ
 phase_of part h n = phase_by part (startup_progress h n)
 
--- startup has ended
+-- startup has ended after a history with n bytes taken: its phase is the last one
 abbrev pub has_ended : PartData → History → ℕ → Bool
 has_ended part h n = phase_of part h n == last_phase

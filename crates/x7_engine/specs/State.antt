@@ -1,9 +1,11 @@
 -- The state of a device as a function of all bytes since its reset, of what the reset kept, and of whether the flash
 -- has ended (this project's choice where UG470 leaves it open).
--- What ends in `_by` here, `last_counted` and `why_stopped` take the first stop, where there is one, or why it came. Each
--- other definition takes the part, what the reset kept and all bytes since then one by one; what comes after the first
--- stop doesn't count. Past.antt has those that contracts cite over a past, which is these in one value: there each ends
--- in `_at`.
+-- The definitions whose names end in `_by`, `last_counted` and `why_stopped` take the first stop of the bytes or its
+-- cause, where there is one.
+-- Each other definition takes as separate values the part, what the reset kept and all bytes since the reset; some also
+-- take whether the flash has ended (`wrapped`), a kind, or the words due. What comes after the first stop doesn't
+-- count. Past.antt has the definitions that contracts cite, over a past, which is these values in one: there each name
+-- ends in `_at`.
 use Rattle.std.specs.Prelude.{ℕ, ◌-◌, Bool, false, if◌then◌else◌, List, length, Option, None, Some}
 use Rattle.x7_packets.specs.ByHand.{reading_of}
 use Rattle.x7_packets.specs.History.{History, history_of, until}
@@ -20,9 +22,9 @@ use Rattle.x7_flow.specs.Standing.{far_owing}
 use Rattle.x7_engine.specs.Course.{Course, course_at}
 use Rattle.x7_engine.specs.declared.fault.Fault.TheVariants as fault
 use Rattle.x7_engine.specs.declared.kept.Kept.{Kept}
-use Rattle.x7_engine.specs.declared.regs.End.{End}
-use Rattle.x7_engine.specs.declared.regs.End.TheVariants as at_end
-use Rattle.x7_engine.specs.declared.regs.Regs.{Regs}
+use Rattle.x7_engine.specs.declared.snapshot.End.{End}
+use Rattle.x7_engine.specs.declared.snapshot.End.TheVariants as at_end
+use Rattle.x7_engine.specs.declared.snapshot.Snapshot.{Snapshot}
 use Rattle.x7_engine.specs.declared.stop.StopCause.{StopCause}
 use Rattle.x7_engine.specs.declared.stop.StopCause.TheVariants as stop
 use Rattle.x7_engine.specs.Registers.{word_held}
@@ -39,12 +41,13 @@ abbrev pub taken_by : Option Stopped → ℕ → ℕ
 taken_by None n = n
 taken_by (Some s) n = s.place
 
--- the last byte whose access counts: a word that ends at a firing of the watchdog isn't executed
+-- how many of the bytes up to a stop, which came at byte `place`, count for accesses: a word that ends at a firing of
+-- the watchdog isn't executed
 abbrev pub last_counted : StopCause → ℕ → ℕ
 last_counted (stop.Fault fault.Watchdog) place = place - 1
 last_counted _ place = place
 
--- the history up to a stop, where there is one
+-- the history up to a stop, where there is one, without a word that ends at a firing of the watchdog
 abbrev pub history_by : Option Stopped → History → History
 history_by None h = h
 history_by (Some s) h = until (last_counted s.why s.place) h
@@ -60,8 +63,9 @@ end_by None synced wbstar = if synced then at_end.Synced else at_end.Searching
 end_by (Some (stop.Fault f)) synced wbstar = at_end.Fault f
 end_by (Some stop.Iprog) synced wbstar = at_end.Iprog wbstar
 
--- the state in the course of a device, with this stop
-abbrev pub state_by : Course → Bool → Option StopCause → Bool → Regs
+-- the state of a device by its course, whether the flash has ended (`wrapped`), why the device stopped, if it did, and
+-- whether its bytes end in a session (`synced`)
+abbrev pub state_by : Course → Bool → Option StopCause → Bool → Snapshot
 state_by c wrapped why synced = record {
   taken = c.taken;
   end = end_by why synced (word_held c.kept (number_of Wbstar) c.history);
@@ -88,12 +92,12 @@ state_by c wrapped why synced = record {
 abbrev pub taken_of : PartData → Kept → List ℕ → ℕ
 taken_of part kept bytes = taken_by (first_stop_of_bytes part kept bytes) (length bytes)
 
--- the history of the bytes that are taken
+-- the history of the bytes that are taken, without a word that ends at a firing of the watchdog
 abbrev pub history_taken : PartData → Kept → List ℕ → History
 history_taken part kept bytes = history_by (first_stop_of_bytes part kept bytes) (history_of bytes)
 
--- the state of a device after these bytes, whose attempt the end of the flash has wrapped or not
-abbrev pub state_of : PartData → Kept → Bool → List ℕ → Regs
+-- the state of a device after these bytes, by whether the flash has ended in its attempt
+abbrev pub state_of : PartData → Kept → Bool → List ℕ → Snapshot
 state_of part kept wrapped bytes =
     state_by (course_at part kept (history_taken part kept bytes) (taken_of part kept bytes)) wrapped (why_stopped (first_stop_of_bytes part kept bytes))
     (is_synced (reading_of bytes).place)
@@ -106,7 +110,8 @@ cause_of part kept bytes = failure_of (fault_of_stop (why_stopped (first_stop_of
 abbrev pub attempt_of_bytes : PartData → Kept → Bool → List ℕ → Attempt
 attempt_of_bytes part kept wrapped bytes = attempt_of kept wrapped (fault_of_stop (why_stopped (first_stop_of_bytes part kept bytes))) (history_taken part kept bytes)
 
--- what a next attempt of this kind keeps: WBSTAR, TIMER and BSPI as they are, and this attempt as the one before
+-- what a next attempt, of kind `kind`, keeps: WBSTAR, TIMER and BSPI as they are after these bytes, and the attempt
+-- that took the bytes as the one before
 abbrev pub kept_after : PartData → Kept → Bool → List ℕ → Kind → Kept
 kept_after part kept wrapped bytes kind = record {
   wbstar = (state_of part kept wrapped bytes).wbstar;
@@ -125,5 +130,5 @@ abbrev pub memory_of_bytes : PartData → Kept → List ℕ → FrameMap
 memory_of_bytes part kept bytes = memory_of part (history_taken part kept bytes)
 
 -- the state while `due` words of frame data of the last read are still to be given, which FAR alone shows
-abbrev pub state_owing : PartData → Kept → Bool → List ℕ → ℕ → Regs
+abbrev pub state_owing : PartData → Kept → Bool → List ℕ → ℕ → Snapshot
 state_owing part kept wrapped bytes due = record (state_of part kept wrapped bytes) { far = far_owing part (history_taken part kept bytes) due }

@@ -22,13 +22,14 @@ use Rattle.x7_engine.specs.Kept.{is_fallback}
 use Rattle.x7_flow.specs.Controls.{ctl0_held, has_idcode, mask_held, masked_word, same_idcode}
 use Rattle.x7_engine.specs.Watching.{first_firing}
 
--- a written word asks for decryption, which is left out: any word written to CBC, or one after which CTL0 has DEC
+-- a written word asks for decryption, which is left out: any word written to CBC, or a word written to CTL0 that leaves
+-- DEC 1 there
 abbrev pub asks_decryption : History → ℕ → ℕ → Bool
 asks_decryption h register w =
     register == number_of reg.Cbc || (register == number_of reg.Ctl0 && has_dec (masked_word (number_of reg.Ctl0) (mask_held h) (Write register w) (ctl0_held h)))
 
--- a written word asks that the part's IDCODE was written before it: a word for frames, or one that executes START (that
--- MFWR and START ask for it is this project's choice)
+-- a written word asks that the part's IDCODE was written before it: a word for FDRI or MFWR, or one that executes START
+-- (that MFWR and START ask for it is this project's choice)
 abbrev pub needs_idcode : History → ℕ → ℕ → Bool
 needs_idcode h register w = register == number_of reg.Fdri || (register == number_of reg.Mfwr || executes (code_of command.Start) h (Write register w))
 
@@ -83,7 +84,8 @@ abbrev pub stop_at_firing : Option ℕ → Option Stopped
 stop_at_firing None = None
 stop_at_firing (Some place) = Some (record { place = place; why = stop.Fault fault.Watchdog })
 
--- The first stop of a history with n bytes taken. At each byte the watchdog comes before the access that ends there.
+-- The first stop of a history with n bytes taken, where there is one. At each byte the watchdog comes before the access
+-- that ends there.
 abbrev pub first_stop_of_history : PartData → Kept → History → ℕ → Option Stopped
 first_stop_of_history part kept [] n = stop_at_firing (first_firing part kept [] 0 n)
 first_stop_of_history part kept (e ∷ h) n =

@@ -4,21 +4,22 @@ use Rattle.std.specs.Prelude.{◌≡◌, ℕ, ◌≤◌, ◌%◌, ◌∷◌, Lis
 use Rattle.x7_packets.specs.History.{Write, entry}
 use Rattle.x7_engine.specs.Entering.{Change, EntersHistory, EntersHistoryAt, up_to_stop, words_entered}
 use Rattle.x7_engine.specs.WordCalls.{LeavesDue, TakesUpTo}
-use Rattle.x7_engine.specs.Standing.{counted_in}
+use Rattle.x7_engine.specs.Standing.{CountsAll}
 
 -- registers took a word written to a register, which counts also where it stops them
 pub record TookWrite (x : Change) (register word : ℕ) : Type 0 where
   pub enters : EntersHistoryAt x (λ place h. entry (Write register word) place ∷ h)
-  pub counts : (n : ℕ) → counted_in x.new.stop n ≡ n
+  pub counts : CountsAll x.new.stop
   pub leaves : LeavesDue x
 
--- of words written to a register, four bytes each, registers took those up to a stop, which are this many bytes
+-- of words written to a register, four bytes each, registers took this many bytes: all, or those up to a stop
 pub record TookWords (x : Change) (register : ℕ) (bytes : List ℕ) (taken : ℕ) : Type 0 where
   pub takes : TakesUpTo (length bytes) taken x.new.stop
   pub leaves : LeavesDue x
   pub enters : EntersHistory x (up_to_stop x.new (words_entered register bytes) taken) taken
 
--- of words written to a register, four bytes each, registers took the first ones, and none of these stopped them
+-- of words written to a register, four bytes each, registers took the first ones, which are this many bytes, and none
+-- of these stopped them
 pub record TookFirstWords (x : Change) (register : ℕ) (bytes : List ℕ) (taken : ℕ) : Type 0 where
   pub within : taken ≤ length bytes
   pub whole : taken % 4 ≡ 0

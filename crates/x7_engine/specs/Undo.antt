@@ -70,7 +70,8 @@ registers_with v f = record {
   frames = f;
 }
 
--- what is saved of a device: each stored value but its memory, and at most one frame of that
+-- what is saved of a device: each stored value but its part, its memory and how many bytes it was ever fed, and at most
+-- one frame of the memory
 pub record UndoState : Type 0 where
   pub cutter : CutterState
   pub values : SavedRegistersState
@@ -82,7 +83,7 @@ pub record UndoState : Type 0 where
 abbrev pub IsUndoOf : PartData → UndoState → Type 0
 IsUndoOf part u = IsSavedOf part u.frames
 
--- the device whose values are saved, with a memory of zeros
+-- the device whose values are saved, with a memory of zeros, and ever fed no byte
 abbrev pub device_saved : PartData → UndoState → DeviceState
 device_saved part u = record {
   part = part;
@@ -93,27 +94,27 @@ device_saved part u = record {
   fed = 0;
 }
 
--- each saved value is that of a device
+-- each saved value but what is saved of the frames is that of a device
 pub record SavesValues (u : UndoState) (d : DeviceState) : Type 0 where
   pub cutter : u.cutter ≡ d.cutter
   pub values : u.values ≡ without_frames d.registers
   pub wrapped : u.wrapped ≡ d.wrapped
   pub taken : u.taken ≡ d.taken
 
--- a device is saved: its values, and the frame that its next word or copy would change
+-- a device is saved: its values, its pipeline, and the frame that its next word or copy would change, if any
 pub record SavesDevice (u : UndoState) (d : DeviceState) : Type 0 where
   pub values : SavesValues u d
   pub frames : SavesFrames d.part u.frames d.registers.frames
   pub frames_fit : FramesFit d.part d.registers.frames
 
--- What is saved leads from a device back to an old one: the values are those of the old device, and the memory of the
--- new one, with the saved frame put into it, is that of the old one.
+-- What is saved leads from a device back to an old one: the values and the pipeline are those of the old device, and
+-- the memory of the new one, with the saved frame, if any, put into it, is that of the old one.
 pub record UndoLeadsBack (u : UndoState) (new old : DeviceState) : Type 0 where
   pub part : new.part ≡ old.part
   pub values : SavesValues u old
   pub frames : FramesBack old.part u.frames new.registers.frames old.registers.frames
 
--- what is saved is an old device, which took no more bytes since then than can be taken back
+-- what is saved is an old device with no word due, and since then the device took `undo_reach` bytes at most
 pub record TookFewSince (u : UndoState) (d : DeviceState) : Type 0 where
   pub past : Past
   pub more : List ℕ

@@ -1,5 +1,5 @@
--- Feeding up to where startup begins, or up to its end: the bytes taken are those up to the least one at which startup
--- has begun, or has ended (this project's choice).
+-- Feeding up to where startup begins, or up to its end: no byte is taken after the least one at which startup has
+-- begun, or has ended (this project's choice).
 use Rattle.std.specs.Prelude.{◌≡◌, ℕ, ◌<◌, ◌==◌, ◌++◌, Bool, true, false, List, [], ◌∷◌, length, take}
 use Rattle.x7_packets.specs.History.{Access, Bad, History, Read, Write, history_of}
 use Rattle.x7_part.specs.Part.{PartData}
@@ -30,7 +30,7 @@ NoneBegun part kept bytes piece count = (k : ℕ) → k < count → HasNotBegun 
 abbrev pub NoneStarted : PartData → Kept → List ℕ → List ℕ → ℕ → Type 0
 NoneStarted part kept bytes piece count = (k : ℕ) → k < count → has_started part kept (bytes ++ take k piece) ≡ false
 
--- the number of bytes taken of a piece of `length` bytes, by what is answered
+-- the number of bytes taken of a piece of `length` bytes, by what a feed up to the end of startup answers
 abbrev pub taken_until : ℕ → UntilStarted → ℕ
 taken_until length (until.Started n) = n
 taken_until length (until.Fed answer) = taken_in length answer
@@ -51,6 +51,7 @@ abbrev pub AreOtherWrites : History → Type 0
 AreOtherWrites [] = Unit {0}
 AreOtherWrites (e ∷ h) = IsOtherWrite e.access × AreOtherWrites h
 
--- of the bytes after others none but the last ends a write to CMD, a read or a word that is no header
+-- of the bytes after others none but the last ends a write to CMD, a read or a word in a header's place that is no
+-- header
 abbrev pub CommandsLast : List ℕ → List ℕ → Type 0
 CommandsLast bytes more = (k : ℕ) → k < length more → (newer : History) × (history_of (bytes ++ take k more) ≡ newer ++ history_of bytes) × AreOtherWrites newer

@@ -1,4 +1,4 @@
--- The values of the registers as they are read (UG470, configuration registers).
+-- The values of the registers as they are read, and the words that reads give (UG470, configuration registers).
 use Rattle.std.specs.Prelude.{ℕ, ◌==◌, ◌&&◌, Bool, true, false, not, nat_le, if◌then◌else◌, List, [], ◌∷◌, ◌++◌, Option, None, Some, replicate, is_some}
 use Rattle.x7_packets.specs.History.{Access, Write, Read, Bad, History, command_held}
 use Rattle.x7_crc.specs.RunningCheck.{running_check}
@@ -70,11 +70,11 @@ abbrev pub check_shown : Option Fault → History → ℕ
 check_shown (Some (fault.Crc want got)) h = want
 check_shown _ h = running_check h
 
--- the end of the flash as what an attempt failed by, where it has ended
+-- what the flash's end makes an attempt fail by: `Wrap` where the flash has ended (`wrapped`), and else nothing
 abbrev pub wrap_cause : Bool → Option Cause
 wrap_cause wrapped = if wrapped then Some cause.Wrap else None
 
--- what an attempt failed by: a fault Id, Crc or Watchdog, or else the end of the flash
+-- what an attempt failed by: a fault Id, Crc or Watchdog, or else the end of the flash; none where neither came
 abbrev pub failure_of : Option Fault → Bool → Option Cause
 failure_of (Some (fault.Id want got)) wrapped = Some cause.Id
 failure_of (Some (fault.Crc want got)) wrapped = Some cause.Crc
@@ -108,12 +108,13 @@ register_value c wrapped fault Bootsts = boot_status_of (attempt_of c.kept wrapp
 register_value c wrapped fault Ctl1 = masked_register (number_of Ctl1) c.history
 register_value c wrapped fault Bspi = word_held c.kept (number_of Bspi) c.history
 
--- the value of a register by its number, and 0 for a number without a register
+-- the value of a register by its number, where there is no fault and the flash hasn't ended, and 0 for a number without
+-- a register
 abbrev pub value_or_zero : Course → Option Reg → ℕ
 value_or_zero c None = 0
 value_or_zero c (Some reg) = register_value c false None reg
 
--- the value of the register of this number, as it is read
+-- the value of the register of this number, as a read gives it: there is no fault, and the flash hasn't ended
 abbrev pub read_value : Course → ℕ → ℕ
 read_value c register = value_or_zero c (reg_with register)
 
@@ -122,13 +123,14 @@ abbrev pub value_owing : Course → Option Fault → ℕ → Reg → ℕ
 value_owing c fault due Far = far_owing c.part c.history due
 value_owing c fault due reg = register_value c false fault reg
 
--- the words of a read that isn't refused: words of frame data, or the register's value as
--- often as it asks, taken where its header ends
+-- the words of a read that isn't refused: words of frame data, or `count` words, each the register's value where the
+-- read's header ends
 abbrev pub words_of_read : Course → ℕ → ℕ → List ℕ
 words_of_read c register count =
     if reads_frame_data c.history (Read register count) then frames_read c.part c.history count else replicate count (read_value c register)
 
--- the words that an access after this history reads out
+-- the words that an access after this history, which ends at byte n, from 1, reads out: none where it is no read or is
+-- refused
 abbrev pub words_read_by : PartData → Kept → History → Access → ℕ → List ℕ
 words_read_by part kept h (Write register w) n = []
 words_read_by part kept h (Read register count) n = if is_some (why_at_access part kept h (Read register count)) then [] else words_of_read (course_at part kept h n) register count

@@ -1,4 +1,4 @@
-//! Startup and the watchdog of a device, which the bytes taken move.
+//! Startup and the watchdog of a device, which the bytes taken and the words written move.
 ghost use Rattle.std.specs.Prelude.{◌≡◌, ◌<◌, ◌≤◌, ◌+◌, ◌++◌, [], ℕ, true, None, IfSome, IsTrue, ◌==◌, nat_le};
 ghost use Rattle.x7_packets.specs.History.{History};
 ghost use Rattle.x7_part.specs.Part.{PartData};
@@ -20,7 +20,8 @@ use x7_part::Part;
 use x7_regs::{Command, Reg};
 use x7_startup::{LAST_PHASE, Lines, Startup, Watchdog};
 
-/// What a written word asks of startup.
+/// Does what a written word asks of startup, by the code of the command that it executes, if any, by whether it takes a
+/// pending shutdown (it clears the check after SHUTDOWN), and by COR0 before the word.
 fn move_startup(startup: &mut Startup, executed: Option<u8>, takes_shutdown: bool, cor0: u32)
     ensures { (lock_ticks match_ticks : ℕ) → AddsCalls lock_ticks match_ticks startup.old startup.new (startup_call_by executed takes_shutdown cor0) }
 {
@@ -37,7 +38,7 @@ fn move_startup(startup: &mut Startup, executed: Option<u8>, takes_shutdown: boo
     }
 }
 
-/// What a written word asks of the watchdog.
+/// Does what a written word, which executes a command or none, asks of the watchdog.
 fn move_watchdog(watchdog: &mut Watchdog, executed: Option<u8>, reg: Reg, word: u32)
     ensures { ForEachCalls watchdog.old (λ off first calls. WatchesFor off first watchdog.new (calls ++ watch_call_by executed (write_access reg word))) }
 {
@@ -72,7 +73,8 @@ impl Clock {
         }
     }
 
-    /// Takes a written word that executes a command or none, and takes a shutdown or not.
+    /// Takes a written word that executes a command or none, and takes a shutdown or not; `cor0` is COR0 as it was
+    /// before the word.
     pub(crate) fn write(
         &mut self,
         executed: Option<u8>,
@@ -88,7 +90,7 @@ impl Clock {
         move_watchdog(&mut self.watchdog, executed, reg, word);
     }
 
-    /// The phase of startup.
+    /// The phase of startup, 0 to 7.
     pub(crate) fn phase(&self) -> u8
         ensures stored { result ≡ self.now.startup.phase }
         ensures most { result ≤ last_phase }
@@ -97,7 +99,7 @@ impl Clock {
         self.startup.phase()
     }
 
-    /// Whether startup has ended.
+    /// Whether startup has ended: the phase is 7.
     pub(crate) fn has_ended(&self) -> bool
         ensures stored { result ≡ (self.now.startup.phase == last_phase) }
         ensures value { ForEachHistoryOfStartup self.now.startup (λ part h n. result ≡ has_ended part h n) }
@@ -105,7 +107,7 @@ impl Clock {
         self.phase() == LAST_PHASE
     }
 
-    /// Whether `ticks` ticks have passed since startup began.
+    /// Whether `ticks` ticks or more have passed since startup began; where it hasn't begun, whether `ticks` is 0.
     pub(crate) fn have_passed(&self, ticks: u16) -> bool
         ensures { ForEachHistoryOfStartup self.now.startup (λ part h n. result ≡ nat_le ticks (ticks_of (startup_progress h n))) }
     {
@@ -129,8 +131,8 @@ impl Clock {
         self.watchdog.byte(eos)
     }
 
-    /// Takes `count` bytes, up to the one at which the watchdog fires: the number of that byte, from 1. Up to the end
-    /// of startup the bytes come one by one, and the rest at once.
+    /// Takes `count` bytes, up to the first at which the watchdog fires: the number of that byte, from 1, or none where
+    /// it fires at no byte. Up to the end of startup the bytes come one by one, and the rest at once.
     fn bytes_one_by_one(&mut self, part: &Part, count: usize) -> Option<usize>
         ensures { ClockTakesInAny part.now (clock_in self.old) (clock_in self.new) count result }
     {
@@ -145,8 +147,9 @@ impl Clock {
         None
     }
 
-    /// Takes the rest of `count` bytes at once, where startup has ended with the last of the `taken` ones, up to the
-    /// one at which the watchdog fires: the number of that byte among all `count`, from 1.
+    /// Takes the rest of `count` bytes at once, where startup has ended with the first `taken` and the watchdog fired
+    /// at none of these, up to the first at which it fires: the number of that byte among all `count`, from 1, or none
+    /// where it fires at no byte.
     fn bytes_after_end(&mut self, part: &Part, taken: usize, count: usize) -> Option<usize>
         requires within { taken ≤ count }
         ensures within { IfSome result (λ k. (0 < k) × (k ≤ count)) }
@@ -161,8 +164,8 @@ impl Clock {
         }
     }
 
-    /// Takes `count` bytes, at each of which startup has ended (`eos`) or at none, up to the one at which the watchdog
-    /// fires: the number of that byte, from 1.
+    /// Takes `count` bytes, at each of which startup has ended (`eos`) or at none, up to the first at which the
+    /// watchdog fires: the number of that byte, from 1, or none where it fires at no byte.
     fn bytes_alike(&mut self, part: &Part, count: usize, eos: bool) -> Option<usize>
         ensures within { IfSome result (λ k. (0 < k) × (k ≤ count)) }
         ensures takes { (kept : KeptData) (h : History) (n : ℕ) → AreEndedAlike (course_at part.now kept h n) (clock_in self.old) count eos
@@ -187,7 +190,8 @@ impl Clock {
         then.has_ended()
     }
 
-    /// True only where bytes leave the clock as it is: startup hasn't begun, and the watchdog doesn't run.
+    /// True only where bytes leave the clock as it is: startup hasn't begun, and the watchdog has no count at which it
+    /// fires.
     #[inline(always)]
     pub(crate) fn is_idle(&self) -> bool
         ensures not_begun { IsTrue result → self.now.startup.begun_with ≡ None }
@@ -196,11 +200,11 @@ impl Clock {
         if self.startup.has_begun() {
             return false;
         }
-        !self.watchdog.is_running()
+        !self.watchdog.has_limit()
     }
 
-    /// Takes `count` bytes before the word that they complete, up to the one at which the watchdog fires: the number of
-    /// that byte, from 1.
+    /// Takes `count` bytes before the word that they complete, up to the first at which the watchdog fires: the number
+    /// of that byte, from 1, or none where it fires at no byte.
     #[inline(always)]
     pub(crate) fn bytes(&mut self, part: &Part, count: usize) -> Option<usize>
         ensures { ClockTakesInAny part.now (clock_in self.old) (clock_in self.new) count result }
@@ -211,7 +215,8 @@ impl Clock {
         self.move_on(part, count)
     }
 
-    /// How many of the next `count` bytes come before the one at which the watchdog fires.
+    /// How many of the next `count` bytes come before the first at which the watchdog fires: all, where it fires at
+    /// none. The clauses say just that it fires at none of that many.
     #[inline(always)]
     pub(crate) fn before_firing(&self, part: &Part, count: usize) -> usize
         ensures within { result ≤ count }
@@ -224,14 +229,14 @@ impl Clock {
         }
     }
 
-    /// Takes `count` bytes, where startup or the watchdog may run, up to the one at which the watchdog fires: the
-    /// number of that byte, from 1.
+    /// Takes `count` bytes, also where startup or the watchdog goes on with them, up to the first at which the watchdog
+    /// fires: the number of that byte, from 1, or none where it fires at no byte.
     #[inline(never)]
     fn move_on(&mut self, part: &Part, count: usize) -> Option<usize>
         ensures { ClockTakesInAny part.now (clock_in self.old) (clock_in self.new) count result }
     {
         let eos = self.has_ended();
-        // Startup doesn't go back over bytes, so it has ended at each of them or at none.
+        // By bytes alone the phase never falls, so startup has ended at each of them or at none.
         if eos == self.ends_within(part, count) {
             return self.bytes_alike(part, count, eos);
         }

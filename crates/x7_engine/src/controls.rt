@@ -1,4 +1,4 @@
-//! The registers that take only the bits of MASK.
+//! The registers CTL0 and CTL1, which take only the bits that MASK has.
 ghost use Rattle.std.specs.Prelude.{◌≡◌, ℕ, ◌∷◌, []};
 ghost use Rattle.x7_packets.specs.History.{entry, History, Write};
 ghost use Rattle.x7_regs.specs.Register.{number_of};
@@ -30,7 +30,8 @@ impl Controls {
         Controls { ctl0: 0, ctl1: 0 }
     }
 
-    /// Stores the bits of a written word that MASK has, where the register is CTL0 or CTL1.
+    /// Stores, of a word written to CTL0 or CTL1, the bits where `mask` is 1; the others stay. Another register's word
+    /// changes nothing.
     pub(crate) fn write(&mut self, reg: Reg, word: u32, mask: u32)
         ensures { (h : History) (place : ℕ) → mask ≡ mask_held h → AreControls (controls_in self.old) h
             → AreControls (controls_in self.new) (entry (Write (number_of reg) word) place ∷ h) }

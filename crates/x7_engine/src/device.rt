@@ -24,7 +24,7 @@ use crate::fed::Fed;
 use crate::kept::{Kept, ON_THE_BENCH};
 use crate::read_buffer::ReadBuf;
 use crate::registers::Registers;
-use crate::regs::{End, Regs};
+use crate::snapshot::{End, Snapshot};
 use crate::stop::StopCause;
 use crate::target::Target;
 pub use boot::flash_may_end;
@@ -44,8 +44,8 @@ pub(crate) const WORD_BYTES: usize = 4;
 /// How many bytes the write of one word takes: those of its header and of the word.
 const WRITE_BYTES: usize = 8;
 
-/// A device of a part: its state is a function of all bytes since its reset, of what the reset kept, and of whether the
-/// flash has ended.
+/// A device of a part (UG470, configuration registers; what the guide leaves open is this project's choice). Its state
+/// is a function of all bytes since its reset, of what the reset kept, and of whether the flash has ended.
 pub struct Device {
     part: Part,
     cutter: Cutter,
@@ -53,7 +53,7 @@ pub struct Device {
     // the flash has ended in this attempt
     wrapped: bool,
     taken: u64,
-    // how many bytes were ever fed, counted up to the last number of 64 bits
+    // how many bytes were ever taken, counted up to the last number of 64 bits; no reset and no undo lowers it
     fed: u64,
 }
 
@@ -81,7 +81,8 @@ impl Model for Device {
     ghost invariant = { λ d. DeviceFits (device_in d) };
 }
 
-/// What a feed answers for a stop at place `at` of a piece.
+/// What a feed answers for a stop once `at` bytes of its piece are taken: the stop came at the last of them, or before
+/// the call where `at` is 0.
 fn answer_at_stop(stop: StopCause, at: usize) -> Fed
     ensures { result ≡ answer_at_stop stop at }
 {
@@ -91,7 +92,8 @@ fn answer_at_stop(stop: StopCause, at: usize) -> Fed
     }
 }
 
-/// Where bytes end, by the stop, and without one by whether they end in a session.
+/// Where bytes end: at the stop, if there is one (an IPROG with the word of WBSTAR, `wbstar`), and else in a session or
+/// in a gap, as `synced` says.
 fn end_by(stop: Option<StopCause>, synced: bool, wbstar: u32) -> End
     ensures { result ≡ end_by stop synced wbstar }
 {
@@ -124,7 +126,7 @@ fn is_done(used_up: bool, stop: Option<StopCause>) -> bool
     }
 }
 
-/// What an attempt failed by, where the flash has ended or not, by what it failed by before that.
+/// What an attempt failed by, from what it failed by without an end of the flash, and from whether the flash has ended.
 fn failure_with_wrap(cause: Option<Cause>, wrapped: bool) -> Option<Cause>
     ensures { (fault : Option FaultData) → cause ≡ failure_of fault false → result ≡ failure_of fault wrapped }
 {
@@ -136,8 +138,8 @@ fn failure_with_wrap(cause: Option<Cause>, wrapped: bool) -> Option<Cause>
 }
 
 impl Device {
-    /// A device of this part as after a reset on the bench. The call takes room for
-    /// all frames, and no other call takes memory.
+    /// A device of this part as after a reset on the bench, where no flash boots it. The call takes room for all frames
+    /// and a copy of the part; no later call on the device takes memory.
     pub fn new(alloc: Global, part: &Part) -> Result<Device, NoMemory>
         ensures stands { IfOk result (λ d. DeviceStandsFor part.now on_the_bench false d []) }
         ensures fed { IfOk result (λ d. fed_of d ≡ 0) }
@@ -198,7 +200,9 @@ impl Device {
         }
     }
 
-    /// Says that the flash has ended before the attempt did: BOOTSTS shows it until the next reset, and all else stays.
+    /// Says that the flash has ended before startup did, in an attempt in which it may (`flash_may_end`). WRAP_ERROR of
+    /// the present attempt is then 1 in BOOTSTS, and all else stays. After a reset with what `kept` gives, BOOTSTS
+    /// shows it as that of the attempt before.
     pub fn wrap(&mut self)
         requires { MayWrap self.old }
         ensures wrapped { self.new ≡ with_wrap self.old }
@@ -207,7 +211,7 @@ impl Device {
         self.wrapped = true;
     }
 
-    /// What stopped the device.
+    /// What stopped the device, if something did.
     fn stop(&self) -> Option<StopCause>
         ensures { result ≡ self.now.registers.stop }
     {
@@ -223,8 +227,8 @@ impl Device {
         self.registers.give(&self.part, read)
     }
 
-    /// Takes no-ops that come next in a session, all at once, up to a byte at which the watchdog fires. There may be
-    /// more of them.
+    /// Takes no-ops that come next in a session, at once, up to a byte at which the watchdog fires. More no-ops may
+    /// follow those taken.
     fn pass_nops(&mut self, piece: &[u8], at: &mut usize)
         requires { MayTakePiece self.old piece.now at.old }
         ensures turned { TurnMoves self.old self.new piece.now at.old at.new }
@@ -239,8 +243,9 @@ impl Device {
         self.fed = self.fed.saturating_add((count - left) as u64);
     }
 
-    /// Takes the next run of the piece from place `at` on, and moves `at` past the bytes taken. The answer is `true`
-    /// only where the piece is used up; after `false` the piece's next turn may find nothing left.
+    /// Takes the next run of the piece from place `at` on, up to a byte that stops the device, and moves `at` past the
+    /// bytes taken. `true` says that the piece is used up; `false` that the device stopped, or that one more turn is to be
+    /// taken, which may find nothing left.
     fn take_run(&mut self, piece: &[u8], at: &mut usize) -> bool
         requires { MayTakePiece self.old piece.now at.old }
         ensures { TurnAnswers self.old self.new piece.now at.old at.new result }
@@ -280,8 +285,8 @@ impl Device {
     }
 
     /// Takes one turn of a piece: the write of one word that comes next, where it lies whole in the piece and no byte
-    /// moves the clock, or else what `take_next` takes. Moves `at` past it. The answer is `true` only where the piece is
-    /// used up; after `false` the piece's next turn may find nothing left.
+    /// moves the clock, or else what `take_next` takes. Moves `at` past it. The answer is `true` only where the piece
+    /// is used up; after `false` the piece's next turn may find nothing left.
     #[inline(always)]
     fn turn(&mut self, piece: &[u8], at: &mut usize) -> bool
         requires { MayTakePiece self.old piece.now at.old }
@@ -294,8 +299,8 @@ impl Device {
     }
 
     /// Takes no-ops that come next and then, unless the watchdog fired at one, the next run. Moves `at` past the bytes
-    /// taken. The answer is `true` only where the piece is used up; after `false` the piece's next turn may find
-    /// nothing left.
+    /// taken. `true` says that the piece is used up; `false` that the device stopped, or that one more turn is to be
+    /// taken, which may find nothing left.
     #[inline(never)]
     fn take_next(&mut self, piece: &[u8], at: &mut usize) -> bool
         requires { MayTakePiece self.old piece.now at.old }
@@ -308,8 +313,8 @@ impl Device {
         self.take_run(piece, at)
     }
 
-    /// Takes the bytes of a piece, up to one that stops the device or to the first read whose words have no room. After
-    /// a stop the device takes nothing.
+    /// Gives the words that are due, and takes the bytes of a piece, up to one that stops the device or to the first
+    /// with which a word is read out that has no room. After a stop the device takes nothing.
     pub fn feed(&mut self, piece: &[u8], read: &mut ReadBuf) -> Fed
         requires { CanBeGiven self.old (length piece.now) }
         ensures takes { TakesFirst self.old self.new piece.now (taken_in (length piece.now) result) }
@@ -343,11 +348,11 @@ impl Device {
 
     /// What a report shows beside the part's name, the words read out and the frames: the registers, where the bytes
     /// end, and startup. While words of frame data are still due, FAR is that of the words given so far.
-    pub fn state(&self) -> Regs
+    pub fn state(&self) -> Snapshot
         ensures owing { ForEachPast self.now (λ p. result ≡ state_owing p.part p.kept p.wrapped p.bytes (frames_due self.now.registers.due)) }
         ensures value { ForEachPast self.now (λ p. NoWordDue self.now → result ≡ state_at p) }
     {
-        Regs {
+        Snapshot {
             taken: self.taken,
             end: self.end(),
             phase: self.registers.clock.phase(),
@@ -389,7 +394,7 @@ impl Device {
         &self.part
     }
 
-    /// The fault that stopped the device.
+    /// The fault that stopped the device; none where nothing stopped it, or an IPROG did.
     pub fn fault(&self) -> Option<Fault>
         ensures { ForEachPast self.now (λ p. result ≡ fault_of_stop (why_stopped (first_stop_at p))) }
     {
@@ -399,14 +404,15 @@ impl Device {
         }
     }
 
-    /// Whether startup has ended.
+    /// Whether startup has ended: the phase is 7.
     pub fn started(&self) -> bool
         ensures { ForEachPast self.now (λ p. result ≡ ((state_at p).phase == last_phase)) }
     {
         self.registers.clock.has_ended()
     }
 
-    /// Each device has a past. The call is for proofs alone, and does nothing.
+    /// Each device has a past: its part, what its reset kept, whether the flash has ended, and the bytes that it took
+    /// since the reset. The call is for proofs alone, and does nothing.
     pub fn past_exists(&self)
         ensures past { HasSomePast self.now }
     {

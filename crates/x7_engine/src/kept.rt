@@ -4,8 +4,8 @@ ghost use Rattle.x7_engine.specs.Kept.{is_fallback};
 
 use x7_regs::{Attempt, Kind};
 
-/// What a device keeps over a reset (this project's choice): three registers, the kind of
-/// its boot attempt, and the attempt before.
+/// What a device keeps over a reset (this project's choice): three registers, the kind of the boot attempt that
+/// follows, and the attempt before it.
 #[derive(Clone, Copy)]
 pub struct Kept {
     /// The word of WBSTAR.
@@ -14,13 +14,14 @@ pub struct Kept {
     pub timer: u32,
     /// The word of BSPI.
     pub bspi: u32,
-    /// What began the attempt.
+    /// What begins the boot attempt that follows the reset.
     pub kind: Kind,
-    /// The attempt before, if there was one.
+    /// The boot attempt before the reset, if there was one.
     pub before: Option<Attempt>,
 }
 
-/// What a device on the bench keeps: nothing.
+/// What a device on the bench keeps, one that no flash boots (this project's choice): 0 for each register, and no
+/// attempt before.
 pub const ON_THE_BENCH: Kept = Kept {
     wbstar: 0,
     timer: 0,
@@ -29,7 +30,7 @@ pub const ON_THE_BENCH: Kept = Kept {
     before: None,
 };
 
-/// Whether an attempt is a fallback, which has no watchdog and ignores IPROG.
+/// Whether an attempt is a fallback, which has no watchdog and ignores IPROG (UG470, MultiBoot and fallback).
 pub fn is_fallback(kind: Kind) -> bool
     ensures { result ≡ is_fallback kind }
 {

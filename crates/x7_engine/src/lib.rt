@@ -1,5 +1,5 @@
-//! A device: its state is a function of all bytes since its reset, in whatever pieces they come, of what the reset
-//! kept, and of whether the flash has ended.
+//! A device: its state is a function of its part, of all bytes since its reset, in whatever pieces they come, of what
+//! the reset kept, and of whether the flash has ended.
 #![tactic(auto)]
 
 mod clock;
@@ -14,8 +14,8 @@ mod progress;
 mod read_buffer;
 mod readout;
 mod registers;
-mod regs;
 mod saved;
+mod snapshot;
 mod stop;
 mod target;
 mod until_started;
@@ -34,6 +34,6 @@ pub use laws::{
     stops_are_final, stops_are_first, watchdog_fires, wraps_show_in_bootsts,
 };
 pub use read_buffer::ReadBuf;
-pub use regs::{End, Regs};
+pub use snapshot::{End, Snapshot};
 pub use stop::StopCause;
 pub use until_started::UntilStarted;

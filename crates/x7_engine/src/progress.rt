@@ -63,7 +63,7 @@ fn takes_shutdown(cleared: bool, pending: bool) -> bool
     cleared && pending
 }
 
-/// Whether the part's IDCODE was written, after a written word.
+/// Whether the part's IDCODE was written up to and with this word, where `has_idcode` says it of the accesses before.
 fn has_idcode_after(has_idcode: bool, idcode: u32, reg: Reg, word: u32) -> bool
     ensures { result ≡ (names_part idcode (write_access reg word) || has_idcode) }
 {
@@ -73,7 +73,7 @@ fn has_idcode_after(has_idcode: bool, idcode: u32, reg: Reg, word: u32) -> bool
     }
 }
 
-/// Whether an IPROG command was written, after a written word.
+/// Whether an IPROG command was written up to and with this word, where `wrote` says it of the accesses before.
 fn wrote_iprog_after(wrote: bool, reg: Reg, word: u32) -> bool
     ensures { result ≡ (writes_command (code_of Command.Iprog) (write_access reg word) || wrote) }
 {
@@ -113,7 +113,7 @@ impl Progress {
         }
     }
 
-    /// Takes a word written to a register in which it stays, and is folded into the check.
+    /// Takes a written word that stays in its register, is folded into the check, and does nothing else.
     pub(crate) fn pass(&mut self, plain: PlainNumber, word: u32)
         ensures { (idcode : ℕ) (h : History) (place : ℕ) → IsProgress idcode (progress_in self.old) h
             → IsProgress idcode (progress_in self.new) (entry (Write plain.register word) place ∷ h) }
@@ -139,7 +139,7 @@ impl Progress {
         taken
     }
 
-    /// Takes words, four bytes each, written to a register that moves the check and no flag.
+    /// Takes words, four bytes each, written to a register whose words move the check and no flag.
     pub(crate) fn pass_all(&mut self, register: u8, bytes: &[u8])
         requires register { register < reg_number_count }
         requires controls_nothing { is_controlling register ≡ false }

@@ -16,11 +16,11 @@ pub(crate) enum Room {
     Full,
     /// In place, for one word, which stands there or not yet.
     One(Option<u32>),
-    /// In a vector, for the number of words given second.
+    /// In a vector, for as many words at most as the number says.
     Many(Vec<u32>, usize),
 }
 
-/// Takes the words that a device reads out: gathers them up to a number, or drops each.
+/// Takes the words that a device reads out: gathers them up to a number, or drops each (this project's choice).
 #[derive(Drop)]
 pub struct ReadBuf {
     room: Room,
@@ -75,7 +75,7 @@ impl ReadBuf {
         }
     }
 
-    /// The words gathered since the buffer was made or cleared.
+    /// The words gathered since the buffer was made or cleared, the first one read out first; none where it drops each.
     pub fn words(&self) -> &[u32]
         ensures value { result.now ≡ self.now.words }
         ensures within_most { HoldsWithinMost self.now.most result.now }
@@ -106,7 +106,7 @@ impl ReadBuf {
         let _words = self.words();
     }
 
-    /// Takes a word `count` times, as far as there is room. Says how often not.
+    /// Takes a word `count` times, as far as there is room. Says for how many of these times there was no room.
     pub(crate) fn push_times(&mut self, word: u32, count: u32) -> u32
         ensures within { result ≤ count }
         ensures words { self.new ≡ with_words self.old (replicate (count - result) word) }

@@ -1,5 +1,5 @@
 //! The words that a device reads out: a read makes them due, and a buffer takes them.
-ghost use Rattle.std.specs.Prelude.{◌≡◌, ◌≤◌, ◌<◌, ℕ, IsTrue, ◌↔◌, None, Some};
+ghost use Rattle.std.specs.Prelude.{◌≡◌, ◌≤◌, ◌<◌, IsTrue, ◌↔◌, None, Some};
 ghost use Rattle.x7_packets.specs.History.{History};
 ghost use Rattle.x7_flow.specs.Standing.{FramesFit, FramesStandFor, HaveDue, read_entry, words_due};
 ghost use Rattle.x7_engine.specs.Readout.{GaveWordsDue, GotAllBut, MayGiveWords};
@@ -25,7 +25,8 @@ pub(crate) fn due_count(due: Due) -> u32
     }
 }
 
-/// Gives `count` words of frame data to a buffer, as far as the buffer has room. Says how many not.
+/// Gives `count` words of frame data to a buffer, as far as it has room; one that drops its words has room for all.
+/// Says how many words are left.
 fn give_frames(frames: &mut Frames, part: &Part, count: u32, read: &mut ReadBuf) -> u32
     requires frames { FramesFit part.now frames.old }
     requires due { HaveDue part.now frames.old count }
@@ -49,14 +50,15 @@ fn give_frames(frames: &mut Frames, part: &Part, count: u32, read: &mut ReadBuf)
 }
 
 impl Registers {
-    ghost use Rattle.x7_engine.specs.Standing.{counted_in, registers_in};
+    ghost use Rattle.x7_engine.specs.Standing.{CountsAll, registers_in};
 
-    /// A read of `count` words of a register, which are due from now on.
+    /// Takes a read of `count` words, at least one, of the register of this number: they are due from now on. A read of
+    /// frame data that the frames refuse stops the device, and none is due.
     pub(crate) fn read(&mut self, part: &Part, register: u8, count: u32)
         requires may_take { MayTakeWords part.now self.old }
         requires at_least_one { 0 < count }
         ensures none_due_at_stop { HasNoneDueAtStop part.now self.new }
-        ensures counts { (n : ℕ) → counted_in self.new.stop n ≡ n }
+        ensures counts { CountsAll self.new.stop }
         ensures enters { EntersHistoryAt (change_of part.now self.old self.new) (read_entered register count) }
         ensures reads { ForEachHistory part.now (registers_in self.old) (λ kept h place. AreReadBy part.now kept h (read_entry register count place) self.new.due) }
     {

@@ -11,7 +11,7 @@ ghost use Rattle.x7_flow.specs.Standing.{FramesFit, FramesStandFor, write_access
 ghost use Rattle.x7_flow.specs.WordsTaken.{TakesWords, count_taken};
 ghost use Rattle.x7_crc.specs.RunningCheck.{executed_after};
 ghost use Rattle.x7_engine.specs.WordCalls.{MayTakeWords, LeavesBytes, LeavesDue, HasNoneDueAtStop};
-ghost use Rattle.x7_engine.specs.Standing.{counted_in, due_count};
+ghost use Rattle.x7_engine.specs.Standing.{CountsAll, counted_in, due_count};
 ghost use Rattle.x7_engine.specs.State.{last_counted};
 ghost use Rattle.x7_engine.specs.Stop.{why_besides_frames, why_by_frames, stop_of_refused};
 ghost use Rattle.x7_engine.specs.Taken.{TookFirstWords, TookWords, TookWrite};
@@ -36,8 +36,7 @@ use x7_pipeline::RunFault;
 use x7_regs::{Attempt, Command, Kind, Reg, command_code_of, has_dec};
 use x7_words::word_of;
 
-/// The last byte whose access counts, where `taken` bytes are taken: all do but one at which the watchdog fires, whose
-/// word isn't executed.
+/// How many of `taken` bytes count for accesses: all but one at which the watchdog fires, whose word isn't executed.
 fn counted_in(stop: Option<StopCause>, taken: usize) -> usize
     ensures value { result ≡ counted_in stop taken }
     ensures within { result ≤ taken }
@@ -71,7 +70,7 @@ pub(crate) fn stop_of_refused(fault: RunFault) -> StopCause
     }
 }
 
-/// Why a written word stops the device: by its register, or else because the frames refuse it.
+/// Why a written word stops the device: by its register, or else because the frames refuse it; none where neither does.
 fn first_cause(why: Option<StopCause>, refused: Option<RunFault>) -> Option<StopCause>
     ensures value { result ≡ option_or why (why_by_frames refused) }
     ensures counts { (n : ℕ) → counted_in why n ≡ n → counted_in result n ≡ n }
@@ -101,7 +100,7 @@ pub(crate) struct Registers {
 }
 
 impl Registers {
-    ghost use Rattle.x7_engine.specs.Standing.{RunLiesWithin, IsHeaderStep, RegistersStandFor, registers_in, HasNoWord};
+    ghost use Rattle.x7_engine.specs.Standing.{FitsWithin, IsHeaderStep, RegistersStandFor, registers_in, HasNoWord};
 
     /// The registers of a device that took nothing, with what the reset kept and frames after a reset.
     pub(crate) fn new(kept: &Kept, frames: Frames) -> Registers
@@ -160,7 +159,8 @@ impl Registers {
         }
     }
 
-    /// Why a written word, which executes a command or none, stops the device by its register alone.
+    /// Why a written word, which executes a command or none, stops the device, where it does. What the frames refuse is
+    /// left out.
     fn why_by_write(
         &self,
         part: &Part,
@@ -170,7 +170,7 @@ impl Registers {
     ) -> Option<StopCause>
         ensures value { ForEachHistory part.now (registers_in self.now) (λ kept h n. executed ≡ executed_after h reg word
             → result ≡ why_besides_frames part.now kept h (write_access reg word)) }
-        ensures counts { (n : ℕ) → counted_in result n ≡ n }
+        ensures counts { CountsAll result }
     {
         let idcode = part.idcode();
         let check = self.progress.check;
@@ -206,7 +206,8 @@ impl Registers {
         }
     }
 
-    /// Takes a written word: it is folded, then stored, and then come its faults and effects.
+    /// Takes a written word: it is folded into the check, then stored, and then come its effects and faults (this
+    /// project's choice).
     fn write(&mut self, part: &Part, reg: Reg, word: u32)
         requires may_take { MayTakeWords part.now self.old }
         ensures { TookWrite (change_of part.now self.old self.new) (number_of reg) word }
@@ -225,7 +226,7 @@ impl Registers {
         self.stop = first_cause(why, refused);
     }
 
-    /// Takes a word written to a register in which it stays, and is folded into the check.
+    /// Takes a written word that stays in its register, is folded into the check, and does nothing else.
     fn pass(&mut self, plain: PlainNumber, word: u32)
         ensures { (part : PartData) → MayTakeWords part self.old → TookWrite (change_of part self.old self.new) plain.register word }
     {
@@ -244,8 +245,8 @@ impl Registers {
         }
     }
 
-    /// Takes bytes as startup and the watchdog count them, before the word that they complete: up to the one at which
-    /// the watchdog fires. Says how many are left.
+    /// Takes bytes as startup and the watchdog count them, before the word that they complete: up to the first at which
+    /// the watchdog fires. Says how many of the `count` are left, 0 where it doesn't fire.
     #[inline(always)]
     pub(crate) fn take_bytes(&mut self, part: &Part, count: usize) -> usize
         requires going { self.old.stop ≡ None }
@@ -263,7 +264,8 @@ impl Registers {
         count - taken
     }
 
-    /// Takes the last bytes of a payload word, and then the word. Says how many bytes are left.
+    /// Takes the last `count` bytes of a payload word and then, unless the watchdog fired at one of them, the word.
+    /// Says how many of these bytes are left.
     fn take_word(&mut self, part: &Part, target: Target, word: u32, count: usize) -> usize
         requires may_take { MayTakeWords part.now self.old }
         ensures left { LeavesBytes count result self.new }
@@ -280,8 +282,8 @@ impl Registers {
         0
     }
 
-    /// Takes words written to a register in which they stay, and are folded into the check, up to a byte at which the
-    /// watchdog fires. Says how many bytes these are.
+    /// Takes written words that stay in their register, are folded into the check, and do nothing else, up to a byte at
+    /// which the watchdog fires. Says how many bytes were taken.
     fn pass_all(&mut self, part: &Part, plain: PlainNumber, bytes: &[u8]) -> usize
         requires may_take { MayTakeWords part.now self.old }
         requires whole { AreWholeWords bytes.now }
@@ -296,8 +298,9 @@ impl Registers {
         taken
     }
 
-    /// Takes frame data or copies at once, on a device whose IDCODE was written: the words before the first that is
-    /// refused or in which the watchdog fires. Says how many bytes these are.
+    /// Takes words written to FDRI or MFWR at once, on a device whose IDCODE was written: those before the first that
+    /// is refused or in which the watchdog fires. Says how many bytes these are. The clause says that they are the
+    /// first words, and that none of them stops the device; it doesn't say that no more could be taken.
     fn take_frame_words(&mut self, part: &Part, reg: Reg, bytes: &[u8]) -> usize
         requires may_take { MayTakeWords part.now self.old }
         requires register { TakesWords reg }
@@ -311,7 +314,7 @@ impl Registers {
             .write_bytes(settings, reg, &bytes[..before], part);
         let taken = count_taken(count, refused) * WORD_BYTES;
         let prefix = &bytes[..taken];
-        // No firing: the bytes before one are all that was looked at.
+        // The watchdog fires at none of these bytes: only bytes before a firing were looked at.
         let _ = self.clock.bytes(part, taken);
         self.progress.pass_all(reg.number(), prefix);
         self.words.pass_all(reg.number(), prefix);
@@ -365,12 +368,13 @@ impl Registers {
         }
     }
 
-    /// Takes a word in a header's place.
+    /// Takes a word in a header's place: a read of one word or more makes words due, unless the frames refuse it; a
+    /// refused read stops the device, and so does a word that is no header.
     fn take_step(&mut self, part: &Part, step: Step)
         requires may_take { MayTakeWords part.now self.old }
         requires header { IsHeaderStep step }
         ensures none_due_at_stop { HasNoneDueAtStop part.now self.new }
-        ensures counts { (n : ℕ) → counted_in self.new.stop n ≡ n }
+        ensures counts { CountsAll self.new.stop }
         ensures enters { EntersHistoryAt (change_of part.now self.old self.new) (λ place h. entered place step h) }
         ensures reads { ForEachHistory part.now (registers_in self.old) (λ kept h place. AreRead part.now kept h (entered place step h) self.new.due) }
     {
@@ -381,7 +385,8 @@ impl Registers {
         }
     }
 
-    /// Takes the last bytes of a word in a header's place, and then the word. Says how many bytes are left.
+    /// Takes the last `count` bytes of a word in a header's place and then, unless the watchdog fired at one of them,
+    /// the word. Says how many of these bytes are left.
     #[inline(always)]
     fn take_header(&mut self, part: &Part, step: Step, count: usize) -> usize
         requires may_take { MayTakeWords part.now self.old }
@@ -401,12 +406,12 @@ impl Registers {
     }
 
     /// Takes a run of a stream, `count` bytes of which are new, up to the byte that stops the device.
-    /// Says how many of the last bytes are left.
+    /// Says how many of these bytes are left.
     #[inline(always)]
     pub(crate) fn take_run(&mut self, part: &Part, run: Cut<'_>, count: usize) -> usize
         requires may_take { MayTakeWords part.now self.old }
         requires run { IsRun run }
-        requires holds { RunLiesWithin run count }
+        requires holds { FitsWithin run count }
         ensures left { LeavesBytes count result self.new }
         ensures no_word_due { HasNoWord run.entry → due_count self.new.due ≡ 0 }
         ensures none_due_at_stop { HasNoneDueAtStop part.now self.new }

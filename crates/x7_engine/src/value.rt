@@ -1,10 +1,9 @@
 //! The values of the registers as they are read (UG470, configuration registers).
-ghost use Rattle.std.specs.Prelude.{◌≡◌, ◌&&◌, None, false};
+ghost use Rattle.std.specs.Prelude.{◌≡◌, None, false};
 ghost use Rattle.x7_part.specs.Part.{PartData};
 ghost use Rattle.x7_regs.specs.Status.{status_of};
 ghost use Rattle.x7_flow.specs.Standing.{far_owing};
 ghost use Rattle.x7_engine.specs.Course.{course_at};
-ghost use Rattle.x7_engine.specs.Kept.{is_fallback};
 ghost use Rattle.x7_engine.specs.Registers.{has_ghigh};
 ghost use Rattle.x7_engine.specs.Standing.{due_count, frames_due};
 ghost use Rattle.x7_engine.specs.Startup.{startup_progress};
@@ -12,12 +11,11 @@ ghost use Rattle.x7_engine.specs.Stop.{fault_of_stop};
 ghost use Rattle.x7_engine.specs.Value.{attempt_of, failure_of, check_shown, is_crc_fault, is_id_fault, read_value, stat_parts, value_owing};
 
 use crate::fault::Fault;
+use crate::kept::is_fallback;
 use crate::registers::Registers;
 use crate::stop::StopCause;
 use x7_part::Part;
-use x7_regs::{
-    Attempt, Cause, Kind, Reg, StatParts, boot_word, command_code_of, reg_of, stat_word,
-};
+use x7_regs::{Attempt, Cause, Reg, StatParts, boot_word, command_code_of, reg_of, stat_word};
 
 /// Whether the stop is the fault `Crc`.
 fn is_crc_fault(stop: Option<StopCause>) -> bool
@@ -39,7 +37,8 @@ fn is_id_fault(stop: Option<StopCause>) -> bool
     }
 }
 
-/// What an attempt with this stop failed by, if it did.
+/// What an attempt with this stop failed by before the flash has ended: a fault Id, Crc or Watchdog; none at any other
+/// stop, and without one.
 fn failure_in(stop: Option<StopCause>) -> Option<Cause>
     ensures { result ≡ failure_of (fault_of_stop stop) false }
 {
@@ -48,16 +47,6 @@ fn failure_in(stop: Option<StopCause>) -> Option<Cause>
         Some(StopCause::Fault(Fault::Crc { .. })) => Some(Cause::Crc),
         Some(StopCause::Fault(Fault::Watchdog)) => Some(Cause::Watchdog),
         _ => None,
-    }
-}
-
-/// Whether an attempt ignored an IPROG, where one was written: a fallback does.
-fn ignores_iprog(kind: Kind, wrote_iprog: bool) -> bool
-    ensures { result ≡ (is_fallback kind && wrote_iprog) }
-{
-    match kind {
-        Kind::Fallback => wrote_iprog,
-        _ => false,
     }
 }
 
@@ -106,18 +95,19 @@ impl Registers {
         Attempt {
             kind: self.kind,
             cause: failure_in(self.stop),
-            ignored: ignores_iprog(self.kind, self.progress.iprog),
+            ignored: is_fallback(self.kind) && self.progress.iprog,
         }
     }
 
-    /// FAR as it is read.
+    /// FAR as it is read; while words of frame data are due, that of the words given so far.
     fn far(&self, part: &Part) -> u32
         ensures { ForEachHistory part.now (registers_in self.now) (λ kept h n. result ≡ far_owing part.now h (frames_due self.now.due)) }
     {
         self.frames.far(part)
     }
 
-    /// The value of a register as it is read, and 0 for one that is only written and for frame data.
+    /// The value of a register as it is read, and 0 for one that is only written and for frame data. While words of
+    /// frame data are due, FAR is that of the words given so far. BOOTSTS is that of a flash that goes on.
     #[rattlefmt::skip]
     pub(crate) fn value(&self, part: &Part, reg: Reg) -> u32
         ensures { ForEachHistory part.now (registers_in self.now)
@@ -147,7 +137,8 @@ impl Registers {
         }
     }
 
-    /// What a read of a register number gives: its value, and 0 for a number without a register.
+    /// Each word that a read of the register of this number gives, of a device that hasn't stopped and has no word due:
+    /// the register's value, and 0 for a number without a register.
     pub(crate) fn read_value(&self, part: &Part, register: u8) -> u32
         ensures { self.now.stop ≡ None → due_count self.now.due ≡ 0 → ForEachHistory part.now (registers_in self.now)
             (λ kept h n. result ≡ read_value (course_at part.now kept h n) register) }

@@ -41,7 +41,7 @@ impl LastWords {
         words
     }
 
-    /// Stores a word written to a register.
+    /// Stores a word written to the register of this number.
     pub(crate) fn write(&mut self, register: u8, word: u32)
         requires { register < reg_number_count }
         ensures { (kept : KeptData) (h : History) (place : ℕ) → AreLastWords kept self.old.last h
@@ -50,14 +50,15 @@ impl LastWords {
         self.last[register as usize] = word;
     }
 
-    /// The last word written to a register.
+    /// The last word written to a register; where none was, what the reset kept, or 0.
     pub(crate) fn held(&self, reg: Reg) -> u32
         ensures { (kept : KeptData) (h : History) → AreLastWords kept self.now.last h → result ≡ word_held kept (number_of reg) h }
     {
         self.last[reg.number() as usize]
     }
 
-    /// Stores the last of the words written to a register, four bytes each.
+    /// Stores the last of the words written to the register of this number, if there is one. A word is four bytes, the
+    /// highest first.
     pub(crate) fn pass_all(&mut self, register: u8, bytes: &[u8])
         requires register { register < reg_number_count }
         requires whole { AreWholeWords bytes.now }

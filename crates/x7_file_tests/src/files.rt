@@ -174,8 +174,8 @@ fn files_are_found_by_their_whole_names(rt: HostRuntime) {
 /// What three reads of three bytes gave, each if it succeeded.
 type Triples = [Option<[u8; 3]>; 3];
 
-/// Attaches a file of five bytes, reads its bytes 2 to 4, cuts it to three bytes, and reads 2 to 4 and 0 to 2. None where
-/// the file can't be attached or written.
+/// Attaches a file of five bytes, reads its bytes 2 to 4, cuts it to three bytes, and reads 2 to 4 and 0 to 2. None
+/// where the file can't be attached or written.
 fn reads_around_a_cut<R: Files, F: Flash>(rt: &R, flash: &mut F, name: &str) -> Option<Triples> {
     flash.attach(name).ok()?;
     if flash.size() != 5 {

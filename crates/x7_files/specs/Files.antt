@@ -86,8 +86,8 @@ after_select f rest refusal (Err fault) =
       absences = absences_after fault f.absences;
     }
 
--- a read put n bytes at the start of the buffer and took them from the file; it gave none only at the end, or where the
--- buffer is empty
+-- a read put n bytes at the start of the buffer and took them from the file, as far as its reader knows its bytes; it
+-- gave none only at the end, or where the buffer is empty
 abbrev pub ReadGives : Option (List ℕ) → Option (List ℕ) → List ℕ → ℕ → Type 0
 ReadGives old new buf n = Consumes old new (take n buf) × (n ≡ 0 → 0 < length buf → IsAtEnd new)
 
@@ -125,7 +125,8 @@ module _ {F : Type 0} (t : KnowsOfFile F) where
   abbrev pub WritesAt : ℕ → List ℕ → F → F → Type 0
   WritesAt place bytes old new = (there : F) × StandsAt place old there × Appends (t.bytes there) (t.bytes new) bytes
 
-  -- the end of an opened file was found at place `extent`: the number of the file's bytes, as far as it knows them
+  -- the end of an opened file was found at place `extent`: the number of the file's bytes, as far as the file knows its
+  -- place and its bytes; they stay
   abbrev pub EndsAt : ℕ → F → F → Type 0
   EndsAt extent opened file =
       IfSome (t.position opened) (λ _. IfSome (t.bytes opened) (λ all. extent ≡ length all)) × Keeps (t.bytes opened) (t.bytes file)
@@ -167,7 +168,7 @@ pub record RealFlash (F : Type 0) : Type 0 where
   pub file : Option F
   -- why the last attach opened no file
   pub refusal : Option ErrorKind
-  -- the number of the open file's bytes
+  -- how many bytes the file had that was attached last, as it was attached
   pub extent : ℕ
   -- how many faults there were
   pub faults : ℕ

@@ -60,7 +60,7 @@ refused_memory part e h fault r far =
 pub refused_far_read : (part : PartData) (e : Entry) (h : History) (fault : RunFault) → frame_fault part h e.access ≡ Some fault → far_read part (e ∷ h) ≡ far_read part h
 refused_far_read part e h fault r = ap (far_in part) (flow_more part e h) ∙ (refused_by part (asked_after part.idcode h e.access) (flow_of part h) fault r).1
 
--- ---- each line
+-- ---- Address and Multi
 
 address_of : (part : PartData) (base far : ℕ) → (address_fault part base ≡ Some (Address far)) ↔ ((has_frame_at part base ≡ false) × (far ≡ base))
 unfolding address_fault

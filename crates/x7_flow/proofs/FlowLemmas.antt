@@ -88,7 +88,7 @@ flow_joined part (e ∷ later) earlier =
     ap (λ (x : Settings). flow_by part (asked_under x e.access) (flow_of part (later ++ earlier))) (settings_joined part.idcode later earlier)
     ∙ ap (flow_by part (asked_under s e.access)) (flow_joined part later earlier)
 
-pairs_same : (part : PartData) (access : Access) (s t : Settings) (f g : Flow) → s ≡ t → f ≡ g → pairs_put part (asked_under s access) f ≡ pairs_put part (asked_under t access) g
+pub pairs_same : (part : PartData) (access : Access) (s t : Settings) (f g : Flow) → s ≡ t → f ≡ g → pairs_put part (asked_under s access) f ≡ pairs_put part (asked_under t access) g
 pairs_same part access s t f g e d = ap (λ (x : Settings). pairs_put part (asked_under x access) f) e ∙ ap (pairs_put part (asked_under t access)) d
 
 pub memory_joined : (part : PartData) (later earlier : History) →

@@ -27,7 +27,7 @@ use Rattle.x7_pipeline.proofs.SlotLemmas.{has_address, slot_address}
 use Rattle.x7_flow.specs.Asking.{Asked, CopiesSource, LoadsFar, Commands, NothingAsked, Reads, AddsWord}
 use Rattle.x7_flow.specs.HistoryFlow.{asked_after, flow_of, source_of}
 use Rattle.x7_flow.specs.FrameMemory.{copy_pairs, written_frames_more, memory_of, newest_put, pairs_put}
-use Rattle.x7_flow.specs.HasFrames.{HasFrames}
+use Rattle.x7_flow.specs.HasOnlyFramesOf.{HasOnlyFramesOf}
 use Rattle.x7_flow.specs.FlowInWords.{frame_taken, words_written}
 use Rattle.x7_flow.proofs.WordLemmas.{source_is}
 
@@ -131,7 +131,7 @@ pairs_wide part (p ∷ pairs) far words a e =
       | inr n ↦ pairs_wide part pairs far words a.1 (sym (planned_after p pairs far n.1) ∙ e)
     ]
 
-put_memory : (part : PartData) (pairs : List PlanRow) (m : FrameMap) → AreFrames part pairs → HasFrames part m → HasFrames part (put_over pairs m)
+put_memory : (part : PartData) (pairs : List PlanRow) (m : FrameMap) → AreFrames part pairs → HasOnlyFramesOf part m → HasOnlyFramesOf part (put_over pairs m)
 put_memory part pairs m a i = record {
   inside = λ far n. ap (λ t. option_or t (m far)) (pairs_inside part pairs far a n) ∙ i.inside far n;
   wide = λ far words e. by far (planned pairs far) words refl e;
@@ -141,7 +141,7 @@ put_memory part pairs m a i = record {
     by far None words e f = i.wide far words f
     by far (Some x) words e f = pairs_wide part pairs far words a (e ∙ f)
 
-zeros_memory : (part : PartData) → HasFrames part (zeros part)
+zeros_memory : (part : PartData) → HasOnlyFramesOf part (zeros part)
 zeros_memory part = record {
   inside = λ far n. among_none far (addresses_in part) (zero_frames part) n;
   wide = λ far words e. elim (contains_or_not (addresses_in part) far) [
@@ -150,7 +150,7 @@ zeros_memory part = record {
   ];
 }
 
-pub memory_has : (part : PartData) (h : History) → 0 < frame_words part → HasFrames part (memory_of part h)
+pub memory_has : (part : PartData) (h : History) → 0 < frame_words part → HasOnlyFramesOf part (memory_of part h)
 unfolding memory_of
 memory_has part [] some = zeros_memory part
 memory_has part (e ∷ h) some = put_memory part (pairs_put part (asked_after part.idcode h e.access) (flow_of part h)) (memory_of part h) (puts_frames part (asked_after part.idcode h e.access) h some) (memory_has part h some)

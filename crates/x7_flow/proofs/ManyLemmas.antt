@@ -14,7 +14,7 @@ use Rattle.x7_flow.specs.Settings.{Settings, settings_of, settings_after, settin
 use Rattle.x7_flow.specs.HistoryFlow.{Flow, asked_under, base_of, flow_by, flow_of, run_of}
 use Rattle.x7_flow.specs.FrameMemory.{written_frames_more, memory_of, pairs_put}
 use Rattle.x7_flow.specs.Later.{flow_from, pairs_from, pairs_loaded}
-use Rattle.x7_flow.proofs.FlowLemmas.{flow_more, flow_sound, landed_grows, memory_after_load, memory_more}
+use Rattle.x7_flow.proofs.FlowLemmas.{flow_more, flow_sound, landed_grows, memory_after_load, memory_more, pairs_same}
 
 -- ---- words of frame data after a history
 
@@ -64,9 +64,6 @@ settings_twice idcode s (e ∷ later) middle = ap (settings_after idcode e.acces
 step_same : (part : PartData) (access : Access) (s t : Settings) (f g : Flow) → s ≡ t → f ≡ g → flow_by part (asked_under s access) f ≡ flow_by part (asked_under t access) g
 step_same part access s t f g e d = ap (λ (x : Settings). flow_by part (asked_under x access) f) e ∙ ap (flow_by part (asked_under t access)) d
 
-puts_same : (part : PartData) (access : Access) (s t : Settings) (f g : Flow) → s ≡ t → f ≡ g → pairs_put part (asked_under s access) f ≡ pairs_put part (asked_under t access) g
-puts_same part access s t f g e d = ap (λ (x : Settings). pairs_put part (asked_under x access) f) e ∙ ap (pairs_put part (asked_under t access)) d
-
 pub flow_twice : (part : PartData) (s : Settings) (f : Flow) (later middle : History) →
     flow_from part s f (later ++ middle) ≡ flow_from part (settings_from part.idcode s middle) (flow_from part s f middle) later
 unfolding flow_from
@@ -82,14 +79,14 @@ pairs_twice part s f (e ∷ later) middle =
     let g : Flow = flow_from part s f middle in
     let first : List PlanRow = pairs_put part (asked_under (settings_from part.idcode t later) e.access) (flow_from part t g later) in
     let same : pairs_put part (asked_under (settings_from part.idcode s (later ++ middle)) e.access) (flow_from part s f (later ++ middle)) ≡ first =
-    puts_same part e.access _ _ _ _ (settings_twice part.idcode s later middle) (flow_twice part s f later middle) in
+    pairs_same part e.access _ _ _ _ (settings_twice part.idcode s later middle) (flow_twice part s f later middle) in
     ap (λ (ps : List PlanRow). ps ++ pairs_from part s f (later ++ middle)) same
     ∙ ap (λ (ps : List PlanRow). first ++ ps) (pairs_twice part s f later middle)
     ∙ sym (append_assoc first (pairs_from part t g later) (pairs_from part s f middle))
 
 -- ---- words of frame data of a history that goes on
 
--- where the flow has no run yet the words put their written frames
+-- a word of frame data more: the run has it too, and the pairs by which the written frames grow come first
 word_pairs : (part : PartData) (s : Settings) (f : Flow) (w place : ℕ) (later : History) → takes_frames (settings_from part.idcode s later) ≡ true →
     (flow_from part s f (entry (Write 2 w) place ∷ later) ≡ record (flow_from part s f later) { run = w ∷ (flow_from part s f later).run })
     × (pairs_from part s f (entry (Write 2 w) place ∷ later) ≡ written_frames_more part (flow_from part s f later).base (flow_from part s f later).run ++ pairs_from part s f later)

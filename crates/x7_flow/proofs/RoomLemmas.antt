@@ -21,7 +21,7 @@ use Rattle.x7_regs.specs.declared.register.Reg.TheVariants as reg
 use Rattle.x7_flow.proofs.FlowLemmas.{put_none}
 use Rattle.x7_flow.proofs.ManyLemmas.{word_asked, word_flow, words_flow, words_land}
 
--- a word for which there is a slot
+-- a word for which there is a slot isn't refused
 pub write_none : (part : PartData) (base : ℕ) (run : List ℕ) → has_frame_at part base ≡ true → length run < frame_words part * length (slots_from part base) → write_fault part base run ≡ None
 unfolding write_fault address_fault
 write_none part base [] t l = rw t refl
@@ -35,7 +35,7 @@ write_none part base (w ∷ run) t l = by (completes part (w ∷ run)) (has_fill
         let more : frame_words part * length (slots_from part base) ≤ frame_words part * length (frames_of (frame_words part) (w ∷ run)) = mul-le-mul_left (frame_words part) full in
         absurd (omega (arith, l, more, length_run (frame_words part) (w ∷ run)))
 
--- words for all of which there are slots
+-- of words for all of which there are slots none is refused
 pub words_none : (part : PartData) (n : ℕ) (ws : List ℕ) (h : History) → takes_frames (settings_of part.idcode h) ≡ true → has_frame_at part (base_of part h) ≡ true
     → length (run_of part h) + length ws ≤ frame_words part * length (slots_from part (base_of part h)) → NoneRefused part reg.Fdri n ws h
 unfolding NoneRefused

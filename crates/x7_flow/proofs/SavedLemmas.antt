@@ -1,4 +1,4 @@
--- What is kept of frames leads back over one access.
+-- What is saved of frames leads back over one access.
 use Rattle.std.proofs.Common.{◌≡◌, ℕ, ◌-◌, ◌&&◌, Bool, true, false, if◌then◌else◌, List, [], ◌∷◌, Option, None, Some, refl, sym, ap, subst, ◌∙◌, arith}
 use Rattle.x7_packets.specs.History.{Entry, History}
 use Rattle.x7_part.specs.Part.{PartData}
@@ -25,7 +25,7 @@ use Rattle.x7_flow.proofs.SettingsLemmas.{Means, asked_means}
 
 -- ---- what an access puts
 
--- a word, by what lands
+-- a word of frame data changes the memory at most where the next one would put a frame
 word_changes : (part : PartData) (p : PipelineData) (f : Flow) (w : ℕ) (old new : FrameMap) → HasFlow part p f → is_mfw f.command ≡ false → HaveSameFrames new (put_over (written_frames_more part f.base f.run) old) → ChangesAt (next_put part p) old new
 word_changes part p f w old new h words same =
     one_word part p f.command f.base f.run f.source f.given w old new h.stands words (record { added = written_frames_more part f.base f.run; grows = landed_grows part f.base w f.run; memory = same })
@@ -71,7 +71,7 @@ back_one part s old new h e k o n stands same =
     back_over part s old new k o n (access_changes part (settings_of part.idcode h) (asked_after part.idcode h e.access) (settings_after part.idcode e.access (settings_of part.idcode h)).command_code old.pipeline f (frame_at part old.memory) (frame_at part new.memory)
     (asked_means (settings_of part.idcode h) e.access) (flow_sound part h) flow put)
 
--- the frames to which the kept ones lead back are just these
+-- the frames to which the saved ones lead back are just these
 pub back_is : (part : PartData) (s : SavedState) (new old now : FramesState) → FramesBack part s new old → now.pipeline ≡ s.pipeline → AreFramesOf part now.memory → HaveSameFrames (frame_at part now.memory) (put_over s.pair (frame_at part new.memory)) → now ≡ old
 back_is part s new old now b p n m =
     let memory : now.memory ≡ old.memory = same_memory part now.memory old.memory n b.frames_fit (λ far. m far ∙ b.memory far) in

@@ -29,7 +29,8 @@ settings_joined idcode (e ∷ later) earlier = settings_more idcode e (later ++ 
 
 -- ---- what is asked, by its tests
 
--- the command is the one held before, but for an order; frame data comes under WCFG alone
+-- the code `held` after what is asked is the one before it, but for a write to CMD, whose command it stands for; a word
+-- of frame data comes under WCFG alone
 abbrev pub Means : Settings → Asked → ℕ → Type 0
 Means s (LoadsFar w) held = held ≡ s.command_code
 Means s (Commands c) held = c ≡ command_with held
@@ -38,7 +39,7 @@ Means s CopiesSource held = held ≡ s.command_code
 Means s (Reads count) held = held ≡ s.command_code
 Means s NothingAsked held = held ≡ s.command_code
 
-far_no_cmd : (r : ℕ) → (r == 1) ≡ true → (r == 4) ≡ false
+pub far_no_cmd : (r : ℕ) → (r == 1) ≡ true → (r == 4) ≡ false
 far_no_cmd r t = grind (arith, nat_tests)
 
 held_wcfg : (r held : ℕ) (m f : Bool) → (r == 2 && (m && (held == 1 && f))) ≡ true → held ≡ 1

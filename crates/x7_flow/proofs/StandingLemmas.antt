@@ -161,7 +161,7 @@ read_begins part p frames e h count a t are =
           ∙ ap (λ (n : ℕ). readback_words part n (memory_of part h) f.given count) (ap (λ (g : Flow). g.base) now),
     )
 
--- the next of the words due
+-- the word that is read is the next of those due, and the others stay due
 pub read_next : (part : PartData) (p q : PipelineData) (frames : List (List ℕ)) (h : History) (due word : ℕ) → AreFramesAfter part p frames h (due + 1) →
     ForEachFlow part p (λ f. word ≡ readback_at part f.base (frame_at part frames) f.given) →
     FlowGoesOn part p q (after_reads 1) →
@@ -197,7 +197,7 @@ due_somewhere part p frames h due are = by (has_frame_at part (base_of part h)) 
     by true t = sym (read_is part (base_of part h) (count_given part h - (due + 1)) (λ f. absurd (no_both t f)) ∙ rw t refl)
     by false f = let none = (flow_sound part h).nowhere f in let some = are.due_given in absurd (omega arith)
 
--- this many of the words due are passed over
+-- after `count` of the words due are passed over the others are due
 pub read_past : (part : PartData) (p q : PipelineData) (frames : List (List ℕ)) (h : History) (due count : ℕ) → AreFramesAfter part p frames h (due + count) →
     FlowGoesOn part p q (after_reads count) →
     AreFramesAfter part q frames h due
@@ -242,7 +242,7 @@ refused_read part p f count h n = read_is part f.base f.given h.nowhere ∙ sym 
 read_asked : (s : Settings) (r count : ℕ) (b : Bool) → (r == 3 && (not (count == 0) && gives_frames s)) ≡ b → asked_under s (Read r count) ≡ (if b then Reads count else NothingAsked)
 read_asked s r count b e = ap (λ (x : Bool). if x then Reads count else NothingAsked) e
 
--- a read of other words is none of the pipeline's
+-- a read that gives no words of the memory isn't refused, and leaves pipeline and memory
 pub other_read : (part : PartData) (p : PipelineData) (frames : List (List ℕ)) (h : History) (r count place : ℕ) → (r == 3 && (not (count == 0) && gives_frames (settings_of part.idcode h))) ≡ false →
     AreFramesAfter part p frames h 0 →
     (frame_fault part h (Read r count) ≡ None) × AreFramesAfter part p frames (entry (Read r count) place ∷ h) 0 × (words_due part (entry (Read r count) place ∷ h) 0 ≡ frames_read part h 0)
@@ -265,7 +265,7 @@ from_address part base count some none = by (count == 0) (has_frame_at part base
     by false true e f = refl
     by false false e f = absurd (none-some _ f)
 
--- a read of frame data begins, or is refused
+-- after a read of frame data that isn't refused all its words are due, those of `frames_read`
 pub frame_read : (part : PartData) (p : PipelineData) (frames : List (List ℕ)) (h : History) (r count place : ℕ) → (r == 3 && (not (count == 0) && gives_frames (settings_of part.idcode h))) ≡ true →
     ((f : Flow) → HasFlow part p f → None ≡ fault_by part (Reads count) f) → AreFramesAfter part p frames h 0 →
     (frame_fault part h (Read r count) ≡ None) × AreFramesAfter part p frames (entry (Read r count) place ∷ h) count × (words_due part (entry (Read r count) place ∷ h) count ≡ frames_read part h count)
@@ -297,7 +297,7 @@ word_asked idcode h reg w takes e t = rw (e, t) refl
 pub copies_asked : (idcode : ℕ) (h : History) (reg : Reg) (w : ℕ) (takes : Bool) → reg ≡ Mfwr → takes_copies (settings_of idcode h) ≡ takes → asked_after idcode h (write_access reg w) ≡ (if takes then CopiesSource else NothingAsked)
 copies_asked idcode h reg w takes e t = rw (e, t) refl
 
--- a word written to another register asks nothing
+-- a word written to another register than FAR, CMD, FDRI and MFWR asks nothing
 pub nothing_asked : (idcode : ℕ) (h : History) (reg : Reg) (w : ℕ) → (reg ≡ Far → ⊥) → (reg ≡ Cmd → ⊥) → (reg ≡ Fdri → ⊥) → (reg ≡ Mfwr → ⊥) → asked_after idcode h (write_access reg w) ≡ NothingAsked
 nothing_asked idcode h Crc w far cmd fdri mfwr = refl
 nothing_asked idcode h Far w far cmd fdri mfwr = absurd (far refl)

@@ -23,14 +23,11 @@ use Rattle.x7_flow.specs.HistoryFlow.{Flow, asked_under, base_of, flow_by, flow_
 use Rattle.x7_flow.specs.FrameMemory.{copy_pairs, memory_of, pairs_put}
 use Rattle.x7_flow.proofs.FlowLemmas.{flow_more, flow_sound, memory_more, put_none}
 use Rattle.x7_flow.proofs.ManyLemmas.{words_land}
+use Rattle.x7_pipeline.proofs.FrameLemmas.{onto_more}
 
 -- ---- a run of whole frames
 
-onto_append : (first more run : List ℕ) → onto (first ++ more) run ≡ onto more (onto first run)
-onto_append [] more run = refl
-onto_append (w ∷ first) more run = onto_append first more (w ∷ run)
-
--- the last words of a frame
+-- the last words of a frame complete it
 completes_frame : (width w : ℕ) (ws run : List ℕ) → length (rest_of width run) + length (w ∷ ws) ≡ width →
     (frames_of width (onto (w ∷ ws) run) ≡ (rest_of width run ++ w ∷ ws) ∷ frames_of width run) × (rest_of width (onto (w ∷ ws) run) ≡ [])
 completes_frame width w [] run e = (frames_completes width w run e, rest_completes width w run e)
@@ -60,7 +57,7 @@ pub whole_frames : (width : ℕ) (frames : List (List ℕ)) (run : List ℕ) →
 whole_frames width [] run some all none = refl
 whole_frames width (frame ∷ frames) run some all none =
     let first = one_frame width frame run some all.0 none in
-    ap (frames_of width) (onto_append frame (flat_map (λ f. f) frames) run)
+    ap (frames_of width) (onto_more frame (flat_map (λ f. f) frames) run)
     ∙ whole_frames width frames (onto frame run) some all.1 first.1
     ∙ ap (λ (fs : List (List ℕ)). reverse frames ++ fs) first.0
     ∙ sym (append_assoc (reverse frames) (frame ∷ []) (frames_of width run))
@@ -122,7 +119,7 @@ write_puts part earlier w place n frames last some t all far =
 
 -- ---- copies under MFW from a FAR load
 
--- the frame stands at the base, and further copies keep it there
+-- a history has this flow and these settings, and its memory is `memory` with the pairs put over it
 pub record IsCopied (part : PartData) (f : Flow) (s : Settings) (memory : FrameMap) (pairs : List PlanRow) (h : History) : Type 0 where
   pub flow_is : flow_of part h ≡ f
   pub settings_are : settings_of part.idcode h ≡ s
@@ -155,7 +152,7 @@ first_copy : (part : PartData) (h : History) (w place : ℕ) → takes_copies (s
     IsCopied part (flow_of part h) (settings_of part.idcode h) (memory_of part h) (copy_pairs part (flow_of part h)) (entry (Write 10 w) place ∷ h)
 first_copy part h w place t = record { flow_is = copy_flow part h w place t; settings_are = refl; memory_is = copy_memory part h w place t }
 
--- words of MFWR, one at least
+-- words of MFWR, one at least, leave what one of them leaves
 pub copied_all : (part : PartData) (n word : ℕ) (ws : List ℕ) (h : History) → takes_copies (settings_of part.idcode h) ≡ true →
     IsCopied part (flow_of part h) (settings_of part.idcode h) (memory_of part h) (copy_pairs part (flow_of part h)) (entered_all n (payload_steps 10 (word ∷ ws)) h)
 copied_all part n word ws h t =

@@ -1,5 +1,5 @@
 -- The memory of a history by its stretches.
-use Rattle.std.proofs.Common.{◌≡◌, ℕ, ◌==◌, ◌&&◌, ◌||◌, not, Bool, true, false, if◌then◌else◌, List, [], ◌∷◌, ◌++◌, refl, sym, ap, ◌∙◌, arith, append_assoc, inl, inr, ◌⊎◌}
+use Rattle.std.proofs.Common.{◌≡◌, ℕ, ◌==◌, ◌&&◌, ◌||◌, not, Bool, true, false, if◌then◌else◌, List, [], ◌∷◌, ◌++◌, refl, sym, ap, ◌∙◌, arith, append_assoc, inl, inr}
 use Rattle.std.proofs.lemmas.Bool.Decides.{nat_tests}
 use Rattle.x7_packets.specs.History.{Access, Write, Read, Bad, Entry, History}
 use Rattle.x7_part.specs.Part.{PartData}
@@ -11,7 +11,7 @@ use Rattle.x7_pipeline.specs.Runs.{written_frames, put_over}
 use Rattle.x7_pipeline.specs.FarAsRead.{has_frame_at}
 use Rattle.x7_pipeline.specs.Copies.{copied_pairs, is_mfw, is_wcfg}
 use Rattle.x7_pipeline.proofs.LawLemmas.{landed_empty, put_twice}
-use Rattle.x7_flow.specs.FrameAccess.{copies_frame}
+use Rattle.x7_flow.specs.FrameAccess.{asks_frame_copy}
 use Rattle.x7_regs.specs.declared.command.Command.{Command}
 use Rattle.x7_regs.specs.declared.command.Command.TheVariants as command
 use Rattle.x7_flow.specs.Asking.{Asked, LoadsFar, Commands, AddsWord, CopiesSource, Reads, NothingAsked}
@@ -20,6 +20,7 @@ use Rattle.x7_flow.specs.HistoryFlow.{Flow, asked_under, asked_after, begins_str
 use Rattle.x7_flow.specs.FrameMemory.{copy_pairs, written_frames_more, memory_of, pairs_put}
 use Rattle.x7_flow.specs.Stretches.{access_begins_stretch, copies_of, ends_of, memory_by_stretches, stretch_pairs}
 use Rattle.x7_flow.proofs.FlowLemmas.{flow_sound, landed_grows, put_none}
+use Rattle.x7_words.proofs.CaseLemmas.{true_or_false}
 
 -- ---- boundaries and copies, by what is asked
 
@@ -43,7 +44,7 @@ asked_begins_stretch s (Bad w) = refl
 copy_alone : (r : ℕ) (b c : Bool) → (r == 10 && b) ≡ true → ((r == 1) ≡ false) × ((r == 4) ≡ false) × ((r == 2 && c) ≡ false)
 copy_alone r b c t = (grind (arith, nat_tests), grind (arith, nat_tests), grind (arith, nat_tests))
 
-pub asked_copy : (idcode : ℕ) (h : History) (access : Access) → copies_frame idcode h access ≡ asks_copy (asked_after idcode h access)
+pub asked_copy : (idcode : ℕ) (h : History) (access : Access) → asks_frame_copy idcode h access ≡ asks_copy (asked_after idcode h access)
 asked_copy idcode h (Write r w) = by (r == 1) (r == 4) (r == 2 && takes_frames (settings_of idcode h)) (r == 10 && takes_copies (settings_of idcode h)) (copy_alone r (takes_copies (settings_of idcode h)) (takes_frames (settings_of idcode h)))
   where
     by : (far cmd fdri mfwr : Bool) → (mfwr ≡ true → (far ≡ false) × (cmd ≡ false) × (fdri ≡ false)) →
@@ -115,10 +116,6 @@ put_joined second first m far = sym (put_twice first second m (put_over first m)
 
 put_same : (pairs : List PlanRow) (m n : FrameMap) → HaveSameFrames m n → HaveSameFrames (put_over pairs m) (put_over pairs n)
 put_same pairs m n e = override_same m n (planned pairs) (planned pairs) e (λ a. refl)
-
-true_or_false : (b : Bool) → (b ≡ true) ⊎ (b ≡ false)
-true_or_false true = inl refl
-true_or_false false = inr refl
 
 ends_at : (e : Entry) (h : History) → access_begins_stretch e.access ≡ true → h ∷ ends_of h ≡ ends_of (e ∷ h)
 unfolding ends_of

@@ -32,7 +32,8 @@ word_fault part h w t = ap (λ (a : Asked). fault_by part a (flow_of part h)) (w
 
 -- ---- the words before the first refused one
 
--- how words written in order part
+-- words written to FDRI in order are those that were taken, `prefix`, and a rest: none, or one whose first word is
+-- refused
 record Parted (part : PartData) (n : ℕ) (h : History) (words : List ℕ) (w : RunWritten) : Type 0 where
   prefix : List ℕ
   rest : List ℕ
@@ -129,7 +130,7 @@ copies_none part n (w ∷ ws) h t e = (
   copies_none part (n + 4) ws (entry (Write 10 w) (n + 4) ∷ h) t (ap (fault_by part CopiesSource) (copy_flow part h w (n + 4) t) ∙ e),
 )
 
--- one copy is all of them
+-- after words of MFWR, one at least, frames stand for the history with all of them where they did one copy
 copies_stand : (part : PartData) (old new : FramesState) (n w : ℕ) (ws : List ℕ) (h : History) → takes_copies (settings_of part.idcode h) ≡ true → HaveDone part CopiesSource old new → FramesStandFor part old h 0
     → FramesStandFor part new (with_copies n (w ∷ ws) h) 0
 copies_stand part old new n w ws h t did are =
@@ -173,7 +174,7 @@ copies_refused part f n (w ∷ ws) fault h t some e are = record {
   stands = are;
 }
 
--- no word was given
+-- of no words written to MFWR none is taken
 pub none_given : (part : PartData) (f : FramesState) (n : ℕ) (ws : List ℕ) (h : History) → length ws ≡ 0 → FramesStandFor part f h 0 → WordsTaken part f h (record { register = reg.Mfwr; place = n; words = ws }) (0, None)
 unfolding NoneRefused
 none_given part f n [] h e are = record { taken = []; rest = []; words_are = refl; none_refused = tt; end = refl; counted = refl; stands = are }
@@ -181,7 +182,7 @@ none_given part f n (w ∷ ws) h e are = absurd (omega (arith, e))
 
 -- ---- words that no frame takes
 
--- words of a register after a history ask nothing
+-- after a history of which P holds, words of a register ask nothing, and P holds after them too
 record AsksNothing (part : PartData) (r : Reg) (P : History → Type 0) : Type 1 where
   asks_other : (h : History) (w : ℕ) → P h → asked_after part.idcode h (Write (number_of r) w) ≡ NothingAsked
   keeps : (h : History) (w place : ℕ) → P h → P (entry (Write (number_of r) w) place ∷ h)

@@ -1,5 +1,5 @@
 -- The flow of a history in other words, and what accesses ask.
-use Rattle.std.proofs.Common.{◌≡◌, ℕ, ◌+◌, ◌%◌, ◌^◌, ◌==◌, ◌&&◌, ◌||◌, not, Bool, true, false, if◌then◌else◌, List, [], ◌∷◌, Option, None, refl, sym, ap, ◌∙◌, arith, inl, inr, ◌⊎◌}
+use Rattle.std.proofs.Common.{◌≡◌, ℕ, ◌+◌, ◌%◌, ◌^◌, ◌==◌, ◌&&◌, ◌||◌, not, Bool, true, false, if◌then◌else◌, List, [], ◌∷◌, Option, None, refl, sym, ap, ◌∙◌, arith, inl, inr}
 use Rattle.std.proofs.lemmas.Bool.Decides.{nat_tests}
 use Rattle.x7_packets.specs.History.{Access, Write, Read, Bad, Entry, History, command_held, writes}
 use Rattle.x7_part.specs.Part.{PartData, frame_words}
@@ -15,8 +15,9 @@ use Rattle.x7_flow.specs.Settings.{Settings, command_code_after, settings_of, ta
 use Rattle.x7_flow.specs.HistoryFlow.{Flow, asked_under, asked_after, asks_frame_read, adds_frame_word, far_in, far_read, flow_by, flow_of, base_of, run_of, source_of, count_given}
 use Rattle.x7_flow.specs.Stretches.{access_begins_stretch}
 use Rattle.x7_flow.specs.FlowInWords.{base_after, count_asked, frame_taken, run_with_word, sum_of_reads, words_written}
-use Rattle.x7_flow.proofs.SettingsLemmas.{settings_more}
+use Rattle.x7_flow.proofs.SettingsLemmas.{settings_more, far_no_cmd}
 use Rattle.x7_flow.proofs.FlowLemmas.{flow_sound}
+use Rattle.x7_words.proofs.CaseLemmas.{true_or_false}
 
 -- ---- what is asked
 
@@ -88,9 +89,6 @@ run_is part (e ∷ h) =
 
 -- ---- the base
 
-far_no_cmd : (r : ℕ) → (r == 1) ≡ true → (r == 4) ≡ false
-far_no_cmd r t = grind (arith, nat_tests)
-
 base_step : (part : PartData) (s : Settings) (access : Access) (f : Flow) → (flow_by part (asked_under s access) f).base ≡ base_after part access (far_in part f) f.base
 base_step part s (Write r w) f = by (r == 1) (r == 4) (r == 2 && takes_frames s) (r == 10 && takes_copies s) (far_no_cmd r)
   where
@@ -143,10 +141,6 @@ given_is part (e ∷ h) =
     ∙ ap (λ (n : ℕ). if access_begins_stretch e.access then 0 else if reads_frame_data h e.access && has_frame_at part (base_of part h) then n + count_asked e.access else n) (given_is part h)
 
 -- ---- the source
-
-true_or_false : (b : Bool) → (b ≡ true) ⊎ (b ≡ false)
-true_or_false true = inl refl
-true_or_false false = inr refl
 
 no_if : (test : Command → Bool) (b : Bool) (x y : Command) → test x ≡ false → test y ≡ false → test (if b then x else y) ≡ false
 no_if test true x y e f = e

@@ -1,4 +1,4 @@
--- What an earlier history leaves for the frames of a later one (this project's choice).
+-- Settings that are the same but for MASK, and histories that write MASK before CTL0 (this project's choice).
 use Rattle.std.specs.Prelude.{◌≡◌, ◌||◌, Bool, true, false, [], ◌∷◌}
 use Rattle.x7_packets.specs.History.{History, writes}
 use Rattle.x7_regs.specs.declared.register.Reg.TheVariants as reg

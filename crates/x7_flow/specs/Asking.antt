@@ -2,8 +2,8 @@
 use Rattle.std.specs.Prelude.{ℕ}
 use Rattle.x7_regs.specs.declared.command.Command.{Command}
 
--- an access loads FAR with a word, commands by a write to CMD, adds a word of frame data to the run, copies the source,
--- reads `count` words of frame data, or asks nothing of the pipeline
+-- an access loads FAR with a word, gives a command, by a write to CMD, adds a word of frame data to the run, copies the
+-- source, reads `count` words of frame data, or asks nothing of the pipeline
 pub data Asked : Type 0 where
   LoadsFar : (word : ℕ) → Asked
   Commands : (command : Command) → Asked

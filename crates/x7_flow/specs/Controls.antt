@@ -5,16 +5,17 @@ use Rattle.x7_packets.specs.History.{Access, Write, History, last_word}
 use Rattle.x7_regs.specs.declared.register.Reg.TheVariants.{Ctl0, Idcode, Mask}
 use Rattle.x7_regs.specs.Register.{number_of}
 
--- the word of MASK, which stays until it is written again (this project's choice)
+-- the word of MASK after a history: 0 at first, and it stays until it is written again (this project's choice)
 abbrev pub mask_held : History → ℕ
 mask_held h = last_word (number_of Mask) 0 h
 
--- the word of a register under MASK after an access: the written bits where MASK has them, and the old ones elsewhere
+-- the word of a register under MASK after an access: the written bits where MASK has a 1, and the old ones elsewhere
+-- and after any other access
 abbrev pub masked_word : ℕ → ℕ → Access → ℕ → ℕ
 masked_word register mask (Write r w) old = if r == register then bit_or (bit_and old (2 ^ 32 - 1 - mask)) (bit_and w mask) else old
 masked_word register mask _ old = old
 
--- the word of CTL0 or CTL1, by the register's number, after a history
+-- the word of CTL0 or CTL1, by the register's number, after a history, 0 at first
 abbrev pub masked_register : ℕ → History → ℕ
 masked_register register [] = 0
 masked_register register (e ∷ h) = masked_word register (mask_held h) e.access (masked_register register h)

@@ -24,27 +24,28 @@ abbrev pub count_asked : Access → ℕ
 count_asked (Read register count) = count
 count_asked _ = 0
 
--- the words of frame data that were written in the last stretch: after the latest write to CMD or FAR, or where there
--- is none from the beginning on
+-- the words of frame data that were written in the last stretch, the newest first: after the latest write to CMD or
+-- FAR, or where there is none from the beginning on
 unfoldable pub words_written : ℕ → History → List ℕ
 words_written idcode [] = []
 words_written idcode (e ∷ h) =
     if access_begins_stretch e.access then [] else
     if writes_frame_data idcode h e.access then run_with_word e.access (words_written idcode h) else words_written idcode h
 
--- where the last stretch began: at the address of a FAR load, or at FAR as read before a command
+-- the base after an access: the address of a FAR load, for a command FAR as read before it, and else the old base
 abbrev pub base_after : PartData → Access → ℕ → ℕ → ℕ
 base_after part (Write register w) far old = if register == number_of reg.Cmd then far else if register == number_of reg.Far then loaded_base part w else old
 base_after part _ far old = old
 
--- the sum of the counts of the last stretch's reads of frame data
+-- the sum of the counts of the last stretch's reads of frame data from an address, in words
 unfoldable pub sum_of_reads : PartData → History → ℕ
 sum_of_reads part [] = 0
 sum_of_reads part (e ∷ h) =
     if access_begins_stretch e.access then 0 else
     if reads_frame_data h e.access && has_frame_at part (base_of part h) then sum_of_reads part h + count_asked e.access else sum_of_reads part h
 
--- under MFW the newest whole frame of the run that the latest write to CMD ended, if the command was WCFG before it
+-- under MFW the newest whole frame of the run that the latest write to CMD ended, if the command was WCFG before it;
+-- else none
 unfoldable pub frame_taken : PartData → History → Option (List ℕ)
 frame_taken part [] = None
 frame_taken part (e ∷ h) =

@@ -1,5 +1,5 @@
--- The accesses that concern frames (UG470, frame data registers and the multi-frame write register): what HistoryFlow
--- has accesses ask, in other words (law `accesses_do_what_they_ask`).
+-- The accesses that concern frames (UG470, frame data registers and the multi-frame write register), said without
+-- HistoryFlow; that they are those of HistoryFlow is the law `accesses_do_what_they_ask`.
 use Rattle.std.specs.Prelude.{ℕ, ◌==◌, ◌&&◌, Bool, false, not}
 use Rattle.x7_packets.specs.History.{Access, Read, History, command_held, writes}
 use Rattle.x7_regs.specs.declared.command.Command.TheVariants as command
@@ -21,7 +21,8 @@ reads_frame_data h (Read register count) =
     register == number_of reg.Fdro && (not (count == 0) && (command_held h == code_of command.Rcfg && not (forbids_reading (ctl0_held h))))
 reads_frame_data h _ = false
 
--- a copy of a frame: a word written to MFWR on a device whose IDCODE was written, where SBITS allow writing
-abbrev pub copies_frame : ℕ → History → Access → Bool
-copies_frame idcode h access =
+-- a word that asks for a copy of a frame: written to MFWR on a device whose IDCODE was written, where SBITS allow
+-- writing; whether the copy is made or refused, `copy_fault` of x7_pipeline says
+abbrev pub asks_frame_copy : ℕ → History → Access → Bool
+asks_frame_copy idcode h access =
     writes (number_of reg.Mfwr) access && (has_idcode idcode h && not (forbids_writing (ctl0_held h)))

@@ -15,7 +15,7 @@ use Rattle.x7_pipeline.specs.Fault.{completes}
 use Rattle.x7_flow.specs.Asking.{Asked, AddsWord, CopiesSource}
 use Rattle.x7_flow.specs.HistoryFlow.{Flow, asked_after, flow_of}
 
--- the newest of frames at its slot
+-- the pair of the newest of frames, at its slot: none where there are no frames or that slot is no frame's
 abbrev pub newest_put : PartData → ℕ → List (List ℕ) → List PlanRow
 newest_put part base [] = []
 newest_put part base (frame ∷ older) = at_slot (slice_index_or (slots_from part base) (length older) End) frame []
@@ -25,7 +25,7 @@ newest_put part base (frame ∷ older) = at_slot (slice_index_or (slots_from par
 unfoldable pub written_frames_more : PartData → ℕ → List ℕ → List PlanRow
 written_frames_more part base run = if completes part run then newest_put part base (frames_of (frame_words part) run) else []
 
--- the pair of a copy, under MFW and at an address
+-- the pair of a copy: the source, if there is one, at the base, under MFW and where the base is an address; else none
 abbrev pub copy_pairs : PartData → Flow → List PlanRow
 copy_pairs part f = if is_mfw f.command && has_frame_at part f.base then copied_pairs f.base f.source else []
 

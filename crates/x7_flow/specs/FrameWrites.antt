@@ -15,8 +15,8 @@ use Rattle.x7_flow.specs.HistoryFlow.{run_of, source_of}
 use Rattle.x7_flow.specs.Later.{after_load, has_mfw}
 use Rattle.x7_flow.specs.WordsTaken.{with_copies, with_frame_data}
 
--- a write of whole frames: the word of FAR and its place, the place where the words of FDRI begin, and their frames:
--- the last one, which stays in the frame buffer, and those before it
+-- a write of whole frames: the word of FAR and the number of bytes up to its end, the number of bytes before the words
+-- of FDRI (`place`), and their frames: the last one, which stays in the frame buffer, and those before it
 pub record FrameWrite : Type 0 where
   pub far : ℕ
   pub far_place : ℕ
@@ -40,7 +40,7 @@ HaveFrameWidth part frames = AllByRecursion (λ frame. length frame ≡ frame_wo
 abbrev pub with_frames : FrameWrite → History → History
 with_frames x h = with_frame_data x.place (words_of_frames (all_frames x)) (after_load x.far x.far_place h)
 
--- where the frames of a write land: at the slots from its address on, all but the last
+-- where the frames of a write land: at the slots from its address on, all but the last, those at pads left out
 abbrev pub pairs_placed : PartData → FrameWrite → List PlanRow
 pairs_placed part x = placed_from part (loaded_base part x.far) x.frames
 
@@ -56,14 +56,14 @@ pub record RunHolds (part : PartData) (h : History) (frames : List (List ℕ)) :
   pub run : run_of part h ≡ onto (words_of_frames frames) []
   pub whole : HaveFrameWidth part frames
 
--- MFW is written right after a run under WCFG, whose last frame is `last`
+-- MFW is written right after a run of whole frames under WCFG, the last of which is `last`
 pub record MfwAfter (part : PartData) (h : History) (word : ℕ) (frames : List (List ℕ)) (last : List ℕ) : Type 0 where
   pub run : RunHolds part h (frames ++ last ∷ [])
   pub wcfg : command_held h ≡ code_of command.Wcfg
   pub mfw : command_code_of word ≡ code_of command.Mfw
 
--- words of MFWR after a FAR load: the word of FAR and its place, the place where the words of MFWR begin, the first of
--- them and the others, and the frame that they put
+-- words of MFWR after a FAR load: the word of FAR and the number of bytes up to its end, the number of bytes before the
+-- words of MFWR (`place`), the first of these and the others, and the frame that they put
 pub record FrameCopies : Type 0 where
   pub far : ℕ
   pub far_place : ℕ
@@ -80,8 +80,8 @@ with_frame_copies x h = with_copies x.place (x.first ∷ x.words) (after_load x.
 abbrev pub pair_copied : PartData → FrameCopies → List PlanRow
 pair_copied part x = copied_pairs (loaded_base part x.far) (Some x.frame)
 
--- a device takes the words of MFWR after a history: it takes copies, the frame is the source, and the word of FAR an
--- address
+-- a device takes the words of MFWR after a history: it takes copies, CMD holds MFW, the frame is the source, and the
+-- word of FAR an address
 pub record TakesCopies (part : PartData) (h : History) (x : FrameCopies) : Type 0 where
   pub takes : takes_copies (settings_of part.idcode h) ≡ true
   pub mfw : has_mfw h ≡ true

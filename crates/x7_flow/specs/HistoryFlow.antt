@@ -57,7 +57,7 @@ asks_frame_read _ = false
 
 -- ---- the flow
 
--- FAR as read
+-- FAR as read, of a flow
 abbrev pub far_in : PartData → Flow → ℕ
 far_in part f = far_of part f.base f.run f.given
 
@@ -74,7 +74,7 @@ unfoldable pub flow_of : PartData → History → Flow
 flow_of part [] = first_flow
 flow_of part (e ∷ h) = flow_by part (asked_after part.idcode h e.access) (flow_of part h)
 
--- where the run or readback of a history began
+-- the address at which the run or readback of a history began
 abbrev pub base_of : PartData → History → ℕ
 base_of part h = (flow_of part h).base
 
@@ -82,7 +82,7 @@ base_of part h = (flow_of part h).base
 abbrev pub run_of : PartData → History → List ℕ
 run_of part h = (flow_of part h).run
 
--- the frame that copies take after a history
+-- the frame that copies put after a history, none without a source
 abbrev pub source_of : PartData → History → Option (List ℕ)
 source_of part h = (flow_of part h).source
 
@@ -107,6 +107,6 @@ fault_by part CopiesSource f = copy_fault part f.command f.base f.source
 fault_by part (Reads count) f = if count == 0 then None else address_fault part f.base
 fault_by part _ f = None
 
--- the fault of an access after a history
+-- the fault of an access after a history, none where it isn't refused
 abbrev pub frame_fault : PartData → History → Access → Option RunFault
 frame_fault part h access = fault_by part (asked_after part.idcode h access) (flow_of part h)

@@ -14,5 +14,5 @@ pub mod WordsTaken
 pub mod FrameWrites
 pub mod Alike
 pub mod Quiet
-pub mod HasFrames
+pub mod HasOnlyFramesOf
 pub mod Saved

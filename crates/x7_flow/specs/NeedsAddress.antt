@@ -40,6 +40,6 @@ pub record WritesWord (part : PartData) (h : History) (access : Access) (w : ℕ
 abbrev pub LacksSlot : PartData → History → ℕ → Type 0
 LacksSlot part h w = Overruns part (base_of part h) (w ∷ run_of part h)
 
--- only at an address has a history a run
+-- a history has a run only where its base is an address of the part
 abbrev pub RunsAtAddress : PartData → History → Type 0
 RunsAtAddress part h = has_frame_at part (base_of part h) ≡ false → run_of part h ≡ []

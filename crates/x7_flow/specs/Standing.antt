@@ -34,8 +34,8 @@ without_due due f = record f { given = f.given - due }
 abbrev pub far_owing : PartData → History → ℕ → ℕ
 far_owing part h due = far_in part (without_due due (flow_of part h))
 
--- the pipeline stands for the flow of a history, of whose last read `due` words are still due, and the memory is the
--- history's
+-- the pipeline stands for the flow of a history, of whose last read `due` words are still due, no more than the flow
+-- counts as given; and the memory is the history's
 pub record AreFramesAfter (part : PartData) (p : PipelineData) (frames : List (List ℕ)) (h : History) (due : ℕ) : Type 0 where
   pub flow : HasFlow part p (without_due due (flow_of part h))
   pub memory : HaveSameFrames (frame_at part frames) (memory_of part h)
@@ -55,7 +55,7 @@ pub record HaveDone (part : PartData) (a : Asked) (old new : FramesState) : Type
   pub flow : (f : Flow) → HasFlow part old.pipeline f → HasFlow part new.pipeline (flow_by part a f)
   pub memory : (f : Flow) → HasFlow part old.pipeline f → HaveSameFrames (frame_at part new.memory) (put_over (pairs_put part a f) (frame_at part old.memory))
 
--- `count` words of a readback from a place on
+-- `count` words of a readback, the first of which is its word `place`, from 0
 abbrev pub readback_words : PartData → ℕ → FrameMap → ℕ → ℕ → List ℕ
 readback_words part base memory place zero = []
 readback_words part base memory place (suc count) = readback_at part base memory place ∷ readback_words part base memory (place + 1) count
@@ -65,7 +65,7 @@ readback_words part base memory place (suc count) = readback_at part base memory
 abbrev pub frames_read : PartData → History → ℕ → List ℕ
 frames_read part h count = readback_words part (base_of part h) (memory_of part h) (count_given part h) count
 
--- the last words that were given by a history, as many as are due
+-- the last `due` of the words that a history's readback counts as given
 abbrev pub words_due : PartData → History → ℕ → List ℕ
 words_due part h due = readback_words part (base_of part h) (memory_of part h) (count_given part h - due) due
 
@@ -115,7 +115,7 @@ write_access register word = Write (number_of register) word
 abbrev pub write_entry : Reg → ℕ → ℕ → Entry
 write_entry register word place = entry (write_access register word) place
 
--- the entry of a read of some words of a register
+-- the entry of a read of `count` words of a register, by its number, at a place
 abbrev pub read_entry : ℕ → ℕ → ℕ → Entry
 read_entry register count place = entry (Read register count) place
 
@@ -137,7 +137,8 @@ abbrev pub AfterAccess : PartData → FramesState → History → Entry → Opti
 AfterAccess part f h e None = FramesStandFor part f (e ∷ h) 0
 AfterAccess part f h e (Some fault) = FramesStandFor part f h 0
 
--- after a read of frame data all its words are due, or the read is refused
+-- after a read of frame data that isn't refused all its words (`frames_read`) are due; or the read is refused, with
+-- this fault
 abbrev pub AfterRead : PartData → FramesState → History → Entry → Option RunFault → Type 0
 AfterRead part f h e None =
     (frame_fault part h e.access ≡ None)

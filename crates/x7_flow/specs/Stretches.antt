@@ -10,7 +10,7 @@ use Rattle.x7_memory.specs.Plan.{PlanRow}
 use Rattle.x7_regs.specs.declared.register.Reg.TheVariants as reg
 use Rattle.x7_regs.specs.Register.{number_of}
 use Rattle.x7_pipeline.specs.Runs.{written_frames, put_over}
-use Rattle.x7_flow.specs.FrameAccess.{copies_frame}
+use Rattle.x7_flow.specs.FrameAccess.{asks_frame_copy}
 use Rattle.x7_flow.specs.HistoryFlow.{base_of, flow_of, run_of}
 use Rattle.x7_flow.specs.FrameMemory.{copy_pairs}
 
@@ -28,7 +28,7 @@ unfoldable pub copies_of : PartData → History → List PlanRow
 copies_of part [] = []
 copies_of part (e ∷ h) =
     if access_begins_stretch e.access then [] else
-    if copies_frame part.idcode h e.access then copy_pairs part (flow_of part h) ++ copies_of part h else copies_of part h
+    if asks_frame_copy part.idcode h e.access then copy_pairs part (flow_of part h) ++ copies_of part h else copies_of part h
 
 -- the pairs of the last stretch: its written frames and its copies
 abbrev pub stretch_pairs : PartData → History → List PlanRow

@@ -18,25 +18,25 @@ use Rattle.x7_flow.specs.Standing.{AreFramesAfter, FramesStandFor, FramesState}
 abbrev pub TakesWords : Reg → Type 0
 TakesWords r = (r ≡ reg.Fdri) ⊎ (r ≡ reg.Mfwr)
 
--- words written to a register, the first of which begins at this place
+-- words written to a register, the first of which begins at byte `place`, from 0
 pub record WordsTo : Type 0 where
   pub register : Reg
   pub place : ℕ
   pub words : List ℕ
 
--- the words of bytes, four bytes each, written to a register from place n on
+-- the words of bytes, four bytes each, written to a register, the first of which begins at byte n, from 0
 abbrev pub words_to : Reg → ℕ → List ℕ → WordsTo
 words_to r n bytes = record { register = r; place = n; words = words_of_bytes bytes }
 
--- the history with words written to a register, the first of which begins at byte n
+-- the history with words written to a register, the first of which begins at byte n, from 0
 abbrev pub with_words_to : Reg → ℕ → List ℕ → History → History
 with_words_to r n ws h = entered_all n (payload_steps (number_of r) ws) h
 
--- a history with words written to FDRI
+-- the history with words written to FDRI, the first of which begins at byte n, from 0
 abbrev pub with_frame_data : ℕ → List ℕ → History → History
 with_frame_data n ws h = with_words_to reg.Fdri n ws h
 
--- a history with words written to MFWR
+-- the history with words written to MFWR, the first of which begins at byte n, from 0
 abbrev pub with_copies : ℕ → List ℕ → History → History
 with_copies n ws h = with_words_to reg.Mfwr n ws h
 
@@ -61,7 +61,7 @@ count_taken count None = count
 count_taken count (Some fault) = count - 1
 
 -- the words up to the first refused one were taken, and `f` stands for the history with them; `seen` is how many were
--- looked at, a refused one too, and its fault
+-- looked at, a refused one too, and its fault, if there is one
 pub record WordsTaken (part : PartData) (f : FramesState) (h : History) (x : WordsTo) (seen : ℕ × Option RunFault) : Type 0 where
   pub taken : List ℕ
   pub rest : List ℕ

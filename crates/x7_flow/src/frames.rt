@@ -1,5 +1,5 @@
 //! The frames of a device: its pipeline and its memory, which stand for a history.
-ghost use Rattle.std.specs.Prelude.{◌≡◌, ◌+◌, ◌/◌, ◌%◌, ◌≤◌, ◌∷◌, [], ℕ, suc, length, IfOk};
+ghost use Rattle.std.specs.Prelude.{◌≡◌, ◌+◌, ◌/◌, ◌≤◌, ◌∷◌, [], ℕ, suc, length, IfOk};
 ghost use Rattle.x7_words.specs.Word.{AreWholeWords};
 ghost use Rattle.x7_part.specs.Part.{PartData};
 ghost use Rattle.x7_packets.specs.History.{History, Write};
@@ -73,7 +73,8 @@ impl Frames {
         &self.memory
     }
 
-    /// Takes a word written to a register, or answers why it is refused. A refused word changes nothing.
+    /// Takes a word written to a register, or answers why it is refused (`frame_fault`). A refused word changes
+    /// nothing.
     pub fn write(
         &mut self,
         settings: FrameSettings,
@@ -97,7 +98,7 @@ impl Frames {
     }
 
     /// Takes words written to FDRI or MFWR, four bytes each, up to the first that is refused. The answer is the number
-    /// of words looked at, a refused one included, and its fault, if one was.
+    /// of words looked at, a refused one included, and its fault (`frame_fault`), if one was.
     pub fn write_bytes(
         &mut self,
         settings: FrameSettings,
@@ -118,7 +119,8 @@ impl Frames {
         }
     }
 
-    /// Takes words written to FDRI, as `write_bytes` does.
+    /// Takes words written to FDRI, four bytes each: where these go to the memory (`takes_frames`), up to the first
+    /// that is refused; else all of them, which change no frame. Answers as `write_bytes` does.
     fn write_frame_data(
         &mut self,
         settings: FrameSettings,
@@ -137,7 +139,8 @@ impl Frames {
         (bytes.len() / 4, None)
     }
 
-    /// Takes words written to MFWR, as `write_bytes` does.
+    /// Takes words written to MFWR, four bytes each: where these ask for copies (`takes_copies`), up to the first that
+    /// is refused; else all of them, which change no frame. Answers as `write_bytes` does.
     fn write_copies(
         &mut self,
         settings: FrameSettings,
@@ -156,15 +159,15 @@ impl Frames {
         (bytes.len() / 4, None)
     }
 
-    /// The fault of a read of frame data, before a word of it is given. Where there is none, its words are due from now
-    /// on, and `read_word` gives them.
+    /// The fault of a read of frame data, before a word of it is given: `Address` where the run or readback began at no
+    /// address of the part. Where there is no fault, the read's words are due from now on, and `read_word` gives them.
     pub fn fault_of_read(&self, part: &Part) -> Option<RunFault>
         ensures { AnswersReads part.now self.now result }
     {
         self.pipeline.fault_of_read(part)
     }
 
-    /// The next word of frame data that is due. At least one must be.
+    /// The next word of frame data. At least one must be due.
     pub fn read_word(&mut self, part: &Part) -> u32
         requires part { FramesFit part.now self.old }
         requires due { HaveWordsDue part.now self.old 1 }
@@ -178,7 +181,7 @@ impl Frames {
         word
     }
 
-    /// Passes over `count` of the words of frame data that are due.
+    /// Passes over the next `count` words of frame data. At least as many must be due.
     pub fn drop_words(&mut self, count: u32, part: &Part)
         requires part { FramesFit part.now self.old }
         requires due { HaveWordsDue part.now self.old count }

@@ -12,11 +12,11 @@ ghost use Rattle.x7_pipeline.specs.Saved.{SavedState};
 ghost use Rattle.x7_pipeline.specs.declared.fault.RunFault.{RunFault};
 ghost use Rattle.x7_flow.specs.Alike.{AreSameButForMask, WritesMaskBeforeCtl0};
 ghost use Rattle.x7_flow.specs.HistoryFlow.{Flow, HasAddress, asked_after, base_of, begins_stretch, far_read, flow_of, frame_fault, count_given, asks_copy, asks_frame_read, adds_frame_word, run_of, source_of};
-ghost use Rattle.x7_flow.specs.FrameAccess.{copies_frame, reads_frame_data, writes_frame_data};
+ghost use Rattle.x7_flow.specs.FrameAccess.{asks_frame_copy, reads_frame_data, writes_frame_data};
 ghost use Rattle.x7_flow.specs.FrameMemory.{written_frames_more, memory_of};
 ghost use Rattle.x7_flow.specs.FrameWrites.{FrameCopies, FrameWrite, MfwAfter, TakesCopies, TakesWrite, pair_copied, pairs_placed, with_frame_copies, with_frames};
 ghost use Rattle.x7_flow.specs.FlowInWords.{base_after, frame_taken, sum_of_reads, words_written};
-ghost use Rattle.x7_flow.specs.HasFrames.{HasFrames};
+ghost use Rattle.x7_flow.specs.HasOnlyFramesOf.{HasOnlyFramesOf};
 ghost use Rattle.x7_flow.specs.Later.{BeginsRun, MemoryGets, Start, after_load, flow_from, flow_on, has_mfw, pairs_after, pairs_alone, pairs_after_load, pairs_from, pairs_loaded, pairs_on, start_on};
 ghost use Rattle.x7_flow.specs.NeedsAddress.{LacksAddress, LacksSlot, LacksSource, RunsAtAddress, WritesWord};
 ghost use Rattle.x7_flow.specs.Quiet.{AreQuiet};
@@ -27,8 +27,8 @@ ghost use Rattle.x7_flow.specs.Standing.{FramesHaveDone, FramesFit, FramesStandF
 ghost use Rattle.x7_flow.specs.Stretches.{ends_of, access_begins_stretch, memory_by_stretches};
 ghost use Rattle.x7_flow.specs.WordsTaken.{HasRoomFor, NoneRefused, with_copies, with_frame_data};
 
-/// A flow is sound under its settings; a word more makes its written frames grow, and an access more its settings, as
-/// the definitions of one step say.
+/// The flow of a history is sound under the history's settings. A word more makes the written frames of a run grow as
+/// `written_frames_more` says, and an access more changes the settings as `settings_after` says.
 pub fn flows_go_by_settings()
     ensures sound { (part : PartData) (h : History) → IsSound part (settings_of part.idcode h) (flow_of part h) }
     ensures written_frames { (part : PartData) (base word : ℕ) (run : List ℕ) →
@@ -36,8 +36,8 @@ pub fn flows_go_by_settings()
     ensures settings { (idcode : ℕ) (e : Entry) (h : History) → settings_of idcode (e ∷ h) ≡ settings_after idcode e.access (settings_of idcode h) }
 {}
 
-/// A later history goes on from the settings and the flow of the earlier one, and its memory is the earlier one's with
-/// the pairs put over it that the later history puts; so it is where the later history begins after a FAR load.
+/// A later history goes on from the settings and the flow of the earlier one. The memory of both together is the
+/// earlier one's with the pairs put over it that the later one puts, also where a FAR load stands between the two.
 pub fn later_histories_override()
     ensures settings { (idcode : ℕ) (later earlier : History) → settings_of idcode (later ++ earlier) ≡ settings_from idcode (settings_of idcode earlier) later }
     ensures flow { (part : PartData) (later earlier : History) → flow_of part (later ++ earlier) ≡ flow_from part (settings_of part.idcode earlier) (flow_of part earlier) later }
@@ -46,20 +46,22 @@ pub fn later_histories_override()
         MemoryGets part (later ++ after_load w place earlier) earlier (pairs_after_load part earlier w later) }
 {}
 
-/// The memory is the map of zeros overridden, stretch by stretch in order, by the stretch's written frames and its copies.
+/// The memory is the map of zeros overridden, stretch by stretch in order, by the stretch's written frames and its
+/// copies.
 pub fn stretches_override_in_order()
     ensures memory { (part : PartData) (h : History) → HaveSameFrames (memory_of part h) (memory_by_stretches part (h ∷ ends_of h)) }
 {}
 
-/// What an access asks is what it does: frame data written, a copy, frame data read.
+/// What an access asks, by its register, the command and SBITS: to begin a stretch, to write frame data, to copy, to
+/// read frame data. It may still be refused.
 pub fn accesses_do_what_they_ask()
     ensures begins { (idcode : ℕ) (h : History) (access : Access) → access_begins_stretch access ≡ begins_stretch (asked_after idcode h access) }
     ensures word { (idcode : ℕ) (h : History) (access : Access) → writes_frame_data idcode h access ≡ adds_frame_word (asked_after idcode h access) }
-    ensures copy { (idcode : ℕ) (h : History) (access : Access) → copies_frame idcode h access ≡ asks_copy (asked_after idcode h access) }
+    ensures copy { (idcode : ℕ) (h : History) (access : Access) → asks_frame_copy idcode h access ≡ asks_copy (asked_after idcode h access) }
     ensures read { (idcode : ℕ) (h : History) (access : Access) → reads_frame_data h access ≡ asks_frame_read (asked_after idcode h access) }
 {}
 
-/// The base, the run, the count given and the source of a history, each by a recursion of its own.
+/// The base, the run, the count of words given and the source of a history can each be found by a recursion of its own.
 pub fn flows_go_by_accesses()
     ensures base { (part : PartData) (e : Entry) (h : History) → base_of part (e ∷ h) ≡ base_after part e.access (far_read part h) (base_of part h) }
     ensures run { (part : PartData) (h : History) → run_of part h ≡ words_written part.idcode h }
@@ -67,8 +69,9 @@ pub fn flows_go_by_accesses()
     ensures source { (part : PartData) (h : History) → source_of part h ≡ frame_taken part h }
 {}
 
-/// One access more: frames that do what it asks stand for the longer history; a read that begins changes them not, and
-/// all the words of that read are due. Frames of a part that stand for one history, with as many words due, are equal.
+/// One access more, after a history that frames stand for with no word due: frames that did what the access asks stand
+/// for the longer history. A read of frame data from an address leaves the frames as they are, and all its words, those
+/// of `frames_read`, are then due. Frames of a part that stand for one history, with as many words due, are equal.
 pub fn frames_stand_for_one_more()
     ensures one_more { (part : PartData) (old new : FramesState) (e : Entry) (h : History) →
         FramesHaveDone part old new h e → FramesStandFor part old h 0 → FramesStandFor part new (e ∷ h) 0 }
@@ -81,8 +84,9 @@ pub fn frames_stand_for_one_more()
 {}
 
 /// An access is refused with the fault Address exactly where it lacks an address, with Multi exactly where it lacks a
-/// source, and a word of frame data with Overrun exactly where it lacks a slot; only such a word comes to Overrun. An
-/// access that isn't refused leaves runs at addresses. A refused access changes neither the memory nor FAR as read.
+/// source; a word of frame data whose base is an address is refused with Overrun exactly where it lacks a slot, and
+/// only a word of frame data comes to Overrun. Where a run has words only at an address, that stays so after an access
+/// that isn't refused. A refused access changes neither the memory nor FAR as read.
 pub fn refusals_have_causes()
     ensures no_address { (part : PartData) (h : History) (access : Access) (far : ℕ) → (frame_fault part h access ≡ Some (RunFault.Address far)) ↔ LacksAddress part h access far }
     ensures no_source { (part : PartData) (h : History) (access : Access) → (frame_fault part h access ≡ Some RunFault.Multi) ↔ LacksSource part h access }
@@ -124,9 +128,10 @@ pub fn later_histories_join()
         MemoryGets part (later ++ after_load w place earlier) earlier (pairs_alone part earlier w later) }
 {}
 
-/// Where a device takes a write of whole frames after a FAR load, all but the last one land at the slots from the
-/// address on in order, pads left out: of two pairs for one address the later frame's wins, which stands first. Where
-/// it takes words of MFWR after a FAR load, they put the source at the address.
+/// Where a device takes a write of whole frames after a FAR load, its frames but the last land at the slots from the
+/// address of FAR on, in order; a frame that falls on a pad lands nowhere. The pairs stand the newest first, so that of
+/// two for one address the later frame's wins. Where a device takes words of MFWR after a FAR load, they put the source
+/// at the address of FAR.
 pub fn written_frames_land_in_order()
     ensures write { (part : PartData) (earlier : History) (x : FrameWrite) → TakesWrite part earlier x →
         MemoryGets part (with_frames x earlier) earlier (reverse (pairs_placed part x)) }
@@ -144,13 +149,17 @@ pub fn quiet_accesses_move_no_frame()
     ensures all_due { (part : PartData) (h : History) (register count n : ℕ) → ReadsData h register count → without_due count (flow_read part h register count n) ≡ flow_of part h }
 {}
 
-/// Where the part's addresses rise, no two frames of a write have one address, and the order of their pairs doesn't
-/// matter: a write of whole frames that a device takes after a FAR load puts the plan of all but the last over the
-/// memory. MFW right after a run of whole frames under WCFG takes the last of them as the source. A FAR load and words
-/// of MFWR after it leave the source and the settings.
+/// Where the part's addresses rise, a write of whole frames that a device takes after a FAR load puts the pairs of all
+/// its frames but the last over the memory, also with the oldest first (`written_frames_land_in_order` has them the
+/// newest first).
 pub fn written_frames_are_a_plan()
-    ensures write { (part : PartData) (earlier : History) (x : FrameWrite) → TakesWrite part earlier x → Rises 0 (addresses_in part) →
+    ensures { (part : PartData) (earlier : History) (x : FrameWrite) → TakesWrite part earlier x → Rises 0 (addresses_in part) →
         MemoryGets part (with_frames x earlier) earlier (pairs_placed part x) }
+{}
+
+/// MFW right after a run of whole frames under WCFG takes the last of them as the source. A FAR load and words of MFWR
+/// after it leave the source and the settings.
+pub fn mfw_takes_the_last_frame()
     ensures source { (part : PartData) (h : History) (c place : ℕ) (frames : List (List ℕ)) (last : List ℕ) → MfwAfter part h c frames last →
         source_of part (write_entry reg.Cmd c place ∷ h) ≡ Some last }
     ensures source_stays { (part : PartData) (earlier : History) (w place n : ℕ) (ws : List ℕ) →
@@ -159,9 +168,10 @@ pub fn written_frames_are_a_plan()
         settings_of part.idcode (with_copies n ws (after_load w place earlier)) ≡ settings_of part.idcode earlier }
 {}
 
-/// The memory of a history has frames of the part's width, at the part's addresses alone.
+/// Where a frame of the part has at least one word, the memory of a history has frames of the part's width, at the
+/// part's addresses alone.
 pub fn memory_has_frames()
-    ensures { (part : PartData) (h : History) → 0 < frame_words part → HasFrames part (memory_of part h) }
+    ensures { (part : PartData) (h : History) → 0 < frame_words part → HasOnlyFramesOf part (memory_of part h) }
 {}
 
 /// Of words of frame data that go to the memory, with a base that is an address and slots for their frames, none is
@@ -173,7 +183,8 @@ pub fn words_have_room()
         MemoryGets part (with_frame_data n ws h) h (written_frames part (base_of part h) (onto ws [])) }
 {}
 
-/// Saved frames lead back from frames of the same memory, and, where no word is due, over one access more.
+/// What was saved leads later frames of the part back to the saved ones: those with the same memory; and, where the
+/// saved ones stand for a history with no word due, those whose memory is that of this history with one access more.
 pub fn saved_frames_lead_back()
     ensures unchanged { (part : PartData) (s : SavedState) (old new : FramesState) → FramesAreSaved part s old new →
         HaveSameFrames (frames_map part new) (frames_map part old) → FramesBack part s new old }

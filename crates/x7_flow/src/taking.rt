@@ -1,5 +1,5 @@
 //! A pipeline and a memory do what an access asks (UG470, frame address register and frame data registers).
-ghost use Rattle.std.specs.Prelude.{◌≡◌, ◌/◌, ◌%◌, ◌≤◌, ℕ, length, IfNone, OnSome};
+ghost use Rattle.std.specs.Prelude.{◌≡◌, ◌/◌, ◌≤◌, ℕ, length, IfNone, OnSome};
 ghost use Rattle.x7_words.specs.Word.{AreWholeWords};
 ghost use Rattle.x7_regs.specs.declared.register.Reg.TheVariants as reg;
 ghost use Rattle.x7_flow.specs.Settings.{AreSettingsAfter, takes_copies as takes_copies_by};
@@ -16,8 +16,8 @@ use x7_part::Part;
 use x7_pipeline::{Pipeline, RunFault};
 use x7_regs::{Reg, command_of};
 
-/// Does what a word written to a register asks of the pipeline and the memory. The answer is the fault by which the word
-/// is refused.
+/// Does what a word written to a register asks of the pipeline and the memory. The answer is the fault by which the
+/// word is refused, if it is; then both stay as they were.
 pub(crate) fn take_written_word(
     settings: FrameSettings,
     reg: Reg,
@@ -71,7 +71,7 @@ pub(crate) fn take_written_word(
 }
 
 /// Takes words written to MFWR at once, four bytes each: the first puts the source, and each later one would put it
-/// there again. The answer is the number of words looked at, a refused one included, and the fault.
+/// there again. The answer is the number of words looked at, a refused one included, and its fault, if one was.
 pub(crate) fn take_copies(
     bytes: &[u8],
     part: &Part,

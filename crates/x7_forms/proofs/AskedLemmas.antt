@@ -15,7 +15,7 @@ use Rattle.x7_forms.proofs.ReadLemmas.{IsAt, asked_on, left_at}
 pub gives_on : (old mid new : InputsState) (taken : List ℕ) (limit left : ℕ) → ReadsBytes old taken mid → length taken + left ≡ limit → mid.ends ≤ old.ends → GivesWithinLimit mid left new → GivesWithinLimit old limit new
 gives_on old mid new taken limit left r n e g = record { asked = g.asked ∙ r.asked; selects = g.selects ∙ r.takes.selects; ends = omega (arith, e, g.ends); given = omega (arith, n, r.takes.given, g.given); stays = stays_on old mid new r.stays g.stays }
 
--- no more bytes than so many, of which there are more
+-- no more than `few` bytes were given, and so no more than `most`, which isn't less
 pub gives_fewer : (old new : InputsState) (few most : ℕ) → few ≤ most → GivesAtMost old few new → GivesAtMost old most new
 gives_fewer old new few most h g = record { asked = g.asked; selects = g.selects; ends = g.ends; given = omega (arith, h, g.given); stays = g.stays }
 
@@ -31,7 +31,7 @@ asks_read old opened new name limit a g = record {
   stays = stays_on old opened new a.stays g.stays;
 }
 
--- a turn of it, after those that were read
+-- a turn of the one input that was asked for, after those that were read
 pub asks_turn : (old mid new : InputsState) (name taken : List ℕ) (limit left : ℕ) → IsAt name taken mid → length taken + left ≡ limit → AsksOnce old mid → InputsStay old mid → GivesWithinLimit mid left new → AsksOnlyFor old name limit new
 asks_turn old mid new name taken limit left a n o s g = record {
   last = record { asked = subst (λ k. IfSome k (λ kept. kept ≡ name)) (sym g.asked) a.asked; given = omega (arith, n, a.given, g.given) };
@@ -39,7 +39,7 @@ asks_turn old mid new name taken limit left a n o s g = record {
   stays = stays_on old mid new s g.stays;
 }
 
--- a first turn of it, and what is after it where that was not the last
+-- a first turn of the one input that was asked for, and the rest where that turn was not the last
 pub asks_rest : (last : Bool) (old opened mid new : InputsState) (name taken : List ℕ) (limit left : ℕ) → AsksFor old name opened → ReadsBytes opened taken mid → length taken + left ≡ limit
     → GivesWithinLimit opened limit mid → (last ≡ false → mid.ends ≤ opened.ends) → GivesWithinLimit mid left new → (last ≡ true → new.ends ≤ mid.ends) → AsksOnlyFor old name limit new
 asks_rest last old opened mid new name taken limit left a r n f go g none = record {

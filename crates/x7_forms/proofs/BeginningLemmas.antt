@@ -13,7 +13,7 @@ use Rattle.x7_header.specs.Header.{HeaderContents, EndsInHeader, contents_in_ord
 use Rattle.x7_header.specs.Reading.{HeaderWaits, header_at}
 use Rattle.x7_header.specs.declared.fault.HeaderFault.{HeaderFault}
 use Rattle.x7_header.specs.declared.fault.HeaderFault.TheVariants as header
-use Rattle.x7_header.proofs.CutLemmas.{is_cut}
+use Rattle.x7_header.proofs.CutLemmas.{is_cut, other_more}
 use Rattle.x7_header.proofs.HeaderLemmas.{err_is, field_at_place, header_again, header_refused, ok_not_err, raw_at}
 use Rattle.x7_listing.specs.BitLine.{bit_text}
 use Rattle.x7_listing.specs.Listing.{listing_of}
@@ -21,7 +21,7 @@ use Rattle.x7_listing.specs.StreamListing.{listing_by, stream_listing}
 use Rattle.x7_listing.proofs.BitLemmas.{header_limit}
 use Rattle.x7_forms.specs.Event.{Event, reading_failed, too_large}
 use Rattle.x7_forms.specs.Known.{stream_limit}
-use Rattle.x7_forms.specs.Turn.{DataBeginAt, ReadsBeginning, HoldsFew, IsBeginning, IsJudged, IsRefused, NoLetterGiven, ReadsBytes, RefusedAt, UnreadBeginning, UnreadToEnd, turn_size}
+use Rattle.x7_forms.specs.Turn.{DataBeginAt, ReadsBeginning, HoldsFew, IsBeginning, IsJudged, IsHeaderRefused, NoLetterGiven, ReadsBytes, RefusedAt, UnreadBeginning, UnreadToEnd, turn_size}
 use Rattle.x7_forms.proofs.HeadLemmas.{gives_self}
 use Rattle.x7_forms.proofs.ReadLemmas.{reads_as, reads_on}
 
@@ -52,33 +52,11 @@ unheaded bytes line n true long h none zero = λ rest more.
 unheaded bytes line n false long h none zero = λ rest more.
     raw_by (bytes ++ rest) (raw_more bytes rest (long refl) h) ∙ ap Ok (ap (λ t. t ++ listing_of (bytes ++ rest)) (sym none) ∙ ap (λ k. line ++ listing_of (drop k bytes ++ rest)) (sym zero))
 
--- another letter, whatever follows
-other_more : (bytes rest : List ℕ) (place : ℕ) → HasOtherLetterAt bytes place → HasOtherLetterAt (bytes ++ rest) place
-other_more bytes rest place h =
-    let o : HasOtherLetter header_fields h.0 (length bytes - place) = h.3 in (
-      h.0 ++ rest,
-      ap (λ b. b ++ rest) h.1 ∙ append_assoc fixed_bytes h.0 rest,
-      omega (arith, h.2, length-append bytes rest),
-      record {
-        done = o.done;
-        contents = o.contents;
-        next = o.next;
-        later = o.later;
-        other = o.other;
-        rest = o.rest ++ rest;
-        fields_are = o.fields_are;
-        hold = o.hold;
-        bytes_are = ap (λ b. b ++ rest) o.bytes_are ∙ append_assoc (fields_bytes o.done o.contents) (o.other ∷ o.rest) rest;
-        left_is = omega (arith, h.2, o.left_is, length-append bytes rest, length-append o.rest rest);
-        differs = o.differs;
-      },
-    )
-
-pub other_refused : (bytes : List ℕ) (last : Bool) (place : ℕ) → HasOtherLetterAt bytes place → IsRefused bytes last place
+pub other_refused : (bytes : List ℕ) (last : Bool) (place : ℕ) → HasOtherLetterAt bytes place → IsHeaderRefused bytes last place
 other_refused bytes last place h = λ rest more. ap (listing_by (bytes ++ rest)) (header_refused (bytes ++ rest) place (other_more bytes rest place h))
 
 -- a header that the whole stream ends inside
-pub cut_refused : (bytes : List ℕ) (last : Bool) (place : ℕ) → last ≡ true → header_at bytes ≡ Err (header.Cut place) → IsRefused bytes last place
+pub cut_refused : (bytes : List ℕ) (last : Bool) (place : ℕ) → last ≡ true → header_at bytes ≡ Err (header.Cut place) → IsHeaderRefused bytes last place
 cut_refused bytes last place e h = λ rest more. ap (λ r. stream_listing (bytes ++ r)) (more e) ∙ ap stream_listing (append-nil bytes) ∙ ap (listing_by bytes) h
 
 -- bytes that end inside a header are few
@@ -95,7 +73,7 @@ joined_taken old mid new a b c d e f g h = e ∙ ap (preceded a) f ∙ preceded_
 abbrev Judge : List ℕ → Type 0
 Judge prefix = (rest : List ℕ) (place : ℕ) → header_at (prefix ++ rest) ≡ Err (header.Cut place) → ⊥
 
--- bytes that waited for so many are not judged before the last of them
+-- a header that waits for n bytes more is not judged before the last byte of a piece of at most n
 judged_before : (old piece prefix more : List ℕ) (n : ℕ) (b : Bool) → nat_le (length prefix) (length old) ≡ b → HeaderWaits old n → 0 < n → length piece ≤ n → old ++ piece ≡ prefix ++ more → 0 < length more → Judge prefix → ⊥
 judged_before old piece prefix more n true l w p k e m j =
     let s = shorter_prefix prefix old more piece (leb-true _ _ l) (sym e) in
@@ -123,7 +101,7 @@ pub record IsPiece (old piece bytes : List ℕ) (n : ℕ) : Type 0 where
   pub waiting : (old ≡ []) ⊎ EndsInHeader old
   pub waits : EndsInHeader old → HeaderWaits old n
 
--- what such bytes begin with is no shorter where it judges
+-- a prefix of the `bytes` of an `IsPiece` that judges the header is all of them
 first_judged : (old piece bytes prefix more : List ℕ) (n : ℕ) → IsPiece old piece bytes n → 13 ≤ length prefix → bytes ≡ prefix ++ more → Judge prefix → more ≡ []
 first_judged old piece bytes prefix [] n p l e j = refl
 first_judged old piece bytes prefix (x ∷ more) n p l e j = elim p.waiting [
@@ -190,7 +168,7 @@ refused_soon old piece bytes n place p (inr h) =
 
 -- ---- a fault before the header is judged
 
--- what judges a header goes on after bytes that wait for so many, up to the last of them at least
+-- a header that waits for n bytes more after `old` is judged by no prefix that is shorter than `old` and these n
 judged_late : (old rest prefix more : List ℕ) (n : ℕ) (b : Bool) → nat_le (length prefix) (length old) ≡ b → HeaderWaits old n → 0 < n → old ++ rest ≡ prefix ++ more → Judge prefix → length prefix < length old + n → ⊥
 judged_late old rest prefix more n true l w p e j k =
     let s = shorter_prefix prefix old more rest (leb-true _ _ l) (sym e) in
@@ -249,12 +227,12 @@ letter_there bytes place fits e l = by (header_at bytes) refl
         let end = ((is_cut (λ (x : HeaderContents × ℕ). x) (header_at bytes) bytes fits (gives_self (header_at bytes)) at).0 h).0 in
         absurd (omega (arith, end, there, l))
 
--- what a value that was found has
+-- an option that is `Some`, by what `MatchOption` says of its value
 pub found_some : {A : Type 0} (found : Option A) (x : A) (P : Type 0) (Q : A → Type 0) → found ≡ Some x → MatchOption found P Q → Q x
 found_some (Some y) x P Q e m = subst Q (let same : y ≡ x = cc in same) m
 found_some None x P Q e m = absurd cc
 
--- what holds where none was found
+-- an option that is `None`, by what `MatchOption` says of it
 pub found_none : {A : Type 0} (found : Option A) (P : Type 0) (Q : A → Type 0) → found ≡ None → MatchOption found P Q → P
 found_none None P Q e m = m
 found_none (Some x) P Q e m = absurd cc

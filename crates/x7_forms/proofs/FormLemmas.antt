@@ -10,13 +10,11 @@ use Rattle.x7_text.specs.Digits.{hex_word}
 use Rattle.x7_text.specs.DigitValue.{word_value}
 use Rattle.x7_text.proofs.ValueLemmas.{word_back}
 use Rattle.x7_forms.specs.Form.{number_in, word_in}
+use Rattle.x7_words.proofs.ListLemmas.{same_by_test}
 
--- what is written again: the same, and small
+-- what the tests of equal texts and of numbers below 2^32 answer
 same : (a b : List ℕ) → a ≡ b → bytes_eq a b ≡ true
 same a b e = grind (arith, bytes_eq-Decides a b, e)
-
-is : (a b : List ℕ) → bytes_eq a b ≡ true → a ≡ b
-is a b e = grind (arith, bytes_eq-Decides a b, e)
 
 small : (n : ℕ) → n < 2 ^ 32 → nat_lt n (2 ^ 32) ≡ true
 small n h = grind (arith, nat_tests, h)
@@ -41,7 +39,7 @@ word_some digits w h e =
 pub word_none : (digits : List ℕ) → ((w : ℕ) → w < 2 ^ 32 → digits ≡ hex_word w → ⊥) → None ≡ word_in digits
 word_none digits none =
     none_by (bytes_eq (hex_word (word_value digits)) digits) (nat_lt (word_value digits) (2 ^ 32)) (word_value digits)
-    (λ a b. none (word_value digits) (is_small (word_value digits) b) (sym (is (hex_word (word_value digits)) digits a)))
+    (λ a b. none (word_value digits) (is_small (word_value digits) b) (sym (same_by_test (hex_word (word_value digits)) digits a)))
 
 pub number_some : (digits : List ℕ) (n : ℕ) → n < 2 ^ 32 → digits ≡ decimal n → Some n ≡ number_in digits
 number_some digits n h e =

@@ -8,11 +8,11 @@ use Rattle.std.proofs.lemmas.List.{drop-append-le, take-append-le}
 use Rattle.std.proofs.lemmas.Slice.Eq.{starts_is}
 use Rattle.x7_words.specs.Word.{AreBytes}
 use Rattle.x7_words.proofs.ListLemmas.{all_append}
-use Rattle.x7_header.specs.Header.{HeaderContents, EndsInHeader, HasOtherLetterAt, fields_bytes, fixed_bytes, header_bytes, longest_header}
+use Rattle.x7_header.specs.Header.{HeaderContents, EndsInHeader, fixed_bytes, header_bytes, longest_header}
 use Rattle.x7_header.specs.Reading.{ReturnsAs, header_at}
 use Rattle.x7_header.specs.declared.fault.HeaderFault.{HeaderFault}
 use Rattle.x7_header.specs.declared.fault.HeaderFault.TheVariants as header
-use Rattle.x7_header.proofs.CutLemmas.{is_cut}
+use Rattle.x7_header.proofs.CutLemmas.{is_cut, other_more}
 use Rattle.x7_header.proofs.HeaderLemmas.{field_at_place, header_again, header_refused, header_takes, is_short, raw_at}
 use Rattle.x7_forms.specs.Event.{Event}
 use Rattle.x7_forms.specs.Known.{and_so, data_by, data_in}
@@ -44,27 +44,6 @@ raw_more bytes more long e = by (starts_with nat_eq bytes fixed_bytes) refl
         let there = (starts_is Decides-eqb bytes fixed_bytes (starts_with nat_eq bytes fixed_bytes) refl).0 s in
         absurd ((raw_at bytes true s).0 e (drop 13 bytes) there)
     by false s = raw_is (bytes ++ more) (no_header_stays bytes more fixed_bytes long s)
-
--- another byte in a letter's place, whatever follows
-other_more : (bytes more : List ℕ) (place : ℕ) → HasOtherLetterAt bytes place → HasOtherLetterAt (bytes ++ more) place
-other_more bytes more place (after, are, within, w) = (
-  after ++ more,
-  ap (λ b. b ++ more) are ∙ append_assoc fixed_bytes after more,
-  omega (arith, within, length-append bytes more),
-  record {
-    done = w.done;
-    contents = w.contents;
-    next = w.next;
-    later = w.later;
-    other = w.other;
-    rest = w.rest ++ more;
-    fields_are = w.fields_are;
-    hold = w.hold;
-    bytes_are = ap (λ b. b ++ more) w.bytes_are ∙ append_assoc (fields_bytes w.done w.contents) (w.other ∷ w.rest) more;
-    left_is = omega (arith, within, w.left_is, length-append bytes more, length-append w.rest more);
-    differs = w.differs;
-  },
-)
 
 field_more : (bytes more : List ℕ) (place : ℕ) → AreBytes bytes → header_at bytes ≡ Err (header.Field place) → header_at (bytes ++ more) ≡ Err (header.Field place)
 field_more bytes more place fits e = header_refused (bytes ++ more) place (other_more bytes more place (field_at_place bytes place (starts_with nat_eq bytes fixed_bytes) fits refl e))

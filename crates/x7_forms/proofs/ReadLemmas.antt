@@ -1,10 +1,9 @@
 -- Inputs that are read whole, one after the other, and what that comes to.
-use Rattle.std.proofs.Common.{◌≡◌, ◌⊎◌, ℕ, zero, suc, List, [], Bool, true, false, append-nil, ◌∷◌, ◌++◌, ◌+◌, ◌-◌, ◌≤◌, ◌<◌, drop, drop-cons, get_or, take, add-one, length, length-append, map, Option, None, Some, Result, Ok, Err, refl, ap, append_assoc, subst, sym, ◌∙◌, arith, inl, inr}
+use Rattle.std.proofs.Common.{◌≡◌, ◌≢◌, ◌⊎◌, ℕ, zero, suc, List, [], Bool, true, false, append-nil, ◌∷◌, ◌++◌, ◌+◌, ◌-◌, ◌≤◌, ◌<◌, drop, drop-cons, get_or, take, add-one, length, length-append, map, Option, None, Some, Result, Ok, Err, refl, ap, append_assoc, subst, sym, ◌∙◌, arith, inl, inr}
 use Rattle.std.specs.Prelude.{IfSome, if◌then◌else◌, nat_lt}
 use Rattle.std.specs.Str.{bytes_eq}
 use Rattle.std.proofs.lemmas.Bool.Decides.{nat_tests}
-use Rattle.std.proofs.lemmas.List.{drop-take, length-take, length-take-le, take-take}
-use Rattle.std.proofs.lemmas.Slice.Eq.{bytes_eq-Decides}
+use Rattle.std.proofs.lemmas.List.{drop-take, length-take, length-take-le, take-take, drop_all}
 use Rattle.x7_words.specs.Count.{HasRisen}
 use Rattle.x7_words.specs.Input.{InputsState, AsksForName, AtEnd, MissesInput, RestIsWhole, InputsStay, TakesInput, preceded}
 use Rattle.x7_words.specs.Input.{MapLacks}
@@ -18,12 +17,14 @@ use Rattle.x7_header.specs.declared.fault.HeaderFault.TheVariants as header
 use Rattle.x7_part.specs.Part.{PartData}
 use Rattle.x7_part.specs.PartFile.{part_in}
 use Rattle.x7_forms.specs.declared.bad_input.InputFault.TheVariants as input
+use Rattle.x7_forms.specs.declared.refusal.Why.TheVariants as why
 use Rattle.x7_forms.specs.Event.{Event, bad_input, missing, no_memory, reading_failed, too_large}
 use Rattle.x7_forms.specs.Known.{Absent, Broken, Failing, Found, Held, Known, Lacking, Mishap, StreamRead, and_so, broken_at, data_by, data_in, streams_known, input_found, known_of, mishap_event, part_by, part_limit, part_known, put_before, stream_known, spoiled, spoiled_name, taken_whole, whole_known, with_inputs, with_mishap}
 use Rattle.x7_forms.specs.Turn.{BreaksWithin, ReadsBytes, Unopened, UnreadToEnd, UnreadRest}
 use Rattle.x7_forms.proofs.HeadLemmas.{data_more}
 use Rattle.x7_forms.specs.Step.{Among, AnswersAs, AnswersBy, CameIn, DueBy, FailsAmong, IsCaused, IsCausedBy, IsDecided, IsDue, IsFromOutside, IsOneUnplayed, IsPossible, IsUnplayed, IsUnread, LacksAmong, step_over}
 use Rattle.std.proofs.Math.Seq.{take-append-add}
+use Rattle.x7_words.proofs.ListLemmas.{same_by_test, same_as_itself}
 
 -- ---- what was taken
 
@@ -47,12 +48,6 @@ filled xs ys zs at n a k e =
 pub record Steady (A : Type 0) (f : Known → Result A Event) : Type 0 where
   pub steady : (m : Mishap) (t : Known) (a : A) → f t ≡ Ok a → (f (with_mishap m t) ≡ Ok a) ⊎ (f (with_mishap m t) ≡ Err (mishap_event m))
 
-same_name : (a b : List ℕ) → bytes_eq a b ≡ true → a ≡ b
-same_name a b e = grind (arith, bytes_eq-Decides a b, e)
-
-pub name_is : (a : List ℕ) → bytes_eq a a ≡ true
-name_is a = grind (arith, bytes_eq-Decides a a)
-
 -- the first bytes of an input that is within its limit, and then a fault
 broken_within : (name bytes a : List ℕ) (limit given : ℕ) (b : Bool) → nat_lt limit (length bytes) ≡ b → (if b then Err (too_large name) else Ok bytes) ≡ Ok a → taken_whole name limit (Broken (take given bytes)) ≡ Err (reading_failed name)
 broken_within name bytes a limit given true e h = absurd (cc)
@@ -72,7 +67,7 @@ spoiled_whole name a limit (Failing other given) (Broken bytes) e h = absurd (ne
 
 whole_by : (name a : List ℕ) (limit : ℕ) (m : Mishap) (i : Found) (b : Bool) → bytes_eq name (spoiled_name m) ≡ b → taken_whole name limit i ≡ Ok a
     → (taken_whole name limit (if b then spoiled m i else i) ≡ Ok a) ⊎ (taken_whole name limit (if b then spoiled m i else i) ≡ Err (mishap_event m))
-whole_by name a limit m i true e h = inr (spoiled_whole name a limit m i (same_name name (spoiled_name m) e) h)
+whole_by name a limit m i true e h = inr (spoiled_whole name a limit m i (same_by_test name (spoiled_name m) e) h)
 whole_by name a limit m i false e h = inl h
 
 pub whole_steady : (limit : ℕ) (name : List ℕ) → Steady (List ℕ) (λ t. whole_known t limit name)
@@ -166,8 +161,8 @@ before_before : (prefix bytes : List ℕ) (more : Result (List ℕ) Event) → p
 before_before prefix bytes (Ok more) = ap Ok (sym (append_assoc prefix bytes more))
 before_before prefix bytes (Err event) = refl
 
--- what is due for the streams that are left, after what was read, with so much room left; a mishap of a name changes
--- nothing of it, or is the event
+-- what is due for streams: `whole`, which was read, and what is due for those that are left, within `room` bytes; a
+-- mishap of a name changes nothing of this, or its event is due
 pub record RestsIn (t : Known) (names : List (List ℕ)) (limit : ℕ) (left : List (List ℕ)) (room : ℕ) (whole : List ℕ) : Type 0 where
   pub is : streams_known t limit names ≡ put_before whole (streams_known t room left)
   pub steady : (m : Mishap) → (streams_known (with_mishap m t) limit names ≡ put_before whole (streams_known (with_mishap m t) room left)) ⊎ (streams_known (with_mishap m t) limit names ≡ Err (mishap_event m))
@@ -282,18 +277,12 @@ pub rests_none : (contents : Option (List ℕ → Option (List ℕ))) (names : L
 rests_none None names limit = tt
 rests_none (Some inputs) names limit = λ flash. rests_start (known_of inputs flash) names limit
 
-none_left : {X : Type 0} (k : ℕ) (ss : List X) → length ss ≤ k → drop k ss ≡ []
-none_left zero [] h = refl
-none_left zero (x ∷ xs) h = absurd (omega (arith, h))
-none_left (suc k) [] h = refl
-none_left (suc k) (x ∷ xs) h = none_left k xs (omega (arith, h))
-
 -- all streams were read
 pub rests_all : {X : Type 0} (f : X → List ℕ) (contents : Option (List ℕ → Option (List ℕ))) (flash : Option (List ℕ)) (C : Mishap → Type 0) (ss : List X) (k limit room : ℕ) (whole : List ℕ) → length ss ≤ k → Rests contents (map f ss) limit (map f (drop k ss)) room whole
     → IsCaused (with_inputs contents flash) C (λ t. streams_known t limit (map f ss)) (Ok whole)
 rests_all f None flash C ss k limit room whole h due = inr tt
 rests_all f (Some inputs) flash C ss k limit room whole h due =
-    let left : map f (drop k ss) ≡ [] = ap (map f) (none_left k ss h) in
+    let left : map f (drop k ss) ≡ [] = ap (map f) (drop_all k ss h) in
     let is = (due flash).is ∙ ap (λ names. put_before whole (streams_known (known_of inputs flash) room names)) left ∙ ap Ok (append-nil whole) in
     inr (tt, is)
 
@@ -432,11 +421,11 @@ broken_by (Broken bytes) name limit given h = let short : nat_lt limit (length (
 
 pub broken_due : (contents : Option (List ℕ → Option (List ℕ))) (flash : Option (List ℕ)) (name : List ℕ) (limit given : ℕ) → given ≤ limit → DueBy {A = List ℕ} (with_inputs contents flash) (Failing name given) (λ t r. whole_known t limit name ≡ r) (reading_failed name)
 broken_due None flash name limit given h = tt
-broken_due (Some inputs) flash name limit given h = let here = name_is name in rw here (broken_by (input_found (inputs name)) name limit given h)
+broken_due (Some inputs) flash name limit given h = let here = same_as_itself name in rw here (broken_by (input_found (inputs name)) name limit given h)
 
 pub absent_due : (contents : Option (List ℕ → Option (List ℕ))) (flash : Option (List ℕ)) (name : List ℕ) (limit : ℕ) → DueBy {A = List ℕ} (with_inputs contents flash) (Lacking name) (λ t r. whole_known t limit name ≡ r) (missing name)
 absent_due None flash name limit = tt
-absent_due (Some inputs) flash name limit = let here = name_is name in rw here refl
+absent_due (Some inputs) flash name limit = let here = same_as_itself name in rw here refl
 
 -- the name is that of the last select
 pub asked_on : (name : List ℕ) (opened now : InputsState) → AsksForName name opened → now.asked ≡ opened.asked → IfSome now.asked (λ kept. kept ≡ name)
@@ -617,6 +606,16 @@ pub turn_unread : (old new : InputsState) (name : List ℕ) (left : ℕ) (event 
 turn_unread old new name left event (inl h) = inr (inr (inl h.0))
 turn_unread old new name left event (inr h) = inr (inr (inr h.0))
 
+-- an input that wasn't opened is no want of memory
+pub unopened_named : (old new : InputsState) (name : List ℕ) (event : Event) → Unopened old name new event → event ≢ no_memory
+unopened_named old new name event (inl h, s) e = let f : why.Missing ≡ why.NoMemory = ap (λ (x : Event). x.reason) (sym h.0 ∙ e) in absurd (cc)
+unopened_named old new name event (inr h, s) e = let f : why.ReadFault ≡ why.NoMemory = ap (λ (x : Event). x.reason) (sym h.0 ∙ e) in absurd (cc)
+
+-- an input that wasn't read to its end is no want of memory
+pub turn_named : (old new : InputsState) (name : List ℕ) (left : ℕ) (event : Event) → UnreadToEnd old name new left event → event ≢ no_memory
+turn_named old new name left event (inl h) e = let f : why.ReadFault ≡ why.NoMemory = ap (λ (x : Event). x.reason) (sym h.0 ∙ e) in absurd (cc)
+turn_named old new name left event (inr h) e = let f : why.TooLarge ≡ why.NoMemory = ap (λ (x : Event). x.reason) (sym h.0 ∙ e) in absurd (cc)
+
 pub want_unread : (old new : InputsState) (name : List ℕ) (limit : ℕ) (event : Event) → (event ≡ no_memory) ⊎ UnreadRest old name new limit event → IsUnread name event
 want_unread old new name limit event (inl e) = inl e
 want_unread old new name limit event (inr h) = turn_unread old new name limit event h.0
@@ -630,6 +629,10 @@ refused_by name bytes (Err (header.Field place)) event e = (place, cc)
 
 pub header_refused : (name bytes : List ℕ) (event : Event) → Err event ≡ data_in name bytes → IsUnplayed name event
 header_refused name bytes event e = inr (refused_by name bytes (header_at bytes) event e)
+
+-- a header that is refused is no want of memory
+pub header_named : (name bytes : List ℕ) (event : Event) → Err event ≡ data_in name bytes → event ≢ no_memory
+header_named name bytes event h e = let at = refused_by name bytes (header_at bytes) event h in let f : why.BadInput (input.Byte at.0) ≡ why.NoMemory = ap (λ (x : Event). x.reason) (sym at.1 ∙ e) in absurd (cc)
 
 -- a stream of several
 pub one_unplayed : {X : Type 0} (f : X → List ℕ) (ss : List X) (k : ℕ) (s : X) (name : List ℕ) (event : Event) → k < length ss → s ≡ get_or ss k s → name ≡ f s → IsUnplayed name event → IsOneUnplayed (map f ss) event

@@ -26,13 +26,13 @@ pub data AskedForm : Type 0 where
   ToMcs : (image : List ℕ) → AskedForm
   FromMcs : (text : List ℕ) → AskedForm
 
--- a form of one name
+-- a form of one name, where just one is given
 abbrev pub one_name : (List ℕ → AskedForm) → List (List ℕ) → Option AskedForm
 one_name form [] = None
 one_name form (name ∷ []) = Some (form name)
 one_name form (name ∷ next ∷ more) = None
 
--- a form of two names
+-- a form of two names, where just two are given
 abbrev pub two_names : (List ℕ → List ℕ → AskedForm) → List (List ℕ) → Option AskedForm
 two_names form [] = None
 two_names form (first ∷ []) = None
@@ -187,12 +187,12 @@ names_used (Updated name) = name ∷ []
 abbrev pub flash_names : Option AskedForm → List (List ℕ)
 flash_names form = names_used (flash_use form)
 
--- the name of the stream that a form lists as it reads it; every other form writes its whole text at its end
+-- of `list` the name of its stream, which is listed while it is read; every other form has none
 abbrev pub listed_by : Option AskedForm → Option (List ℕ)
 listed_by (Some (Listing stream)) = Some stream
 listed_by form = None
 
--- the name of the stream with which a form updates its flash; no other form writes a flash
+-- of `update` the name of the stream that its flash is updated with; every other form has none
 abbrev pub updated_by : Option AskedForm → Option (List ℕ)
 updated_by (Some (UpdatingFlash flash stream)) = Some stream
 updated_by form = None

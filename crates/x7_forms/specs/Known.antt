@@ -41,7 +41,8 @@ abbrev pub and_so : {A B : Type 0} → Result A Event → (A → Result B Event)
 and_so (Ok a) next = next a
 and_so (Err event) next = Err event
 
--- the data of a stream by what stands at its beginning: a header and its size, or why there is none
+-- the data of a stream, or the event of a header that is refused, by what stands at the beginning: a header and its
+-- size, or why there is none
 abbrev pub data_by : List ℕ → List ℕ → Result (HeaderContents × ℕ) HeaderFault → Result (List ℕ) Event
 data_by name bytes (Ok head) = Ok (drop head.1 bytes)
 data_by name bytes (Err header.Raw) = Ok bytes

@@ -19,7 +19,8 @@ status_number status.NoMemory = 8
 status_number status.TooLarge = 9
 status_number status.Differs = 11
 
--- the status of a whole text, by whether what it reports stopped
+-- the status of a whole text: `Stopped` where it reports a device at a fault, a scan that differed or a boot that no
+-- attempt started, and else `Done`
 abbrev pub text_status : Bool → Status
 text_status true = status.Stopped
 text_status false = status.Done

@@ -47,7 +47,7 @@ abbrev pub CameIn : InputStep → Mishap → Type 0
 CameIn step (Failing name given) = (given ≡ step.after.given) × FailsAmong step.names step.before step.after name
 CameIn step (Lacking name) = LacksAmong step.names step.before step.after name
 
--- the result of a call by what `value` makes of it, or by the event of its refusal
+-- the result of a call: what `value` makes of the value that it gave, or the event of its refusal
 abbrev pub result_by : {A B : Type 0} → (A → B) → Result A Refusal → Result B Event
 result_by value (Ok a) = Ok (value a)
 result_by value (Err refusal) = Err (event_of refusal)
@@ -58,8 +58,7 @@ abbrev pub DueBy : {A : Type 0} → Option Known → Mishap → (Known → Resul
 DueBy None mishap Due event = Unit {0}
 DueBy (Some known) mishap Due event = Due (with_mishap mishap known) (Err event)
 
--- The event reports a mishap that came, and where the contents are known it is due over them with
--- that mishap: it is the first event then.
+-- The event reports a mishap that came. Where the contents are known, the event is due over them with that mishap.
 pub record IsOfMishap (A : Type 0) (known : Option Known) (Came : Mishap → Type 0) (Due : Known → Result A Event → Type 0) (event : Event) : Type 0 where
   pub mishap : Mishap
   pub came : Came mishap
@@ -82,8 +81,8 @@ abbrev pub IsDecided : {A : Type 0} → Result A Event → Type 0
 IsDecided (Ok a) = Unit {0}
 IsDecided (Err event) = DecidedBy (cause_of_event event)
 
--- Contents that are not known may bring about an event of this cause: it lies in them. Which name it has, and which
--- reason, a step says by a clause of its own.
+-- Contents that are not known may bring about an event of this cause. Which name the event has, and which reason, is
+-- not said here.
 abbrev pub PossibleBy : ReasonCause → Type 0
 PossibleBy Contents = Unit {0}
 PossibleBy _ = ⊥
@@ -138,14 +137,17 @@ IsOneUnplayed names event = (event ≡ no_memory) ⊎ ((name : List ℕ) × (Amo
 
 -- ---- steps that read
 
--- a step reads an input whole, of at most `limit` bytes
+-- what a step that reads an input whole, which may have `limit` bytes, comes to: its bytes, or an event in place of
+-- them
 abbrev pub ReadsWhole : InputsState → InputsState → ℕ → List ℕ → Result (List ℕ) Event → Type 0
 ReadsWhole old new limit name got = AnswersAs (step_over (name ∷ []) old new) (λ known. whole_known known limit name) got
 
--- a step reads a stream of at most `limit` bytes, and keeps its data
+-- what a step that reads a stream, which may have `limit` bytes, comes to: its data and what is left of the limit, or
+-- an event in place of them
 abbrev pub ReadsStream : InputsState → InputsState → ℕ → List ℕ → Result StreamRead Event → Type 0
 ReadsStream old new limit name got = AnswersAs (step_over (name ∷ []) old new) (λ known. stream_known known limit name) got
 
--- a step reads the data of streams, one after the other, which are within the limit of one stream together
+-- what a step that reads streams one after the other, within the limit of one stream together, comes to: their data, or
+-- an event in place of them
 abbrev pub ReadsStreams : InputsState → InputsState → List (List ℕ) → Result (List ℕ) Event → Type 0
 ReadsStreams old new names got = AnswersAs (step_over names old new) (λ known. streams_known known stream_limit names) got

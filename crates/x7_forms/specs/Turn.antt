@@ -1,5 +1,6 @@
--- Inputs that are read turn by turn (this project's choice). A turn reads as many bytes as a buffer holds, or fewer: up
--- to the input's end, and at most one byte over its limit. What it read is used before the next turn.
+-- Inputs that are read turn by turn, and the beginning of a stream, up to where its header is judged (this project's
+-- choice). A turn reads as many bytes as a buffer holds, or fewer: up to the input's end, and at most one byte over its
+-- limit. What it read is used before the next turn. The open input is the one that is selected.
 use Rattle.std.specs.Prelude.{◌≡◌, ◌≢◌, ◌<◌, ◌≤◌, ◌⊎◌, ◌++◌, ℕ, Bool, true, false, List, [], Some, Ok, Err, IfSome, drop, length, take, ◌+◌}
 use Rattle.x7_words.specs.Input.{InputsState, AsksAtMost, AsksForName, AsksOnce, AtEnd, InputsFail, MissesInput, InputsStay, TakesInput, preceded}
 use Rattle.x7_header.specs.Header.{HeaderContents, EndsInHeader, HasOtherLetterAt, FitHeaderFields, fixed_bytes, fixed_size, header_bytes, longest_header}
@@ -49,8 +50,8 @@ pub record GivesAtMost (old : InputsState) (most : ℕ) (new : InputsState) : Ty
   pub given : new.given ≤ old.given + most
   pub stays : InputsStay old new
 
--- as `GivesAtMost` says, of the selected input, of which `left` bytes are within the limit, at most one byte over it
--- was given
+-- no input was asked for; of the selected one, of which `left` bytes were within its limit, at most one byte over the
+-- limit was given; its end was read once at most, and every input keeps its bytes
 abbrev pub GivesWithinLimit : InputsState → ℕ → InputsState → Type 0
 GivesWithinLimit old left new = GivesAtMost old (left + 1) new
 
@@ -74,8 +75,8 @@ pub record AsksOnlyFor (old : InputsState) (name : List ℕ) (limit : ℕ) (new 
   pub once : AsksAtMost old 1 new
   pub stays : InputsStay old new
 
--- the first `count` bytes of a buffer are the next bytes of the open input; where they don't fill it, the input ends
--- after them, and else no end was read
+-- the first `count` bytes of a buffer are the next bytes of the open input; where they don't fill the buffer, the input
+-- ends after them, and else no end was read
 pub record FillsBuffer (old : InputsState) (count : ℕ) (buffer : List ℕ) (new : InputsState) : Type 0 where
   pub takes : TakesInput old (take count buffer) new
   pub within : count ≤ length buffer
@@ -100,8 +101,8 @@ UnreadToEnd old name new left event =
     ((event ≡ reading_failed name) × BreaksWithin old (left + 1) new)
     ⊎ ((event ≡ too_large name) × ((piece : List ℕ) × ((old.rest ≡ preceded piece new.rest) × (length piece ≡ left + 1))))
 
--- a turn of at most `size` bytes of the open input wasn't read: it failed before as many were given, or the limit, of
--- which `left` bytes were left, was passed within them
+-- a turn of at most `size` bytes of the open input wasn't read: the input failed before `size` bytes were given, or the
+-- turn passed the limit, of which `left` bytes were left
 pub record StopsTurn (old : InputsState) (name : List ℕ) (left size : ℕ) (new : InputsState) (event : Event) : Type 0 where
   pub unread : UnreadToEnd old name new left event
   pub fails_early : event ≡ reading_failed name → new.given < old.given + size
@@ -131,7 +132,8 @@ DataBeginAt bytes start =
     ((x : HeaderContents) × FitHeaderFields x × (bytes ≡ header_bytes x ++ drop start bytes) × (start ≡ length (header_bytes x)))
     ⊎ ((start ≡ 0) × ((rest : List ℕ) → bytes ≢ fixed_bytes ++ rest))
 
--- no byte after a header is held, and where there is none, no more than the fixed bytes, which show it
+-- the bytes of a beginning, whose data begin at `start`, end with the header; without a header (`start` is 0) they are
+-- at most as many as a header's fixed bytes, by which it is seen that there is none
 abbrev pub HoldsFew : List ℕ → ℕ → Type 0
 HoldsFew bytes start = (start ≡ length bytes) ⊎ ((start ≡ 0) × (length bytes ≤ fixed_size))
 
@@ -176,12 +178,13 @@ pub record ReadsBeginning (first : BeginningData) (old new : InputsState) : Type
   pub holds_few : HoldsFew first.bytes first.start
   pub begins : IsBeginning first.bytes first.last first.line first.start
 
--- whatever follows `bytes`, the first of a stream (nothing where they are the last), its header is refused at the byte
--- `place`, from 0
-abbrev pub IsRefused : List ℕ → Bool → ℕ → Type 0
-IsRefused bytes last place = (rest : List ℕ) → FollowsUnlessLast last rest → stream_listing (bytes ++ rest) ≡ Err place
+-- whatever follows `bytes`, the first bytes of a stream (nothing where they are the last), the header is refused at
+-- `place`: a byte, from 0, or the stream's length where it ends inside the header
+abbrev pub IsHeaderRefused : List ℕ → Bool → ℕ → Type 0
+IsHeaderRefused bytes last place = (rest : List ℕ) → FollowsUnlessLast last rest → stream_listing (bytes ++ rest) ≡ Err place
 
--- the first bytes of a stream, read up to a byte at which its header is refused
+-- the first bytes of a stream whose header is refused at `place`, a byte, from 0, or the stream's length where it ends
+-- inside the header
 pub record IsBadBeginning (old new : InputsState) (name : List ℕ) (event : Event) : Type 0 where
   pub place : ℕ
   pub bytes : List ℕ
@@ -189,7 +192,7 @@ pub record IsBadBeginning (old new : InputsState) (name : List ℕ) (event : Eve
   pub reports : event ≡ bad_input name (input.Byte place)
   pub taken : old.rest ≡ preceded bytes new.rest
   pub end : last ≡ true → AtEnd new.rest
-  pub refused : IsRefused bytes last place
+  pub refused : IsHeaderRefused bytes last place
   -- no byte after the one at which the header is refused
   pub no_byte_after : length bytes ≤ place + 1
 
@@ -198,7 +201,8 @@ pub record IsBadBeginning (old new : InputsState) (name : List ℕ) (event : Eve
 abbrev pub NoLetterGiven : InputsState → InputsState → Type 0
 NoLetterGiven old new = (bytes : List ℕ) (place : ℕ) → old.rest ≡ Some bytes → HasOtherLetterAt bytes place → new.given ≤ old.given + place
 
--- a stream's beginning was not read, since the inputs failed before its header was judged
+-- a stream's beginning was not read, since the inputs failed within the limit of a stream; no wrong letter of its
+-- header was given (`NoLetterGiven`)
 abbrev pub BreaksBeginning : InputsState → List ℕ → InputsState → Event → Type 0
 BreaksBeginning old name new event = (event ≡ reading_failed name) × BreaksWithin old (stream_limit + 1) new × (new.asked ≡ old.asked) × NoLetterGiven old new
 

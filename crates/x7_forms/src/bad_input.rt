@@ -1,7 +1,8 @@
 //! Why an input is refused.
 
-/// Why an input has no reading, what the part lacks of what is asked of it, or why a flash can't be updated, or a flash
-/// or an image can't hold the stream. Lines count from 1, bytes and places in a flash from 0.
+/// Why an input has no reading or comes to nothing that can be written, what the part lacks of what is asked of it, or
+/// why a flash can't be updated, or a flash or an image can't hold the stream. Lines count from 1, bytes and places in
+/// a flash from 0.
 #[derive(Clone, Copy, Drop)]
 pub enum InputFault {
     /// The byte of a stream's header that should be a field's letter and is not, or the
@@ -11,7 +12,7 @@ pub enum InputFault {
     Line(u64),
     /// The first line at which the result passes its limit.
     LongLine(u64),
-    /// The first line with a record whose last byte isn't the one that makes the sum of its bytes 0.
+    /// The first line with a record whose last byte isn't the one that makes the sum of its bytes 0, modulo 256.
     Sum {
         /// The line.
         line: u64,

@@ -3,7 +3,7 @@ ghost use Rattle.std.specs.Prelude.{◌≡◌, ◌≤◌, ◌+◌, ◌⊎◌, �
 ghost use Rattle.x7_header.specs.Header.{fixed_size};
 ghost use Rattle.x7_forms.specs.Event.{bad_input, event_of, no_memory};
 ghost use Rattle.x7_forms.specs.Known.{stream_limit};
-ghost use Rattle.x7_forms.specs.Turn.{GivesWithinLimit, HeaderGoesOn, IsJudged, IsRefused, ReadsBeginning, RefusedAt, UnreadBeginning, beginning_data, longest_beginning};
+ghost use Rattle.x7_forms.specs.Turn.{GivesWithinLimit, HeaderGoesOn, IsJudged, IsHeaderRefused, ReadsBeginning, RefusedAt, UnreadBeginning, beginning_data, longest_beginning};
 ghost use Rattle.x7_forms.specs.declared.bad_input.InputFault.TheVariants as input;
 
 use crate::read::{STREAM_LIMIT, TURN_SIZE, next_turn, refused_at};
@@ -34,7 +34,7 @@ fn judge<'w>(
     requires long { last ≡ false → fixed_size ≤ length bytes.now }
     ensures judged { IfOk result (λ found. MatchOption found (HeaderGoesOn bytes.now last) (λ judged. IsJudged bytes.now last judged.line.items judged.start)) }
     ensures refused { IfErr result (λ r. (event_of r ≡ no_memory)
-        ⊎ ((place : ℕ) × (event_of r ≡ bad_input name.now (input.Byte place)) × IsRefused bytes.now last place × RefusedAt bytes.now place)) }
+        ⊎ ((place : ℕ) × (event_of r ≡ bad_input name.now (input.Byte place)) × IsHeaderRefused bytes.now last place × RefusedAt bytes.now place)) }
 {
     match header_of(bytes) {
         Ok(head) => Ok(Some(Judged {
@@ -79,15 +79,16 @@ impl Drop for Beginning {
 }
 
 /// Reads the first bytes of the open input until its header is judged, field by field: none after a header, nor after
-/// another byte in the place of a field's letter.
+/// another byte in the place of a field's letter. A refusal says that the header is cut or has such a byte, that a read
+/// failed, or that memory was wanting.
 pub fn read_beginning<'w, I: Inputs>(
     alloc: Global,
     inputs: &mut I,
-    stream: &'w str,
+    stream_name: &'w str,
 ) -> Result<Beginning, Refusal<'w>>
     requires selected { (I.state inputs.old).selected ≡ true }
     ensures begins { IfOk result (λ first. ReadsBeginning (beginning_data first) (I.state inputs.old) (I.state inputs.new)) }
-    ensures refused { IfErr result (λ r. UnreadBeginning (I.state inputs.old) stream.now (I.state inputs.new) (event_of r)) }
+    ensures refused { IfErr result (λ r. UnreadBeginning (I.state inputs.old) stream_name.now (I.state inputs.new) (event_of r)) }
     ensures gives_few { GivesWithinLimit (I.state inputs.old) stream_limit (I.state inputs.new) }
     ensures short { (I.state inputs.new).given ≤ (I.state inputs.old).given + longest_beginning }
 {
@@ -96,9 +97,9 @@ pub fn read_beginning<'w, I: Inputs>(
     loop {
         let count = wanted(&bytes).min(TURN_SIZE);
         let left = STREAM_LIMIT - bytes.len();
-        let turn = next_turn(inputs, stream, left, &mut piece[..count])?;
+        let turn = next_turn(inputs, stream_name, left, &mut piece[..count])?;
         put_text(&mut bytes, &piece[..turn.count])?;
-        if let Some(judged) = judge(alloc, stream, &bytes, turn.last)? {
+        if let Some(judged) = judge(alloc, stream_name, &bytes, turn.last)? {
             return Ok(Beginning {
                 bytes,
                 line: judged.line,

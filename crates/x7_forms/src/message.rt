@@ -20,7 +20,7 @@ pub(crate) enum Detail {
     Number(u64),
     /// A word of 32 bits, in eight hexadecimal digits.
     Word(u32),
-    /// A line, the byte that would make the sum of its bytes 0, and the one that stands there.
+    /// A line, the byte that would make the sum of its bytes 0, modulo 256, and the one that stands there.
     Sum {
         /// The line.
         line: u64,

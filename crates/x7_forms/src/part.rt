@@ -1,6 +1,6 @@
 //! The part of a part file.
-ghost use Rattle.std.specs.Prelude.{◌≡◌, [], ◌∷◌, IfErr};
-ghost use Rattle.x7_forms.specs.Event.{event_of};
+ghost use Rattle.std.specs.Prelude.{◌≡◌, [], ◌∷◌, IfErr, true};
+ghost use Rattle.x7_forms.specs.Event.{event_of, no_memory};
 ghost use Rattle.x7_forms.specs.Known.{part_event, part_known, part_limit};
 ghost use Rattle.x7_forms.specs.Turn.{AsksOnlyFor};
 ghost use Rattle.x7_forms.specs.Step.{AnswersAs, IsNoPart, result_by, step_over};
@@ -24,7 +24,8 @@ fn refusal_of<'w>(name: &'w str, fault: PartFault) -> Refusal<'w>
     }
 }
 
-/// Reads the part file of this name, and gives its part.
+/// Reads the part file of this name, and gives its part. A refusal says that the file isn't read, that its text is
+/// refused, or that memory was wanting, which it may be only once the file is open.
 pub fn read_part<'w, I: Inputs>(
     alloc: Global,
     inputs: &mut I,
@@ -33,6 +34,7 @@ pub fn read_part<'w, I: Inputs>(
     ensures caused { AnswersAs (step_over (name.now ∷ []) (I.state inputs.old) (I.state inputs.new))
         (λ known. part_known known name.now) (result_by (λ part. part) result) }
     ensures named { IfErr result (λ r. IsNoPart name.now (event_of r)) }
+    ensures memory { IfErr result (λ r. event_of r ≡ no_memory → (I.state inputs.new).selected ≡ true) }
     ensures asks { AsksOnlyFor (I.state inputs.old) name.now part_limit (I.state inputs.new) }
 {
     let text = read_whole(alloc, inputs, name, PART_LIMIT)?;

@@ -64,7 +64,8 @@ fn fill<I: Inputs>(inputs: &mut I, buffer: &mut [u8]) -> Result<usize, Failed>
     Ok(at)
 }
 
-/// Opens an input, of which nothing is read yet.
+/// Opens the input of this name, of which nothing is read yet. A refusal says that it isn't there, or that the inputs
+/// failed.
 pub fn open<'w, I: Inputs>(inputs: &mut I, name: &'w str) -> Result<(), Refusal<'w>>
     ensures opened { OnOk result (OpensInput (I.state inputs.old) name.now (I.state inputs.new)) }
     ensures refused { IfErr result (λ r. Unopened (I.state inputs.old) name.now (I.state inputs.new) (event_of r)) }
@@ -92,7 +93,8 @@ pub struct Turn {
     pub last: bool,
 }
 
-/// Reads the next turn of the open input, of which `left` bytes more are within the limit.
+/// Reads the next turn of the open input, of which `left` bytes more are within the limit. A refusal, with the input's
+/// name, says that a read failed, or that the input is over its limit.
 pub fn next_turn<'w, I: Inputs>(
     inputs: &mut I,
     name: &'w str,
@@ -126,8 +128,8 @@ pub fn next_turn<'w, I: Inputs>(
     })
 }
 
-/// Appends the rest of the open input to `onto`, of which `limit` bytes are within the limit. Of a larger rest one byte
-/// more is read at most.
+/// Appends to `onto` the rest of the open input, of which `limit` bytes are within the limit. Of a larger rest one byte
+/// more is read at most. The input stays open where all went well or memory was wanting.
 fn read_rest<'w, I: Inputs>(
     inputs: &mut I,
     name: &'w str,
@@ -137,6 +139,8 @@ fn read_rest<'w, I: Inputs>(
     requires selected { (I.state inputs.old).selected ≡ true }
     ensures read { OnOk result (AppendsRest (I.state inputs.old) (I.state inputs.new) limit onto.old.items onto.new.items) }
     ensures refused { IfErr result (λ r. (event_of r ≡ no_memory) ⊎ UnreadRest (I.state inputs.old) name.now (I.state inputs.new) limit (event_of r)) }
+    ensures open { OnOk result ((I.state inputs.new).selected ≡ true) }
+    ensures memory { IfErr result (λ r. event_of r ≡ no_memory → (I.state inputs.new).selected ≡ true) }
     ensures gives_few { GivesWithinLimit (I.state inputs.old) limit (I.state inputs.new) }
 {
     let mut piece = [0u8; TURN_SIZE];
@@ -151,7 +155,8 @@ fn read_rest<'w, I: Inputs>(
     }
 }
 
-/// All bytes of an input that has at most `limit` of them.
+/// All bytes of an input that has at most `limit` of them. A refusal says that the input isn't there, that it failed or
+/// has more, or that memory was wanting. The input stays open where all went well or memory was wanting.
 pub fn read_whole<'w, I: Inputs>(
     alloc: Global,
     inputs: &mut I,
@@ -160,6 +165,8 @@ pub fn read_whole<'w, I: Inputs>(
 ) -> Result<Vec<u8>, Refusal<'w>>
     ensures caused { ReadsWhole (I.state inputs.old) (I.state inputs.new) limit name.now (result_by (λ whole. whole.items) result) }
     ensures named { IfErr result (λ r. IsUnread name.now (event_of r)) }
+    ensures open { OnOk result ((I.state inputs.new).selected ≡ true) }
+    ensures memory { IfErr result (λ r. event_of r ≡ no_memory → (I.state inputs.new).selected ≡ true) }
     ensures within { IfOk result (λ whole. vec_len whole ≤ limit) }
     ensures asks { AsksOnlyFor (I.state inputs.old) name.now limit (I.state inputs.new) }
 {
@@ -170,7 +177,8 @@ pub fn read_whole<'w, I: Inputs>(
 }
 
 /// Reads the rest of the open input to its end, of which `limit` bytes are within the limit; where `last` says that the
-/// turn before was the last, there is no rest.
+/// turn before was the last, there is no rest. A refusal, with the input's name, says that a read failed, or that the
+/// rest is over the limit.
 pub fn skip_rest<'w, I: Inputs>(
     inputs: &mut I,
     name: &'w str,

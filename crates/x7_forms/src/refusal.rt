@@ -17,8 +17,8 @@ pub enum Why {
     Missing,
     /// A part file was refused.
     BadPart(PartFault),
-    /// An input has no reading, the part lacks what is asked of it (the part file is named then), a flash can't be
-    /// updated, or a flash or an image can't hold the stream.
+    /// An input has no reading, or comes to nothing that can be written; the part lacks what is asked of it (the part
+    /// file is named then); a flash can't be updated, or a flash or an image can't hold the stream.
     BadInput(InputFault),
     /// An input or the flash could not be opened or read.
     ReadFault,

@@ -15,8 +15,8 @@ pub enum Status {
     Missing,
     /// A part file was refused.
     BadPart,
-    /// An input has no reading, the part lacks what is asked of it (the part file is named then), a flash can't be
-    /// updated, or a flash or an image can't hold the stream.
+    /// An input has no reading, or comes to nothing that can be written; the part lacks what is asked of it (the part
+    /// file is named then); a flash can't be updated, or a flash or an image can't hold the stream.
     BadInput,
     /// An input or the flash could not be opened or read.
     ReadFault,
@@ -33,7 +33,7 @@ pub enum Status {
 impl Status {
     ghost use Rattle.x7_forms.specs.Status.{status_number, text_status};
 
-    /// The status after a whole text, by whether what it reports stopped: `Stopped` says at what.
+    /// The status after a whole text: `Stopped` where what it reports stopped, and else `Done`.
     pub fn of_text(stopped: bool) -> Status
         ensures { result ≡ text_status stopped }
     {

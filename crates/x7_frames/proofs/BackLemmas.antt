@@ -34,7 +34,7 @@ head_free far = free_both (codes "frame ") (hex_word far ++ space_byte ∷ []) r
 
 -- ---- lines
 
--- a line without its end
+-- the line of a row, without its line end
 bare : PlanRow → List ℕ
 bare row = frame_head row.far ++ flat_map hex_word row.words
 

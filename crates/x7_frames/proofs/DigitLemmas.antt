@@ -1,10 +1,9 @@
 -- Digits of either case in parts, and in blocks.
-use Rattle.std.proofs.Common.{◌≡◌, ℕ, zero, suc, ◌+◌, ◌*◌, ◌/◌, ◌<◌, Bool, true, false, List, [], ◌∷◌, ◌++◌, length, get_or, take, drop, Option, Some, None, MatchBool, refl, sym, ap, ap₂, ◌∙◌, ◌-◌, append-nil, arith}
+use Rattle.std.proofs.Common.{◌≡◌, ℕ, ◌+◌, ◌*◌, ◌/◌, ◌<◌, Bool, true, false, List, [], ◌∷◌, ◌++◌, length, get_or, take, drop, Option, Some, None, MatchBool, refl, sym, ap, ap₂, ◌∙◌, ◌-◌, append-nil, arith}
 use Rattle.std.proofs.lemmas.Option.{none-some, same_Some}
-use Rattle.std.proofs.Math.Nat.{mul-suc}
 use Rattle.std.proofs.Math.Seq.{take-add}
 use Rattle.std.proofs.Math.ListN.{drop_of_length-le}
-use Rattle.std.proofs.lemmas.List.{drop-drop, length-drop, take-append-drop, take_all}
+use Rattle.std.proofs.lemmas.List.{length-drop, take-append-drop, take_all}
 use Rattle.std.specs.List.{flat_map}
 use Rattle.std.specs.Simd.{first_chunks}
 use Rattle.x7_words.specs.Word.{AreBytes}
@@ -12,6 +11,7 @@ use Rattle.x7_text.specs.Digits.{hex_byte}
 use Rattle.x7_words.specs.Characters.{number_of_digit}
 use Rattle.x7_text.specs.EitherCase.{byte_of, byte_before, bytes_of_pairs}
 use Rattle.x7_text.proofs.CaseLemmas.{pairs_back}
+use Rattle.x7_words.proofs.ListLemmas.{chunk_at}
 
 -- ---- digits in two parts
 
@@ -47,7 +47,7 @@ put_rest n bytes new =
     let left : length (drop n bytes) ≡ length bytes - n = length-drop n bytes in
     ap (λ (t : List ℕ). take n bytes ++ t) (ap (λ (t : List ℕ). new ++ t) (drop_of_length-le (drop n bytes) (omega (arith, left))) ∙ append-nil new)
 
--- what is read of the rest, after bytes that were read
+-- digits of which the first 2 * n give n bytes: what the rest gives, and what all of them give
 pub read_whole : (ds bytes new : List ℕ) (n : ℕ) (b : Bool) → bytes_of_pairs (take (2 * n) ds) ≡ Some (take n bytes)
     → MatchBool b (bytes_of_pairs (take (length ds - 2 * n) (drop (2 * n) ds)) ≡ Some new) (bytes_of_pairs (take (length ds - 2 * n) (drop (2 * n) ds)) ≡ None)
     → MatchBool b (bytes_of_pairs ds ≡ Some (take n bytes ++ (new ++ drop (length bytes - n) (drop n bytes)))) (bytes_of_pairs ds ≡ None)
@@ -68,13 +68,7 @@ read_whole ds bytes new n b e f = by b f
 
 -- ---- digits in blocks
 
-chunk_at : (n m k : ℕ) (xs d : List ℕ) → k < m → get_or (first_chunks n m xs) k d ≡ take n (drop (n * k) xs)
-chunk_at n zero k xs d h = absurd (omega (arith, h))
-chunk_at n (suc m) zero xs d h = ap (λ (j : ℕ). take n (drop j xs)) (let e : 0 ≡ n * 0 = omega arith in e)
-chunk_at n (suc m) (suc k) xs d h =
-    chunk_at n m k (drop n xs) d (omega (arith, h)) ∙ ap (take n) (drop-drop (n * k) n xs ∙ ap (λ (j : ℕ). drop j xs) (let m : n * suc k ≡ n * k + n = mul-suc n k in let e : n + n * k ≡ n * suc k = omega (arith, m) in e))
-
--- a block more
+-- blocks of 64 digits, 32 bytes each, and one block more
 pub block_read : (ds old new read : List ℕ) (blocks : List (List ℕ)) (k : ℕ) (d : List ℕ) → blocks ≡ first_chunks 64 (length ds / 64) ds → k < length blocks → length blocks ≡ length ds / 64
     → get_or blocks k d ≡ flat_map hex_byte read → AreBytes read → bytes_of_pairs (take (64 * k) ds) ≡ Some (take (32 * k) old) → take (32 * k + 32) new ≡ take (32 * k) old ++ read
     → bytes_of_pairs (take (64 * (k + 1)) ds) ≡ Some (take (32 * (k + 1)) new)
@@ -86,7 +80,7 @@ block_read ds old new read blocks k d e h n at fits was now =
     ap bytes_of_pairs (prefix ∙ ap (λ (t : List ℕ). take (64 * k) ds ++ t) here) ∙ pairs_on (take (64 * k) ds) (flat_map hex_byte read) (take (32 * k) old) was ∙ ap (after (take (32 * k) old)) (pairs_back read fits)
     ∙ ap Some (sym now ∙ ap (λ (j : ℕ). take j new) (let j : 32 * k + 32 ≡ 32 * (k + 1) = omega arith in j))
 
--- a block that is none of upper-case digits, and the digits from it on
+-- where block k, from 0, isn't 64 upper-case digits, the 64 digits from digit n on aren't
 pub no_block_read : (ds : List ℕ) (blocks : List (List ℕ)) (k n : ℕ) → blocks ≡ first_chunks 64 (length ds / 64) ds → k < length blocks → length blocks ≡ length ds / 64 → n ≡ 64 * k
     → ((bs : List ℕ) → AreBytes bs → get_or blocks k [] ≡ flat_map hex_byte bs → ⊥) → (bs : List ℕ) → AreBytes bs → take 64 (drop n ds) ≡ flat_map hex_byte bs → ⊥
 no_block_read ds blocks k n e h long at none bs fits is =

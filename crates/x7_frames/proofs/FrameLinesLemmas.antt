@@ -24,7 +24,7 @@ module _ (part : PartData) (a : RowsRead) (lines : List (List ℕ)) (line : List
   line_read (Ok _) b same takes fails = line_good b same takes
   line_read (Err f) b same takes fails = λ more. line_refused f fails (split more)
 
-  -- memory is wanting at a good line
+  -- the lines stay good with a line that is good after them
   pub line_wants : IsGoodLine a.part a.rows line → StayGoodWith part lines line
   line_wants good = (good.0, good_next part lines line a.rows good.0 t.1 (subst (λ (p : PartData). TakesLine p line a.rows good.0) t.0 good.1))
 
@@ -32,7 +32,7 @@ module _ (part : PartData) (a : RowsRead) (lines : List (List ℕ)) (line : List
   line_wanted (Ok _) good = tt
   line_wanted (Err f) good = λ want. line_wants (good want)
 
--- a text that is there whole
+-- what the reading of a text that is there whole came to
 pub whole_read : {P : Type 0} (value : P → PlanData) (part : PartData) (lines : RowsRead) (text : List ℕ) (r : Result P FramesFault) → lines.part ≡ part
     → MatchResult r (λ plan. ComeTo lines.part (Ok (value plan)) (split text)) (λ f. HasFramesFault lines.part f (split text)) → MatchResult r (λ plan. IsPlanOf part text (Ok (value plan))) (λ f. (f ≡ fault.NoMemory) ⊎ IsPlanOf part text (Err f))
 whole_read value part lines text (Ok plan) is h = subst (λ (q : PartData). IsPlanOf q text (Ok (value plan))) is (h text refl)

@@ -59,7 +59,7 @@ no_rows_apart i j d lt h e = absurd (omega arith)
 pub no_rows_good : (part : PartData) → AreGood part [] []
 no_rows_good part = record { read = no_line (frame_words part); addresses = All-nil (λ r. Contains (addresses_in part) r.far); apart = no_rows_apart }
 
--- what a line at fault tells of the text
+-- the fault of line n, which good lines reach, is the fault of the text
 pub fault_of : (part : PartData) (text line : List ℕ) (rows : List PlanRow) (n : ℕ) (f : FramesFault) → ReachesLine part text n line rows → IsFaultAt part rows n line f → IsPlanOf part text (Err f)
 fault_of part text line rows n (fault.Line m) r h = (line, rows, subst (λ k. ReachesLine part text k line rows) (sym h.0) r, h.1)
 fault_of part text line rows n (fault.Address m) r h = (line, rows, subst (λ k. ReachesLine part text k line rows) (sym h.0) r, h.1)

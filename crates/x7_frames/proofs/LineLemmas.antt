@@ -5,7 +5,7 @@ use Rattle.x7_memory.specs.Plan.{PlanRow}
 use Rattle.x7_frames.specs.FramesText.{frame_head, IsFrameLine}
 use Rattle.x7_text.proofs.CaseLemmas.{pairs_long}
 
--- how many digits a frame's line has
+-- how many digits a frame's line has after its head: two for each byte, four bytes for each word
 digits_long : (width : ℕ) (line : List ℕ) (row : PlanRow) (is : IsFrameLine width line row) → length is.digits ≡ 2 * (4 * width)
 digits_long width line row is = pairs_long is.digits is.bytes is.read ∙ ap (λ (n : ℕ). 2 * n) is.long
 

@@ -13,7 +13,7 @@ use Rattle.x7_frames.proofs.OneLemmas.{foreign_there, no_line_there, one_row, on
 abbrev Lines : Type 0
 Lines = List (List ℕ)
 
--- lines before a line in two ways: the shorter begin the longer
+-- `longer` is the lines `before`, then `line`, then others
 record Begins (before longer : Lines) (line : List ℕ) : Type 0 where
   between : Lines
   split : longer ≡ before ++ line ∷ between
@@ -28,7 +28,7 @@ begins (x ∷ before) after (y ∷ longer) later line other e less =
     let rest : Begins before longer line = begins before after longer later line other tail (omega (arith, less)) in
     record { between = rest.between; split = ap₂ (λ (l : List ℕ) (ls : Lines). l ∷ ls) (sym head) rest.split }
 
--- as many lines before it: the same lines, and the same line
+-- two cuts of the same lines, each with as many lines before a line: these are the same lines, and it is the same line
 same_lines : (before after others later : Lines) (line other : List ℕ) → before ++ line ∷ after ≡ others ++ other ∷ later → length before ≡ length others → (before ≡ others) × (line ≡ other)
 same_lines [] after [] later line other e long = (refl, (let head : line ≡ other = cc in head))
 same_lines [] after (y ∷ others) later line other e long = absurd (omega (arith, long))
@@ -77,7 +77,7 @@ foreign_or_repeated part rows line f r =
     let same : r.row ≡ f.row = one_row (frame_words part) line r.row f.row r.frame f.frame in
     f.foreign (subst (λ (row : PlanRow). Contains (addresses_in part) row.far) same r.address)
 
--- one thing is wrong with a line
+-- a line after these rows has one fault at most
 one_kind : (part : PartData) (rows : List PlanRow) (line : List ℕ) (f g : FramesFault) → IsWrong part rows line f → IsWrong part rows line g → place_of f ≡ place_of g → f ≡ g
 one_kind part rows line (fault.Line n) (fault.Line m) a b e = ap fault.Line e
 one_kind part rows line (fault.Line n) (fault.Address m) a b e = absurd (a.no_frame b.row b.frame)

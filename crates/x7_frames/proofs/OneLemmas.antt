@@ -89,7 +89,7 @@ module _ (part : PartData) (before after : List (List ℕ)) (line : List ℕ) (r
   same_rows : in_parts.before ≡ rows
   same_rows = one_rows (frame_words part) before before in_parts.before rows refl in_parts.prefix good.read
 
-  -- the line means nothing, or its row is after the others
+  -- the line means nothing, or its row comes right after the rows of the lines before it
   next_row : (means_nothing line ≡ true) ⊎ ((row : PlanRow) × (rest : List PlanRow) × (all ≡ rows ++ row ∷ rest) × IsFrameLine (frame_words part) line row)
   next_row =
       elim (first_line (frame_words part) line after (line ∷ after) in_parts.after refl in_parts.back) [
@@ -141,12 +141,12 @@ module _ (part : PartData) (before after : List (List ℕ)) (line : List ℕ) (r
 head_low : (x : PlanRow) (xs : List PlanRow) (k : ℕ) (d : PlanRow) → AreInOrder (x ∷ xs) → k < length xs → x.far < (get_or xs k d).far
 head_low x xs k d order h = order 0 (suc k) d (omega arith) (omega arith)
 
--- an element of one that is no head is after the other's head
+-- a row of a list that hasn't the address of its head stands after the head
 after : (x y : PlanRow) (ys : List PlanRow) → Contains (y ∷ ys) x → (x.far ≡ y.far → ⊥) → Contains ys x
 after x y ys (zero, h, e) n = absurd (n (ap (λ r. r.far) (sym e)))
 after x y ys (suc k, h, e) n = (k, (omega arith), e)
 
--- the head of one list is not below that of the other
+-- no row of rows in order has an address below that of their head
 not_below : (x y : PlanRow) (ys : List PlanRow) → AreInOrder (y ∷ ys) → Contains (y ∷ ys) x → y.far ≤ x.far
 not_below x y ys order (zero, h, e) = let same = ap (λ r. r.far) e in omega arith
 not_below x y ys order (suc k, h, e) = let low = head_low y ys k x order (omega arith) in let same = ap (λ r. r.far) e in omega arith

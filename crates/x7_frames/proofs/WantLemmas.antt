@@ -30,7 +30,7 @@ up_to [] after more last line e = let head : last ≡ line = cc in ([], ap (λ (
 up_to (b ∷ before) after more last line e = let head : b ≡ line = cc in (before ++ last ∷ [], ap (λ (l : List ℕ). l ∷ (before ++ last ∷ [])) head)
 
 module _ (part : PartData) (r : ReaderState RowsRead) (text : List ℕ) (s : StandsFor (HasRows part) r text) where
-  -- the first line that ends in a piece is good
+  -- where memory may be wanting as a piece is taken, the first line that ends in it is good
   pub first_good : (piece line after : List ℕ) → WantsIn (HasRows part) (StayGoodWith part) s.lines piece → split piece ≡ line ∷ split after → IsGoodLine part r.taker.rows line
   first_good piece line after (inl w) e =
       let u = up_to w.before w.after (split after) w.line line (sym w.texts ∙ e) in
@@ -44,6 +44,6 @@ module _ (part : PartData) (r : ReaderState RowsRead) (text : List ℕ) (s : Sta
           let head : m ≡ line = cc in
           good_there part s.lines more line r.taker.rows h.taker.rows s.took.1 (subst (λ (l : List ℕ). AreGood part (s.lines ++ l ∷ more) h.taker.rows) head good)
 
-  -- the whole text has a plan
+  -- where memory may be wanting at the last line of the text, the text has a plan
   pub text_good : StayGoodWith part s.lines r.held → IsGoodText part text
   text_good w = good_text part text w.0 (subst (λ (ls : List (List ℕ)). AreGood part ls w.0) (sym s.cut) w.1)

@@ -8,14 +8,15 @@ use Rattle.x7_frames.specs.LineTaken.{HasMarks}
 use Rattle.x7_frames.specs.declared.fault.FramesFault.{FramesFault}
 use Rattle.x7_frames.specs.declared.fault.FramesFault.TheVariants as fault
 
--- rows and their width, the marks of their addresses, and the room for a frame's words are those of a part
+-- rows of which no two have one address, and what goes with them: their width in words, which is the part's, the marks
+-- of their addresses, and room for at least the words of a frame
 pub record AreSoundRows (part : PartData) (rows : List PlanRow) (width : ℕ) (marks : List Bool) (room : ℕ) : Type 0 where
   pub wide : width ≡ frame_words part
   pub marked : HasMarks part rows marks
   pub roomy : frame_words part ≤ room
   pub apart : AreApart rows
 
--- the rows of a part that lines gave so far
+-- a part, and the rows that the lines of a text for it gave so far
 pub record RowsRead : Type 0 where
   pub part : PartData
   pub rows : List PlanRow
@@ -28,10 +29,10 @@ HasRows part r lines = (r.part ≡ part) × AreGood part lines r.rows
 abbrev pub StayGoodWith : PartData → List (List ℕ) → List ℕ → Type 0
 StayGoodWith part lines line = (rows : List PlanRow) × AreGood part (lines ++ line ∷ []) rows
 
--- a text of these lines comes to this plan or this fault
+-- each text of these lines comes to this plan or this fault
 abbrev pub ComeTo : PartData → Result PlanData FramesFault → List (List ℕ) → Type 0
 ComeTo part r lines = (text : List ℕ) → split text ≡ lines → IsPlanOf part text r
 
--- a text of these lines has this fault; of want of memory nothing is said here
+-- each text of these lines has this fault; of want of memory nothing is said here
 abbrev pub HasFramesFault : PartData → FramesFault → List (List ℕ) → Type 0
 HasFramesFault part f lines = (f ≡ fault.NoMemory) ⊎ ComeTo part (Err f) lines

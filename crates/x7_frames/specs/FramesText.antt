@@ -12,15 +12,16 @@ use Rattle.x7_memory.specs.Plan.{PlanRow, PlanData, IsPlan, AreAddressed, AreApa
 use Rattle.x7_frames.specs.declared.fault.FramesFault.{FramesFault}
 use Rattle.x7_frames.specs.declared.fault.FramesFault.TheVariants as fault
 
--- what a frame's line begins with: `frame`, and the address in eight upper-case digits
+-- what a frame's line begins with: `frame`, a space, the address in eight upper-case hexadecimal digits, and a space
 abbrev pub frame_head : ℕ → List ℕ
 frame_head far = codes "frame " ++ (hex_word far ++ space_byte ∷ [])
 
--- a line isn't that of a frame with this many digits, whatever its address
+-- the line is no frame's head, whatever its address, with this many bytes after it
 abbrev pub HasNoFrameHead : ℕ → List ℕ → Type 0
 HasNoFrameHead digit_count line = (far : ℕ) (digits : List ℕ) → far < 2 ^ 32 → length digits ≡ digit_count → line ≡ frame_head far ++ digits → ⊥
 
--- the line of a frame: after its head the bytes of its words, the highest first, in digits of either case
+-- the line of a frame of `width` words, without its line end: after its head the bytes of its words, the highest byte
+-- of each first, in two hexadecimal digits of either case each
 pub record IsFrameLine (width : ℕ) (line : List ℕ) (row : PlanRow) : Type 0 where
   pub far : row.far < 2 ^ 32
   pub digits : List ℕ
@@ -30,7 +31,7 @@ pub record IsFrameLine (width : ℕ) (line : List ℕ) (row : PlanRow) : Type 0 
   pub long : length bytes ≡ 4 * width
   pub words : row.words ≡ words_of_bytes bytes
 
--- lines that mean nothing and, in order, those of the rows
+-- the lines of the rows, of `width` words each and in order, and anywhere among them lines that mean nothing
 pub data AreLinesOfRows : ℕ → List (List ℕ) → List PlanRow → Type 0 where
   no_line : (width : ℕ) → AreLinesOfRows width [] []
   no_frame : (width : ℕ) (line : List ℕ) (lines : List (List ℕ)) (rows : List PlanRow) → means_nothing line ≡ true →
@@ -38,7 +39,7 @@ pub data AreLinesOfRows : ℕ → List (List ℕ) → List PlanRow → Type 0 wh
   frame : (width : ℕ) (line : List ℕ) (lines : List (List ℕ)) (row : PlanRow) (rows : List PlanRow) → IsFrameLine width line row →
       AreLinesOfRows width lines rows → AreLinesOfRows width (line ∷ lines) (row ∷ rows)
 
--- good lines: their frames are the part's, and no two have one address
+-- good lines, and their rows: the frames have the part's width and stand at its addresses, no two at one address
 pub record AreGood (part : PartData) (lines : List (List ℕ)) (rows : List PlanRow) : Type 0 where
   pub read : AreLinesOfRows (frame_words part) lines rows
   pub addresses : AreAddressed part rows
@@ -60,18 +61,18 @@ pub record ReachesLine (part : PartData) (text : List ℕ) (n : ℕ) (line : Lis
   pub good : AreGood part before rows
   pub count : n ≡ length before + 1
 
--- a line is at fault: it has a meaning, and is no frame's line
+-- a line is at fault: it has a meaning, and is the line of no frame of `width` words
 pub record IsNoLine (width : ℕ) (line : List ℕ) : Type 0 where
   pub has_meaning : means_nothing line ≡ false
   pub no_frame : (row : PlanRow) → IsFrameLine width line row → ⊥
 
--- a line is at fault: its address is none of the part
+-- a line is at fault: it is a frame's line, and its address is none of the part
 pub record IsForeign (part : PartData) (line : List ℕ) : Type 0 where
   pub row : PlanRow
   pub frame : IsFrameLine (frame_words part) line row
   pub foreign : ¬ Contains (addresses_in part) row.far
 
--- a line is at fault after lines of these rows: one of them has its address
+-- a line is at fault after lines of these rows: it is a frame's line, at an address of the part that a row has
 pub record IsRepeated (part : PartData) (rows : List PlanRow) (line : List ℕ) : Type 0 where
   pub row : PlanRow
   pub frame : IsFrameLine (frame_words part) line row
@@ -94,10 +95,10 @@ IsGoodText part text = (plan : PlanData) × HasPlan part text plan
 abbrev pub HasPlanOrFault : PartData → List ℕ → Type 0
 HasPlanOrFault part text = (r : Result PlanData FramesFault) × IsPlanOf part text r
 
--- the line of a row, its end too, in upper case
+-- the line of a row, with its line end, its digits in upper case
 abbrev pub frame_line : PlanRow → List ℕ
 frame_line row = frame_head row.far ++ (flat_map hex_word row.words ++ line_end_byte ∷ [])
 
--- the text of a plan, in number order of the addresses
+-- the text of a plan: the line of each row, in the order of the rows
 abbrev pub plan_text : PlanData → List ℕ
 plan_text plan = flat_map frame_line plan.rows

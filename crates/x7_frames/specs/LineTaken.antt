@@ -8,7 +8,8 @@ use Rattle.x7_frames.specs.FramesText.{IsFrameLine, IsNoLine, IsForeign, IsRepea
 use Rattle.x7_frames.specs.declared.fault.FramesFault.{FramesFault}
 use Rattle.x7_frames.specs.declared.fault.FramesFault.TheVariants as fault
 
--- of addresses that rise, that of rank r is marked exactly where a row has its address
+-- of the part's addresses, which rise, there is a mark each: that of rank r, from 0, is true exactly where a row has
+-- the address
 pub record HasMarks (part : PartData) (rows : List PlanRow) (marks : List Bool) : Type 0 where
   pub order : Rises 0 (addresses_in part)
   pub long : length marks ≡ length (addresses_in part)
@@ -22,7 +23,7 @@ pub record IsAdded (part : PartData) (line : List ℕ) (old new : List PlanRow) 
   pub apart : ¬ Contains (planned_addresses old) row.far
   pub rows : new ≡ old ++ row ∷ []
 
--- a line was taken: one that means nothing, or that of a frame
+-- a line was taken: one that means nothing, and the rows stayed, or that of a frame, and its row was added
 abbrev pub TakesLine : PartData → List ℕ → List PlanRow → List PlanRow → Type 0
 TakesLine part line old new = ((means_nothing line ≡ true) × (new ≡ old)) ⊎ IsAdded part line old new
 
@@ -30,7 +31,7 @@ TakesLine part line old new = ((means_nothing line ≡ true) × (new ≡ old)) �
 abbrev pub IsGoodLine : PartData → List PlanRow → List ℕ → Type 0
 IsGoodLine part rows line = (new : List PlanRow) × TakesLine part line rows new
 
--- line n, after lines of these rows, has this fault
+-- line n, after lines of these rows, has this fault; want of memory is never a line's
 abbrev pub IsFaultAt : PartData → List PlanRow → ℕ → List ℕ → FramesFault → Type 0
 IsFaultAt part rows n line (fault.Line m) = (m ≡ n) × IsNoLine (frame_words part) line
 IsFaultAt part rows n line (fault.Address m) = (m ≡ n) × IsForeign part line

@@ -4,19 +4,19 @@ ghost use Rattle.std.specs.Prelude.{◌≡◌};
 use thiserror::Error;
 use x7_words::NoMemory;
 
-/// Why a frames text was refused: its first line at fault. Lines count from 1.
+/// Why a frames text gives no plan: its first line at fault, by its number from 1, or want of memory.
 #[derive(Clone, Copy, Debug, Drop, Error)]
 pub enum FramesFault {
-    /// The line is neither empty, nor a comment, nor `frame FAR DIGITS`.
+    /// The line is neither empty, nor a comment, nor `frame FAR DIGITS` with the digits of one frame of the part.
     #[error("line {0} is no frame line")]
     Line(u64),
     /// The part has no frame at the address on this line.
     #[error("line {0} has an address that the part lacks")]
     Address(u64),
-    /// The address stands on an earlier line too.
+    /// The address on this line stands on an earlier line too.
     #[error("line {0} repeats an address")]
     Twice(u64),
-    /// There was no memory for the plan.
+    /// There was no memory, for the plan or for its reader.
     #[error("no memory")]
     NoMemory,
 }

@@ -43,8 +43,8 @@ impl<'p> FrameLines<'p> {
         Ok(FrameLines { part, marked })
     }
 
-    /// Takes a line, whose number `n` counts from 1. After an error the lines are of no more use. Memory is wanting
-    /// only for a good line.
+    /// Takes a line, without its end, whose number `n` counts from 1. An error is the line's fault (`IsFaultAt`), or
+    /// want of memory, which only a good line meets. After an error the lines are of no more use.
     pub fn take(&mut self, n: u64, line: &[u8]) -> Result<(), FramesFault>
         ensures part { self.new.part ≡ self.old.part }
         ensures taken { OnOk result (TakesLine self.old.part line.now self.old.rows self.new.rows) }

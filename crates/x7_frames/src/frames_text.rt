@@ -15,13 +15,13 @@ use x7_part::Part;
 use x7_text::{means_nothing, read_lines};
 use x7_words::NoMemory;
 
-/// The frames of the lines so far, in the order of the lines, and a mark for each address that one of them has.
+/// The frames of the lines so far, in the order of the lines, and a mark for each frame of the part.
 #[derive(Drop)]
 pub(crate) struct MarkedDraft {
     pub(crate) draft: Draft,
-    /// Of each frame of the part, by its rank, whether a line has its address.
+    /// Of each frame of the part, by its rank, whether a line so far has its address.
     pub(crate) marks: Vec<bool>,
-    /// Room for the words of a line.
+    /// Room for the words of a line's frame.
     pub(crate) frame: Vec<u32>,
 }
 
@@ -41,8 +41,9 @@ impl MarkedDraft {
         })
     }
 
-    /// Takes a line, whose number `n` counts from 1. A line at fault, or want of memory, leaves the frames
-    /// that were read.
+    /// Takes the line of number `n`, from 1: a frame's line adds the frame and marks its address, an empty line or a
+    /// comment adds nothing. A line at fault, or want of memory, leaves the frames and marks of the lines before as
+    /// they were.
     pub(crate) fn take(&mut self, part: &Part, n: u64, line: &[u8]) -> Result<(), FramesFault>
         requires width { self.old.draft.width ≡ frame_words part.now }
         requires marks { HasMarks part.now self.old.draft.rows self.old.marks.items }
@@ -73,7 +74,7 @@ impl MarkedDraft {
     }
 }
 
-/// The plan of a frames text for a part, or its first line at fault.
+/// The plan of a frames text for a part, or its first line at fault, or want of memory.
 ///
 /// A line is empty, a comment that `#` begins, or `frame FAR DIGITS`: the address in eight upper-case digits, and the
 /// words of the frame in eight digits of either case each (this project's choice). The last line may lack its end.
@@ -86,7 +87,7 @@ pub fn plan_of(alloc: Global, text: &[u8], part: &Part) -> Result<Plan, FramesFa
     read_text(alloc, text, part)
 }
 
-/// The plan of a text, which is one piece.
+/// The plan of a frames text that is there whole, or its first line at fault, or want of memory.
 fn read_text(alloc: Global, text: &[u8], part: &Part) -> Result<Plan, FramesFault>
     ensures { MatchResult result (λ plan. IsPlanOf part.now text.now (Ok plan)) (λ fault. (fault ≡ FramesFault.NoMemory) ⊎ IsPlanOf part.now text.now (Err fault)) }
 {

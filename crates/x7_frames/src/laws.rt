@@ -9,20 +9,21 @@ ghost use Rattle.x7_frames.specs.FramesText.{HasPlanOrFault, IsGoodText, IsPlanO
 ghost use Rattle.x7_frames.specs.LineTaken.{IsGoodLine};
 ghost use Rattle.x7_frames.specs.declared.fault.FramesFault.{FramesFault};
 
-/// A text comes to one thing: it has at most one plan, one that has a plan has no fault, and another has one fault.
+/// A text comes to one thing at most: it has at most one plan and at most one fault, and not both.
 pub fn one_plan()
-    ensures plan { (part : PartData) (text : List ℕ) (p q : PlanData) → IsPlanOf part text (Ok p) → IsPlanOf part text (Ok q) → p ≡ q }
-    ensures fault { (part : PartData) (text : List ℕ) (p : PlanData) (fault : FramesFault) → IsPlanOf part text (Ok p) → IsPlanOf part text (Err fault) → ⊥ }
+    ensures one_plan { (part : PartData) (text : List ℕ) (p q : PlanData) → IsPlanOf part text (Ok p) → IsPlanOf part text (Ok q) → p ≡ q }
+    ensures not_both { (part : PartData) (text : List ℕ) (p : PlanData) (fault : FramesFault) → IsPlanOf part text (Ok p) → IsPlanOf part text (Err fault) → ⊥ }
     ensures one_fault { (part : PartData) (text : List ℕ) (f g : FramesFault) → IsPlanOf part text (Err f) → IsPlanOf part text (Err g) → f ≡ g }
 {}
 
-/// A text comes to something: its plan, or its first line at fault.
+/// Each text comes to its plan, or to its first line at fault.
 pub fn every_text_is_read()
     ensures { (part : PartData) (text : List ℕ) → HasPlanOrFault part text }
 {}
 
-/// Where memory is wanting as the lines of a text for a part are taken. While a piece is taken and no beginning of a
-/// line was held, the first line that ends in it is good; at the end of the text, the text has a plan.
+/// A reader took the lines of a text for a part, and memory may be wanting. If it may be while a piece is taken whose
+/// first line ends in the piece, that line is good after the lines taken; if it may be at the last line of the text,
+/// the one without an end, the text has a plan.
 pub fn memory_wants_for_good_lines()
     ensures piece { (part : PartData) (r : ReaderState RowsRead) (text piece line after : List ℕ) (s : StandsFor (HasRows part) r text)
         → WantsIn (HasRows part) (StayGoodWith part) s.lines piece → split piece ≡ line ∷ split after → IsGoodLine part r.taker.rows line }
@@ -30,7 +31,7 @@ pub fn memory_wants_for_good_lines()
         → StayGoodWith part s.lines r.held → IsGoodText part text }
 {}
 
-/// The text of a plan for the part is that of the plan.
+/// The text of a plan for a part, read for the part, has that plan.
 pub fn plan_text_leads_back()
     ensures { (part : PartData) (plan : PlanData) → IsPlanFor part plan → IsPlanOf part (plan_text plan) (Ok plan) }
 {}

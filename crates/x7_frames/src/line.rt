@@ -19,14 +19,15 @@ const MOST_FRAME_SIZE: usize = 4 * x7_part::MOST_FRAME_WORDS as usize;
 /// space.
 pub(crate) const HEAD_SIZE: usize = 15;
 
-/// What stands on a frame's line: its address, and the digits of its words.
+/// What stands on a frame's line: its address, and the bytes in the place of its words' digits.
 #[derive(Clone, Copy)]
 struct FarAndDigits<'t> {
     far: u32,
     digits: &'t [u8],
 }
 
-/// The address and the digits on the line of a frame, none where it is no line of a frame with this many digits.
+/// The address on a frame's line, and the `digit_count` bytes after its head, digits or not. `None`: the line doesn't
+/// begin as that of a frame, or has another count of bytes after its head.
 fn far_and_digits_of(line: &[u8], digit_count: usize) -> Option<FarAndDigits<'_>>
     requires { digit_count ≤ 8 * most_frame_words }
     ensures { MatchOption result
@@ -57,8 +58,8 @@ fn write_block(bytes: &mut [u8], at: usize, block: &[u8])
     bytes[at..at + 32].copy_from_slice(block);
 }
 
-/// Reads the blocks of 64 upper-case digits that stand first, 32 bytes each, up to the first 64 that are none. The answer
-/// is the number of bytes read.
+/// Reads the blocks of 64 upper-case digits that stand first, 32 bytes each, up to the first 64 that are no such block,
+/// or to fewer than 64. The answer is the number of bytes read.
 fn read_blocks(bytes: &mut [u8], digits: &[u8]) -> usize
     requires { length digits.now ≡ 2 * length bytes.old }
     ensures value { bytes_of_pairs (take (2 * result) digits.now) ≡ Some (take result bytes.new) }
@@ -87,8 +88,8 @@ fn read_digits(bytes: &mut [u8], digits: &[u8]) -> bool
     read_pairs(&mut bytes[read..], &digits[2 * read..])
 }
 
-/// Reads a frame's line: gives its address and puts its words into `frame`, which has room for them. `None`: it is no
-/// frame's line.
+/// Reads the line of a frame of `width` words: gives its address and makes `frame`, which has room for them, hold its
+/// words. `None`: it is no such line.
 pub(crate) fn read_frame(frame: &mut Vec<u32>, width: u32, line: &[u8]) -> Option<u32>
     requires width { width ≤ most_frame_words }
     requires room { width ≤ vec_capacity frame.old }

@@ -35,7 +35,8 @@ fn put_frame_line(text: &mut Vec<u8>, far: u32, words: &[u32]) -> Result<(), All
     Ok(())
 }
 
-/// The text of a plan: a line for each frame, in number order of the addresses, its digits in upper case.
+/// The text of a plan: a line for each frame, in number order of the addresses, its digits in upper case (this
+/// project's choice).
 pub fn plan_text(alloc: Global, plan: &Plan) -> Result<Vec<u8>, NoMemory>
     ensures text { IfOk result (λ text. text.items ≡ plan_text plan.now) }
 {

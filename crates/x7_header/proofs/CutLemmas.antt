@@ -90,7 +90,7 @@ content_ends total place FieldKind.Counted (high ∷ low ∷ bytes) f e =
       missing_are = fits;
     }
 
--- a field, and then fields, go on after these bytes
+-- a field with some content goes on after these bytes
 record FieldGoesOn (field : Field) (bytes : List ℕ) : Type 0 where
   pub content : List ℕ
   pub next : ℕ
@@ -121,7 +121,7 @@ blank_holds FieldKind.Four = let z : 0 < 256 = omega arith in (refl, (z, (z, (z,
 abbrev HaveLetters : List Field → Type 0
 HaveLetters fields = AllByRecursion (λ (field : Field). field.letter < 256) fields
 
--- what fields can hold, and that its bytes are bytes
+-- contents that fit the fields, and of which each number is a byte
 record CanHold (fields : List Field) : Type 0 where
   pub contents : List (List ℕ)
   pub hold : FitFields fields contents
@@ -244,7 +244,7 @@ cut_in_header bytes place false f s e =
 -- ---- where some header goes on, the reading says Cut
 
 -- another byte than a letter is there whatever follows
-other_more : (bytes more : List ℕ) (place : ℕ) → HasOtherLetterAt bytes place → HasOtherLetterAt (bytes ++ more) place
+pub other_more : (bytes more : List ℕ) (place : ℕ) → HasOtherLetterAt bytes place → HasOtherLetterAt (bytes ++ more) place
 other_more bytes more place (after, prefix, h, w) =
     let l = w.left_is in
     let here = length-append bytes more in (

@@ -5,7 +5,7 @@ use Rattle.std.proofs.lemmas.Bool.{false≢true, eqb-true, leb-true, le-leb}
 use Rattle.std.proofs.lemmas.List.{take_at, drop_at, length-take-le}
 use Rattle.std.proofs.lemmas.Bool.Decides.{Decides-eqb}
 use Rattle.std.proofs.lemmas.Slice.Eq.{starts_is}
-use Rattle.std.specs.List.{AllByRecursion, AllZip, starts_with}
+use Rattle.std.specs.List.{AllByRecursion, AllZip, starts_with, each_same}
 use Rattle.x7_words.specs.Word.{AreBytes, bytes_of_word, word_of_bytes}
 use Rattle.x7_words.proofs.ListLemmas.{all_prefix, all_back}
 use Rattle.x7_words.proofs.WordLemmas.{bytes_words, words_fit}
@@ -363,7 +363,7 @@ other_first total place field fields (first ∷ bytes) h e =
       record { done = []; contents = []; next = field; later = fields; other = first; rest = bytes; fields_are = refl; hold = tt; bytes_are = refl; left_is = omega (arith, at, h); differs = t.0 },
     )
 
--- a whole field before them
+-- where another byte than a letter stands after some fields, so it does with a whole field before these
 other_later : (field : Field) (fields : List Field) (bytes content rest : List ℕ) (left : ℕ) → bytes ≡ field_bytes field content ++ rest → FitsFieldKind field.kind content → HasOtherLetter fields rest left → HasOtherLetter (field ∷ fields) bytes left
 other_later field fields bytes content rest left e h w = record {
   done = field ∷ w.done;
@@ -465,17 +465,10 @@ header_none bytes d e = rw e refl
 
 -- ---- a header is written as one list of pieces
 
--- items that are clones place by place are the same list
-same_items : (xs ys : List ℕ) → AllZip (λ x y. y ≡ x) xs ys → ys ≡ xs
-same_items [] [] h = refl
-same_items [] (y ∷ ys) h = absurd h
-same_items (x ∷ xs) [] h = absurd h
-same_items (x ∷ xs) (y ∷ ys) h = rw (h.0, same_items xs ys h.1) refl
-
 -- the pieces of a header one after another are its bytes
 pub pieces_joined : (x : HeaderContents) (a b c d last made : List ℕ)
     → a ≡ 97 ∷ bytes_of_count FieldKind.Counted x.a → b ≡ 98 ∷ bytes_of_count FieldKind.Counted x.b → c ≡ 99 ∷ bytes_of_count FieldKind.Counted x.c → d ≡ 100 ∷ bytes_of_count FieldKind.Counted x.d → last ≡ bytes_of_word x.data_length
     → AllZip (λ x y. y ≡ x) (fixed_bytes ++ (a ++ (x.a ++ (b ++ (x.b ++ (c ++ (x.c ++ (d ++ (x.d ++ (101 ∷ (last ++ []))))))))))) made
     → made ≡ header_bytes x
 pieces_joined x a b c d last made ea eb ec ed el zipped =
-    same_items (fixed_bytes ++ (a ++ (x.a ++ (b ++ (x.b ++ (c ++ (x.c ++ (d ++ (x.d ++ (101 ∷ (last ++ []))))))))))) made zipped ∙ (rw (ea, eb, ec, ed, el) refl)
+    each_same (fixed_bytes ++ (a ++ (x.a ++ (b ++ (x.b ++ (c ++ (x.c ++ (d ++ (x.d ++ (101 ∷ (last ++ []))))))))))) made zipped ∙ (rw (ea, eb, ec, ed, el) refl)

@@ -24,7 +24,7 @@ content_follows : (total first : ℕ) (field : Field) (bytes : List ℕ) → nat
 unfolding field_at
 content_follows total first field bytes e = rw e refl
 
--- this many bytes are not there
+-- with fewer bytes more than the first `count` lack, these are cut
 bytes_short : (total count : ℕ) (bytes more : List ℕ) → length more < count - length bytes → first_bytes total count (bytes ++ more) ≡ Err (fault.Cut total)
 bytes_short total count bytes more h =
     let f : nat_le count (length (bytes ++ more)) ≡ false = grind (arith, h, length-append bytes more) in rw f refl

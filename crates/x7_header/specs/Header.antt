@@ -23,7 +23,7 @@ longest_header = fixed_size + 4 * (3 + longest_text) + 5
 pub data FieldKind : Type 0 where
   -- the number of the bytes that follow, in two bytes, the highest first, and these bytes
   Counted : FieldKind
-  -- four bytes
+  -- four bytes: a number, the highest first
   Four : FieldKind
 
 -- a field of a header: its letter, and what stands after that
@@ -31,7 +31,7 @@ pub record Field : Type 0 where
   pub letter : ℕ
   pub kind : FieldKind
 
--- the fields of a header in their order: design, part, date and time, and the length of the data
+-- the fields of a header in their order: design, part, date and time, and how many bytes the data has
 abbrev pub header_fields : List Field
 header_fields =
     record { letter = 0x61; kind = FieldKind.Counted }
@@ -88,7 +88,8 @@ abbrev pub HasOtherLetterAt : List ℕ → ℕ → Type 0
 HasOtherLetterAt bytes place =
     (after : List ℕ) × (bytes ≡ fixed_bytes ++ after) × (place ≤ length bytes) × HasOtherLetter header_fields after (length bytes - place)
 
--- what the fields of a header hold
+-- what the fields of a header hold, by their letters: the design (a), the part (b), the date (c), the time (d), and (e)
+-- how many bytes the header says that the data has
 pub record HeaderContents : Type 0 where
   pub a : List ℕ
   pub b : List ℕ

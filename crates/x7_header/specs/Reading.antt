@@ -1,5 +1,5 @@
--- Reading a header from left to right, field by field, with the first fault that is met (not in UG470: the form that the
--- vendor's tool writes).
+-- Reading a header from left to right, field by field, with the first fault that is met (not in UG470: the form that
+-- the vendor's tool writes), and how many bytes to read next of one that is read in pieces (this project's choice).
 use Rattle.std.specs.Prelude.{◌≡◌, ℕ, ◌+◌, ◌-◌, ◌*◌, ◌<◌, List, [], ◌∷◌, ◌++◌, length, take, drop, Result, Ok, Err, nat_le, nat_lt, nat_eq, max, ◌==◌, if◌then◌else◌}
 use Rattle.std.specs.List.{starts_with}
 use Rattle.x7_words.specs.Word.{word_of_bytes}
@@ -43,14 +43,14 @@ field_at total field bytes = do
   after ← after_letter total field.letter bytes
   content_at total field.kind after
 
--- how many bytes a prefix of a field of text lacks of that in which it ends: the letter, the count, or the text
+-- how many bytes a prefix of a field of text lacks of the part in which it ends: the letter, the count, or the text
 abbrev pub text_lacks : List ℕ → ℕ
 text_lacks [] = 1
 text_lacks (letter ∷ []) = 2
 text_lacks (letter ∷ high ∷ []) = 1
 text_lacks (letter ∷ high ∷ low ∷ bytes) = high * 256 + low - length bytes
 
--- how many bytes a prefix of a field of a number lacks of that in which it ends: the letter, or the four bytes
+-- how many bytes a prefix of a field of a number lacks of the part in which it ends: the letter, or the four bytes
 abbrev pub number_lacks : List ℕ → ℕ
 number_lacks [] = 1
 number_lacks (letter ∷ bytes) = 4 - length bytes
@@ -63,7 +63,7 @@ fields_at total (field ∷ fields) bytes = do
   others ← fields_at total fields first.1
   Ok (first.0 ∷ others.0, others.1)
 
--- what a header holds, by the contents of its fields in their order
+-- what a header holds, by the contents of its five fields in their order; of fewer contents the value has no meaning
 abbrev pub contents_from : List (List ℕ) → HeaderContents
 contents_from (a ∷ b ∷ c ∷ d ∷ length ∷ more) = record { a = a; b = b; c = c; d = d; data_length = word_of_bytes length }
 contents_from _ = record { a = []; b = []; c = []; d = []; data_length = 0 }
@@ -86,21 +86,22 @@ header_at bytes = do
 
 -- ---- bytes that wait for more
 
--- the bytes begin a field that lacks `count` more: with fewer the input ends inside the field
+-- with fewer than `count` bytes more than these the input ends inside the field; where `count` is 0 nothing is said
 abbrev pub FieldWaits : Field → List ℕ → ℕ → Type 0
 FieldWaits field bytes count = (total : ℕ) (more : List ℕ) → length more < count → field_at total field (bytes ++ more) ≡ Err (fault.Cut total)
 
--- the bytes begin fields that lack `count` more: with fewer the input ends inside the fields
+-- with fewer than `count` bytes more than these, which stand after the fixed ones, the input ends inside the fields;
+-- where `count` is 0 nothing is said
 abbrev pub HeaderFieldsWait : List ℕ → ℕ → Type 0
 HeaderFieldsWait bytes count = (total : ℕ) (more : List ℕ) → length more < count → header_fields_at total (bytes ++ more) ≡ Err (fault.Cut total)
 
--- the bytes begin a header that lacks `count` more: with fewer the input ends inside the header
+-- with fewer than `count` bytes more than these the input ends inside the header; where `count` is 0 nothing is said
 abbrev pub HeaderWaits : List ℕ → ℕ → Type 0
 HeaderWaits bytes count = (more : List ℕ) → length more < count → header_at (bytes ++ more) ≡ Err (fault.Cut (length (bytes ++ more)))
 
 -- ---- how many bytes are lacked of what is being read: the fixed bytes, or a field's letter, count, text or number
 
--- how many bytes a prefix of a field of this kind lacks of that in which it ends
+-- how many bytes a prefix of a field of this kind lacks of the part in which it ends
 abbrev pub lacks_of : FieldKind → List ℕ → ℕ
 lacks_of FieldKind.Counted = text_lacks
 lacks_of FieldKind.Four = number_lacks
@@ -131,7 +132,7 @@ lack_from_text letter bytes later = lacks_by (text_lacks bytes) (field_at (lengt
 abbrev pub lack_from_number : ℕ → List ℕ → (List ℕ → ℕ) → ℕ
 lack_from_number letter bytes later = lacks_by (number_lacks bytes) (field_at (length bytes) (number_of_letter letter) bytes) later
 
--- how many bytes the first of these fields lacks that isn't whole, and 0 where all are whole
+-- how many bytes the first of these fields lacks that isn't whole: 0 where its letter is wrong, or where all are whole
 abbrev pub fields_lack : List Field → List ℕ → ℕ
 fields_lack [] bytes = 0
 fields_lack (field ∷ fields) bytes = lacks_by (lacks_of field.kind bytes) (field_at (length bytes) field bytes) (fields_lack fields)

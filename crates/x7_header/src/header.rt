@@ -1,6 +1,7 @@
 //! What a header holds.
 
-/// The header before a stream's data: its fields, lent from where they were read.
+/// The header that the vendor's tool writes before a stream's data (not in UG470): its fields, lent from where they
+/// were read.
 #[derive(Clone, Copy)]
 pub struct Head<'b> {
     /// The design.

@@ -9,7 +9,6 @@ mod reading;
 mod writing;
 
 pub use fault::HeaderFault;
-pub use field::{after_fixed_bytes, number_field, text_field};
 pub use header::{Head, LONGEST_TEXT};
 pub use progress::wanted;
 pub use reading::header_of;

@@ -7,7 +7,7 @@ use crate::fault::HeaderFault;
 use crate::field::{after_fixed_bytes, number_field, text_field};
 use crate::header::FIXED_BYTES;
 
-/// How many bytes a prefix of a field of text lacks of that in which it ends: the letter, the count, or the text.
+/// How many bytes a prefix of a field of text lacks of the part in which it ends: the letter, the count, or the text.
 fn text_lacks(prefix: &[u8]) -> usize
     ensures { result ≡ text_lacks prefix.now }
 {
@@ -21,7 +21,7 @@ fn text_lacks(prefix: &[u8]) -> usize
     }
 }
 
-/// How many bytes a prefix of a field of a number lacks of that in which it ends: the letter, or the four bytes.
+/// How many bytes a prefix of a field of a number lacks of the part in which it ends: the letter, or the four bytes.
 fn number_lacks(prefix: &[u8]) -> usize
     ensures { result ≡ number_lacks prefix.now }
 {

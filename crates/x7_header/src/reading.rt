@@ -27,7 +27,7 @@ fn read_fields(bytes: &[u8], total: usize) -> Result<Head<'_>, HeaderFault>
     })
 }
 
-/// The header at the beginning of the bytes. What follows it is not looked at.
+/// The header at the beginning of the bytes, or by `HeaderFault` why there is none. What follows it is not looked at.
 pub fn header_of(bytes: &[u8]) -> Result<Head<'_>, HeaderFault>
     // What is read is the header that stands at the beginning, with its size.
     ensures found { IfOk result (λ head. BeginsWith (contents_of head) head.size bytes.now) }

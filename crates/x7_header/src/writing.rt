@@ -7,7 +7,7 @@ use crate::header::{FIXED_BYTES, Head};
 use std::alloc::Global;
 use x7_words::{NoMemory, bytes_of};
 
-/// What stands in a header before a text: the letter of its field, and its count in two bytes.
+/// What stands in a header before a text: the letter of its field, and its count in two bytes, the highest first.
 fn before_text(letter: u8, text: &[u8]) -> [u8; 3]
     requires { length text.now < 2 ^ 16 }
     ensures { result ≡ letter ∷ bytes_of_count FieldKind.Counted text.now }

@@ -14,7 +14,7 @@ use Rattle.x7_in_memory.proofs.TornLemmas.{left_is_torn, left_back, length_left_
 use Rattle.x7_in_memory.proofs.FoundSinceLemmas.{passes_more, passes_none}
 use Rattle.x7_words.specs.declared.input.Failed.{Failed as FailedWrite}
 
--- ---- how the code comes to it
+-- ---- how the code comes to `after_flash_write`
 
 -- a write that is refused
 pub refused_after : (old new : FlashInMemory) (place count : ℕ) (target : List ℕ) → length target ≡ count → write_refused old count ≡ true → new ≡ after_refusal old → new ≡ after_flash_write old place target
@@ -61,7 +61,7 @@ ended old start bytes writes new place target tear answer b is_not t is_bytes is
     ∙ ap (after_begun_write old place target) tear_is
     ∙ sym (ap (λ v. cond v (after_refusal old) (after_begun_write old place target (next_tear old))) is_not)
 
--- ---- what a caller may know of it
+-- ---- what a caller may know of a write
 
 -- What a write does, by whether it was refused and how it was torn.
 data Went (old new : FlashInMemory) (place : ℕ) (target : List ℕ) (failed : Bool) : Type 0 where
@@ -131,7 +131,7 @@ module _ (old new : FlashInMemory) (place : ℕ) (target : List ℕ) (within : p
   tells_done (done a e) = e
   tells_done (torn pattern a e) = absurd (cc)
 
-  -- whatever a write does, this stays
+  -- a part that neither a refusal nor a write changes stays
   tells_same : {A : Type 0} (part : FlashInMemory → A) → part (after_refusal old) ≡ part old → ((tear : Option ℕ) → part (after_begun_write old place target tear) ≡ part old) → (failed : Bool) → Went old new place target failed → part new ≡ part old
   tells_same part r t failed (refused a e) = ap part e ∙ r
   tells_same part r t failed (done a e) = ap part e ∙ t None

@@ -41,7 +41,7 @@ pub record InputsInMemory : Type 0 where
   pub entries : List (List ℕ × List ℕ)
   -- what is left of the selected input; none where nothing is selected
   pub rest : Option (List ℕ)
-  -- the name last asked for; none before a select, and where nothing is put under it
+  -- the name last asked for; none before a select, and where nothing was put under it then
   pub asked : Option (List ℕ)
   -- how many selects there were
   pub selects : ℕ
@@ -55,7 +55,7 @@ pub record InputsInMemory : Type 0 where
   -- how many faults there were
   pub faults : ℕ
 
--- the bytes that were put under the name last
+-- the bytes that were put under the name last; none where nothing was
 abbrev pub bytes_under : List (List ℕ × List ℕ) → List ℕ → Option (List ℕ)
 bytes_under [] name = None
 bytes_under (entry ∷ entries) name = if bytes_eq entry.0 name then Some entry.1 else bytes_under entries name
@@ -64,7 +64,7 @@ bytes_under (entry ∷ entries) name = if bytes_eq entry.0 name then Some entry.
 abbrev pub name_under : List (List ℕ × List ℕ) → List ℕ → Option (List ℕ)
 name_under entries name = if is_none (bytes_under entries name) then None else Some name
 
--- what is known of the inputs: all
+-- what is known of the inputs: all; a missing name is known by the contents, and isn't counted
 abbrev pub known_inputs : InputsInMemory → InputsState
 known_inputs m = record {
   contents = Some (bytes_under m.entries);
@@ -128,7 +128,7 @@ pub record SinkInMemory : Type 0 where
   -- how many faults there were; the count stops at 2^64 - 1
   pub faults : ℕ
 
--- a write of the piece fails, as planned or since the room is full
+-- a write of the piece fails, as planned, or since the room is full and the piece has a byte
 abbrev pub write_fails : SinkInMemory → List ℕ → Bool
 write_fails s piece = next_fails s.calls || (nat_le s.room (length s.bytes) && nat_lt 0 (length piece))
 
@@ -167,7 +167,7 @@ pub record WriteRecord : Type 0 where
 abbrev pub no_writes : WriteRecord
 no_writes = record { past = []; writes_left = 0; bytes_left = 0 }
 
--- the record with room for `writes` writes more, whose ranges have `bytes` bytes in all
+-- the record with room for `writes` writes more than before, whose ranges have `bytes` bytes in all
 abbrev pub with_room : WriteRecord → ℕ → ℕ → WriteRecord
 with_room w writes bytes = record w { writes_left = w.writes_left + writes; bytes_left = w.bytes_left + bytes }
 
@@ -208,9 +208,9 @@ pub record FlashInMemory : Type 0 where
   pub attached : Bool
   -- whether the flash was asked for under its name
   pub asked : Bool
-  -- the least place that was read since the last write; 2^64 - 1 where none was
+  -- the least place where a read without a fault began since the last write; 2^64 - 1 where none did
   pub seen_from : ℕ
-  -- the place after the greatest one that was read since the last write; 0 where none was
+  -- the greatest place where a read without a fault ended since the last write, after its last byte; 0 where none did
   pub seen_to : ℕ
   -- how many absences there were; the count stops at 2^64 - 1
   pub absences : ℕ
@@ -251,7 +251,7 @@ names_asked f name = if bytes_eq f.name name then f.asked else true
 abbrev pub seen_in : FlashInMemory → ℕ → ℕ → Bool
 seen_in f place byte = nat_le f.seen_from place && (nat_lt place f.seen_to && (byte == get_or f.bytes place 0))
 
--- what is known of the flash: all but the other names that it was asked for
+-- what is known of the flash: all but the other names that it was asked for, and the gaps between its reads
 abbrev pub known_flash : FlashInMemory → FlashState
 known_flash f = record {
   bytes = Some f.bytes;
@@ -302,15 +302,16 @@ after_read_at f place count =
       seen_to = if flash_fails f then f.seen_to else max f.seen_to (place + count);
     }
 
--- a write of `count` bytes is refused and changes no byte: as planned, or since the record has no room
+-- a write of `count` bytes is refused and changes no byte: as planned, since a write was torn, or since the record has
+-- no room
 abbrev pub write_refused : FlashInMemory → ℕ → Bool
 write_refused f count = flash_fails f || not (has_room f.writes count)
 
--- the pattern by which the next call is torn, if it is a write
+-- the pattern by which the next call, if it is a write, is torn; none where it isn't the call that is to be torn
 abbrev pub next_tear : FlashInMemory → Option ℕ
 next_tear f = option_and_then (λ tear. if tear.call == raised f.calls.last then Some tear.pattern else None) f.tear
 
--- the pattern by which the latest call is torn, if it is a write
+-- the pattern by which the latest call, a write, is torn; none where it isn't the call that is to be torn
 abbrev pub latest_tear : FlashInMemory → Option ℕ
 latest_tear f = option_and_then (λ tear. if tear.call == f.calls.last then Some tear.pattern else None) f.tear
 

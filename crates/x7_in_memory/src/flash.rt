@@ -20,14 +20,16 @@ struct Torn {
 
 /// A flash in memory under one name, known whole.
 ///
-/// Each attach, read, erase and program has the next number, from 1, and those that are to fail fail.
+/// Each attach, read, erase and program has the next number, from 1, and those that are to fail fail. So do writes for
+/// which no room was made, and all calls once a write was torn.
 pub struct MemoryFlash {
     name: String,
     bytes: Vec<u8>,
     attached: bool,
     // whether the flash was asked for under its name
     asked: bool,
-    // the least place that was read since the last write, and the one after the greatest; usize::MAX and 0 before any
+    // of reads without a fault since the last write, the least place where one began, and the greatest where one ended,
+    // after its last byte; usize::MAX and 0 before any
     seen_from: usize,
     seen_to: usize,
     // how many attaches asked for another name
@@ -118,7 +120,7 @@ fn tear(bytes: &mut [u8], target: &[u8], pattern: u8)
     }
 }
 
-/// Leaves in the range of the target what a write of it leaves, torn by a pattern or not, and records that.
+/// Leaves in the range of the target what a write of it leaves, torn by a pattern or not, and records the write.
 fn write_target(
     bytes: &mut [u8],
     writes: &mut Record,
@@ -172,7 +174,8 @@ impl MemoryFlash {
         self.calls.fail_at(call)
     }
 
-    /// Makes room for `writes` writes more, with ranges of `bytes` bytes in all. A new flash has room for none.
+    /// Makes room for `writes` writes more than there is room for, whose ranges have `bytes` bytes in all. A new flash
+    /// has room for none.
     pub fn make_room(&mut self, writes: u64, bytes: u64) -> Result<(), NoMemory>
         ensures room { OnOk result (self.new ≡ record self.old { writes = with_room self.old.writes writes bytes }) }
         ensures unchanged { OnErr result (self.new ≡ self.old) }
@@ -183,8 +186,9 @@ impl MemoryFlash {
         self.writes.make_room(writes, bytes)
     }
 
-    /// The call of this number, an erase or a program, is to leave each byte of its range with the old one's bits where
-    /// the pattern has a 1 and the target's where it has a 0. It fails, and so do all later calls.
+    /// The call of this number, from 1, if it is an erase or a program that isn't refused, is to leave each byte of its
+    /// range with the old one's bits where the pattern has a 1 and the target's where it has a 0. It fails, and so do
+    /// all later calls. Only the call that was given last is torn.
     pub fn tear_at(&mut self, call: u64, pattern: u8)
         ensures { self.new ≡ record self.old { tear = Some (record { call = call; pattern = pattern }) } }
     {
@@ -205,7 +209,7 @@ impl MemoryFlash {
         self.bytes.as_slice()
     }
 
-    /// Takes the next number for a call, which may be one that is to fail.
+    /// Takes the next number for a call; an error where the call is to fail, or a write was torn before.
     fn next_call(&mut self) -> Result<(), Failed>
         ensures answer { is_err result ≡ flash_fails self.old }
         ensures after { self.new ≡ record self.old { calls = numbered self.old.calls } }
@@ -217,8 +221,8 @@ impl MemoryFlash {
         Ok(())
     }
 
-    /// Begins a write of `count` bytes: its call has the next number, and is refused where that call is to fail, or
-    /// where the record has no room for the write.
+    /// Begins a write of `count` bytes: its call has the next number, and no byte is seen any more. It is refused where
+    /// that call is to fail, where a write was torn before, or where the record has no room for the write.
     fn begin_write(&mut self, count: usize) -> Result<(), Failed>
         ensures answer { is_err result ≡ write_refused self.old count }
         ensures begun { OnOk result (self.new ≡ begun self.old) }
@@ -234,7 +238,7 @@ impl MemoryFlash {
         Err(Failed)
     }
 
-    /// The pattern by which the latest call is torn, if it is a write.
+    /// The pattern by which the latest call, a write, is torn; none where it isn't the call that is to be torn.
     fn torn(&self) -> Option<u8>
         ensures { result ≡ latest_tear self.now }
     {

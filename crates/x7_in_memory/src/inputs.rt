@@ -80,7 +80,7 @@ impl Model for MemoryInputs {
 }
 
 impl MemoryInputs {
-    /// No inputs. A read gives as many bytes as the buffer takes.
+    /// No inputs. A read gives as many bytes as the buffer takes and are left.
     pub fn new(alloc: Global) -> MemoryInputs
         ensures { result ≡ record { entries = []; rest = None; asked = None; selects = 0; ends = 0; given = 0; most = usize.MAX; calls = no_calls; faults = 0 } }
     {

@@ -72,7 +72,7 @@ impl Record {
         }
     }
 
-    /// Makes room for `writes` writes more, with ranges of `bytes` bytes in all.
+    /// Makes room for `writes` writes more than there is room for, whose ranges have `bytes` bytes in all.
     pub(crate) fn make_room(&mut self, writes: u64, bytes: u64) -> Result<(), NoMemory>
         ensures room { OnOk result (self.new ≡ with_room self.old writes bytes) }
         ensures unchanged { OnErr result (self.new ≡ self.old) }

@@ -79,7 +79,7 @@ module _ (part : PartData) (given bytes piece : List ℕ) (t : ℕ) where
     word_is = λ m. absurd (omega (arith, m, z));
   }
 
--- where no word is due after it, none is read out of it
+-- where no word is due after a piece, none is read out of it
 quiet_whole : (part : PartData) (e : DeviceState) (given bytes piece : List ℕ) (words : List ℕ) → TookOfGiven part (given ++ piece) bytes → NoWordDue e → words_taken part e bytes ≡ words
     → (k : ℕ) → length (words_read_out part (given ++ take k piece)) ≤ length words
 quiet_whole part e given bytes piece words took due is k =
@@ -89,7 +89,7 @@ quiet_whole part e given bytes piece words took due is k =
     reads_grow part on_the_bench (given ++ take k piece) (drop k piece) (subst AreBytes (sym joined) took.fits) in
     omega (arith, ap length grown.1, length-append (reads_of part on_the_bench (given ++ take k piece)) grown.0, ap (λ (b : List ℕ). length (reads_of part on_the_bench b)) joined, ap length all)
 
--- where a word is due, none has room before the last byte
+-- where a word is due after a piece, none is read out before the piece's last byte that was taken
 quiet_before : (part : PartData) (given bytes piece words : List ℕ) (n : ℕ) → n ≤ length piece → given ≡ bytes
     → RoomBefore (record { part = part; kept = on_the_bench; wrapped = false; bytes = bytes }) piece n words no_room → (k : ℕ) → k < n
     → length (words_read_out part (given ++ take k (take n piece))) ≤ length words

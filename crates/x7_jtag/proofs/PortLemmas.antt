@@ -2,7 +2,7 @@
 use Rattle.std.proofs.Common.{◌≡◌, ℕ, ◌+◌, ◌/◌, ◌%◌, ◌^◌, ◌==◌, Bool, true, false, if◌then◌else◌, List, [], ◌∷◌, ◌++◌, refl, ap, sym, subst, ◌∙◌}
 use Rattle.std.proofs.lemmas.List.Sums.{fold-append}
 use Rattle.x7_part.specs.Part.{PartData}
-use Rattle.x7_engine.specs.declared.regs.Regs.{Regs}
+use Rattle.x7_engine.specs.declared.snapshot.Snapshot.{Snapshot}
 use Rattle.x7_engine.specs.Kept.{on_the_bench}
 use Rattle.x7_engine.specs.Standing.{DeviceStandsFor, DeviceState}
 use Rattle.x7_engine.specs.State.{state_owing}
@@ -18,10 +18,10 @@ use Rattle.x7_jtag.specs.Tap.{QueueStandsFor, QueueState, StandsForPort, TapStat
 use Rattle.x7_jtag.proofs.StandingLemmas.{resets}
 use Rattle.x7_jtag.proofs.TookLemmas.{state_took}
 
--- what a device shows, whatever words of it are due
-pub status_is : (part : PartData) (given bytes : List ℕ) (regs : Regs) (due n : ℕ) → TookOfGiven part given bytes → regs ≡ state_owing part on_the_bench false bytes due → n ≡ ir_status_with regs.lines.done (regs.stat / 2 ^ 12 % 2 == 1) → n ≡ ir_status part given
-status_is part given bytes regs due n t e f =
-    f ∙ ap (λ (r : Regs). ir_status_with r.lines.done (r.stat / 2 ^ 12 % 2 == 1)) e ∙ ap (λ (r : Regs). ir_status_with r.lines.done (r.stat / 2 ^ 12 % 2 == 1)) (sym (state_took part given bytes t))
+-- what Capture-IR loads, whatever words of the device are due
+pub status_is : (part : PartData) (given bytes : List ℕ) (snapshot : Snapshot) (due n : ℕ) → TookOfGiven part given bytes → snapshot ≡ state_owing part on_the_bench false bytes due → n ≡ ir_status_with snapshot.lines.done (snapshot.stat / 2 ^ 12 % 2 == 1) → n ≡ ir_status part given
+status_is part given bytes snapshot due n t e f =
+    f ∙ ap (λ (r : Snapshot). ir_status_with r.lines.done (r.stat / 2 ^ 12 % 2 == 1)) e ∙ ap (λ (r : Snapshot). ir_status_with r.lines.done (r.stat / 2 ^ 12 % 2 == 1)) (sym (state_took part given bytes t))
 
 -- a new tap
 pub begins : (part : PartData) (t : TapState) (d : DeviceState) → DeviceStandsFor part on_the_bench false d [] → t ≡ record { state = state.TestLogicReset; instruction = instruction.Idcode; register = 0; count = 0; queue = t.queue } → t.queue ≡ record { held = []; word = 0; bits_left = 0 }
@@ -34,7 +34,7 @@ begins part t d s e q = record {
   queue_is = resets part t.queue d d part s refl (ap (λ (x : QueueState). x.held) q) (ap (λ (x : QueueState). x.bits_left) q);
 }
 
--- a byte that is due where eight are counted
+-- a queue to which the eighth bit or clock offered a byte
 eighth : (part : PartData) (n : QueueState) (e : DeviceState) (p : Port) (q : Queue) (count : ℕ) → count ≡ p.count → true ≡ (count == 7) → QueueStandsFor part n e q → QueueStandsFor part n e (if p.count == 7 then q else p.queue)
 eighth part n e p q count is seven s = subst (λ (b : Bool). QueueStandsFor part n e (if b then q else p.queue)) (seven ∙ ap (λ (c : ℕ). c == 7) is) s
 

@@ -1,10 +1,10 @@
 -- Lemmas on a device that is given bytes: it takes all of them, or those up to its stop.
 use Rattle.std.proofs.Common.{◌≡◌, ◌⊎◌, inl, inr, ℕ, zero, suc, ◌+◌, ◌-◌, ◌<◌, ◌≤◌, true, false, List, [], ◌∷◌, ◌++◌, length, take, drop, Option, Some, None, refl, ap, sym, subst, ◌∙◌, append_assoc, append-nil, length-append, arith}
-use Rattle.std.proofs.Math.Seq.{take-length}
+use Rattle.std.proofs.Math.Seq.{take-length, drop-length}
 use Rattle.std.proofs.lemmas.List.{take-append-drop}
 use Rattle.std.specs.Option.{IsSome, is_some}
 use Rattle.x7_words.specs.Word.{AreBytes}
-use Rattle.x7_words.proofs.ListLemmas.{all_append}
+use Rattle.x7_words.proofs.ListLemmas.{all_append, taken_and_left}
 use Rattle.x7_part.specs.Part.{PartData}
 use Rattle.x7_engine.specs.declared.fed.Fed.{Fed}
 use Rattle.x7_engine.specs.declared.fed.Fed.TheVariants as fed
@@ -16,13 +16,6 @@ use Rattle.x7_engine.specs.State.{reads_of, state_of, first_stop_of_bytes}
 use Rattle.x7_engine.specs.Stop.{Stopped}
 use Rattle.x7_engine.proofs.StateLemmas.{stop_is_final_reads, stop_is_final_state}
 use Rattle.x7_jtag.specs.Tap.{TookOfGiven, words_taken}
-
-drop_all : (xs : List ℕ) → drop (length xs) xs ≡ []
-drop_all [] = refl
-drop_all (x ∷ xs) = drop_all xs
-
-piece_split : (bytes piece : List ℕ) (n : ℕ) → (bytes ++ take n piece) ++ drop n piece ≡ bytes ++ piece
-piece_split bytes piece n = append_assoc bytes (take n piece) (drop n piece) ∙ ap (λ t. bytes ++ t) (take-append-drop n piece)
 
 -- what is given where nothing is left over
 took_whole : (part : PartData) (given bytes : List ℕ) (t : TookOfGiven part given bytes) → t.rest ≡ [] → given ≡ bytes
@@ -37,14 +30,14 @@ the_stop (Some s) e = (s, refl)
 module _ (part : PartData) (given bytes piece : List ℕ) (n : ℕ) where
   more_over : IsSome (first_stop_of_bytes part on_the_bench (bytes ++ take n piece)) ⊎ (n ≡ length piece) → (drop n piece ≡ []) ⊎ IsSome (first_stop_of_bytes part on_the_bench (bytes ++ take n piece))
   more_over (inl s) = inr s
-  more_over (inr e) = inl (ap (λ (k : ℕ). drop k piece) e ∙ drop_all piece)
+  more_over (inr e) = inl (ap (λ (k : ℕ). drop k piece) e ∙ drop-length piece)
 
   more_by : AreBytes piece → (t : TookOfGiven part given bytes) → (IsSome (first_stop_of_bytes part on_the_bench bytes) → n ≡ 0) → IsSome (first_stop_of_bytes part on_the_bench (bytes ++ take n piece)) ⊎ (n ≡ length piece)
       → (t.rest ≡ []) ⊎ IsSome (first_stop_of_bytes part on_the_bench bytes) → TookOfGiven part (given ++ piece) (bytes ++ take n piece)
   more_by f t z s (inl e) = record {
     fits = all_append (λ b. b < 256) given piece t.fits f;
     rest = drop n piece;
-    parts = ap (λ g. g ++ piece) (took_whole part given bytes t e) ∙ sym (piece_split bytes piece n);
+    parts = ap (λ g. g ++ piece) (took_whole part given bytes t e) ∙ sym (taken_and_left bytes piece n);
     over = more_over s;
   }
   more_by f t z s (inr stop) =
@@ -79,7 +72,7 @@ state_by part given bytes t (inr s) =
 pub state_took : (part : PartData) (given bytes : List ℕ) → TookOfGiven part given bytes → state_of part on_the_bench false given ≡ state_of part on_the_bench false bytes
 state_took part given bytes t = state_by part given bytes t t.over
 
--- where no word is due all words are grown
+-- where no word is due, the words taken are all those read out
 pub taken_all : (part : PartData) (d : DeviceState) (bytes : List ℕ) → NoWordDue d → words_taken part d bytes ≡ reads_of part on_the_bench bytes
 taken_all part d bytes none =
     let all : length (reads_of part on_the_bench bytes) - due_count d.registers.due ≡ length (reads_of part on_the_bench bytes) = omega (arith, none) in

@@ -50,7 +50,7 @@ abbrev pub first_found : Option ℕ → Bool → ℕ → Option ℕ
 first_found None differs i = if differs then Some i else None
 first_found (Some first) differs i = Some first
 
--- the least number at which `holds` is true, of a count of numbers from `from` on
+-- the least of n numbers from `from` on at which `holds` is true, where there is one
 abbrev pub least : (ℕ → Bool) → ℕ → ℕ → Option ℕ
 least holds from zero = None
 least holds from (suc n) = if holds from then Some from else least holds (from + 1) n
@@ -126,8 +126,8 @@ count_limit = 2 ^ 32
 abbrev pub statement_limit : ℕ
 statement_limit = 2 ^ 33
 
--- a tap and its device, which were new before some clocks, may make `more` clocks more: 2^62 in all, and a device takes
--- no more bytes than there were clocks, so never more than it can count
+-- A tap and its device, which were new before some clocks, may make `more` clocks more: with those before they are at
+-- most 2^62. A device takes no more bytes than there were clocks, and so never more than it can count.
 pub record MayClock (tap : TapState) (device : DeviceState) (more : ℕ) : Type 0 where
   pub part : PartData
   pub before : List PortClock

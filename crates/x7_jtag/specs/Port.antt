@@ -173,6 +173,6 @@ after_clock part p c = record (after_action part p.state p c.tdi) { state = next
 abbrev pub new_port : Port
 new_port = record { state = test_logic_reset; instruction = instruction.Idcode; register = 0; count = 0; queue = empty_queue }
 
--- the port after clocks, which was new before the first
+-- a port after these clocks, before the first of which it was new
 abbrev pub port_after : PartData → List PortClock → Port
 port_after part cs = fold (after_clock part) new_port cs

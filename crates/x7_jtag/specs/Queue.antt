@@ -1,4 +1,5 @@
--- The queue between a port and its device: bytes in, bits of the words read out (this project's choice).
+-- The queue between a port and its device: bytes in, bits of the words read out (this project's choice). In each
+-- definition `reads` gives the words that a device reads out of the bytes given to it.
 use Rattle.std.specs.Prelude.{◌≡◌, ℕ, ◌+◌, ◌-◌, ◌*◌, ◌/◌, ◌%◌, ◌^◌, ◌<◌, ◌≤◌, ◌==◌, ◌&&◌, nat_lt, Bool, true, false, if◌then◌else◌, List, [], ◌∷◌, ◌++◌, length, slice_index}
 use Rattle.std.specs.List.{fold}
 use Rattle.x7_words.specs.Word.{AreBytes}
@@ -24,8 +25,7 @@ queue_of given held out = record { given = given; held = held; out = out }
 abbrev pub with_given : Queue → List ℕ → Queue
 with_given q more = record q { given = q.given ++ more }
 
--- the number of all bits of the words read out; here and below `reads` gives the words that a device reads out of the
--- bytes given to it
+-- the number of all bits of the words that the bytes `given` read out
 abbrev pub bits_read : (List ℕ → List ℕ) → List ℕ → ℕ
 bits_read reads given = 32 * length (reads given)
 

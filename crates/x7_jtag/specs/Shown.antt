@@ -1,7 +1,7 @@
 -- What the device of a port shows (this project's choice).
 use Rattle.std.specs.Prelude.{ℕ, ◌+◌, ◌-◌, ◌/◌, false, List, length, take, Option}
 use Rattle.x7_part.specs.Part.{PartData}
-use Rattle.x7_engine.specs.declared.regs.Regs.{Regs}
+use Rattle.x7_engine.specs.declared.snapshot.Snapshot.{Snapshot}
 use Rattle.x7_engine.specs.Kept.{on_the_bench}
 use Rattle.x7_engine.specs.Standing.{frames_among}
 use Rattle.x7_engine.specs.State.{history_taken, why_stopped, memory_of_bytes, state_owing, first_stop_of_bytes, taken_of}
@@ -19,11 +19,11 @@ abbrev pub port_words_due : PartData → Port → ℕ
 port_words_due part p = length (words_read_out part p.queue.given) - (p.queue.out / 32 + 1)
 
 -- the device's state but its memory, where `due` words of frame data are due
-abbrev pub state_with_due : PartData → Port → ℕ → Regs
+abbrev pub state_with_due : PartData → Port → ℕ → Snapshot
 state_with_due part p due = state_owing part on_the_bench false (bytes_taken part p) due
 
 -- the device's state but its memory; FAR counts the words of frame data that went out, and the one whose bits go out
-abbrev pub state_shown : PartData → Port → Regs
+abbrev pub state_shown : PartData → Port → Snapshot
 state_shown part p = state_with_due part p (frames_among (history_taken part on_the_bench (bytes_taken part p)) (port_words_due part p))
 
 -- the fault that stopped the device, if one did

@@ -57,7 +57,7 @@ words_taken part device bytes = reads_given part on_the_bench device bytes
 
 -- ---- how many bytes
 
--- a byte can be offered: the device can be given it, and the most that are held before it
+-- a byte can be offered: the device can be given it after as many bytes as a queue holds at most
 abbrev pub CanBeOffered : DeviceState → Type 0
 CanBeOffered device = CanBeGiven device (most_bytes_held + 1)
 

@@ -1,4 +1,4 @@
-//! Laws of the definitions.
+//! Laws of the port and of the statements that it plays. The functions do nothing: their contracts are the laws.
 ghost use Rattle.std.specs.Prelude.{◌≡◌, Bool, false, List, [], ◌∷◌};
 ghost use Rattle.x7_part.specs.Part.{PartData};
 ghost use Rattle.x7_engine.specs.Kept.{on_the_bench};
@@ -17,16 +17,17 @@ pub fn five_ones_reset()
 {}
 
 /// The device of a tap took the bytes that its port gave, or those up to the device's stop; as many words are due as
-/// come after the one whose bits go out; and the device's state (`Device::state`) is that of the bytes it took, where
-/// FAR counts the words of frame data that the port took.
+/// come after the one whose bits go out; and the device's state (`Device::state`) is that of the bytes that the device
+/// took, where FAR counts the words of frame data that the port took of the device.
 pub fn devices_take_what_is_given()
     ensures taken { ForEachPort (λ part d p. DeviceStandsFor part on_the_bench false d (bytes_taken part p)) }
     ensures due { ForEachPort (λ part d p. due_count d.registers.due ≡ port_words_due part p) }
     ensures shows { ForEachPort (λ part d p. state_with_due part p (frames_due d.registers.due) ≡ state_shown part p) }
 {}
 
-/// After any clocks a new port has no more bits out than were read out, holds at most 64 bytes, and none unless a word
-/// waits; what it gave and holds are bytes.
+/// After any clocks, before which the port was new, no more bits have gone to TDO or been dropped than its device has
+/// read out (32 a word). The port holds back at most 64 bytes, and none unless a word read out, or a part of one, still
+/// waits to go out. What was given to the device and what is held are bytes.
 pub fn queues_are_sound()
     ensures { (part : PartData) (cs : List PortClock) → QueueIsSound (words_read_out part) (port_after part cs).queue }
 {}

@@ -1,5 +1,5 @@
 //! Playing the statements of a text on a tap.
-ghost use Rattle.std.specs.Prelude.{◌≡◌, ◌≤◌, ◌<◌, ◌+◌, ◌-◌, ◌*◌, ◌^◌, ◌++◌, false, true, [], length, take, replicate, Option, Some};
+ghost use Rattle.std.specs.Prelude.{◌≡◌, ◌≤◌, ◌<◌, ◌+◌, ◌-◌, ◌*◌, ◌++◌, false, true, [], length, take, replicate, Option, Some};
 ghost use Rattle.std.specs.List.{slice_get};
 ghost use Rattle.x7_part.specs.Part.{PartData};
 ghost use Rattle.x7_jtag.specs.Clocks.{clock as clock_of, clocks_of, from_reset, shift_clocks, to_shift as to_shift_clocks};
@@ -57,7 +57,8 @@ fn leave_reset(tap: &mut Tap, device: &mut Device)
     }
 }
 
-/// Goes from Run-Test/Idle to Shift-IR, for the instruction register, or to Shift-DR, for a data register.
+/// Makes the clocks that lead from Run-Test/Idle to Shift-IR, for the instruction register, or to Shift-DR, for a data
+/// register.
 fn to_shift(tap: &mut Tap, device: &mut Device, register: ScannedRegister)
     requires { MayClock tap.old device.old 4 }
     ensures { MakesClocks tap.old device.old tap.new device.new (λ p. to_shift_clocks register) }
@@ -116,8 +117,9 @@ fn first_found(found: Option<u32>, differs: bool, index: u32) -> Option<u32>
     }
 }
 
-/// Makes the clocks of a scan's first bits by whole bytes, as many as come before the last bit, where the tap takes
-/// bytes and no bit is wanted; else none. Says of how many bits.
+/// Makes the clocks of a scan's first bits by whole bytes, where the tap takes bytes and no bit of TDO is wanted; else
+/// none. Says of how many bits: all whole bytes before the last bit, though the clauses say just that there are no more
+/// than the scan has.
 fn shift_bytes(tap: &mut Tap, device: &mut Device, scan: &Scan<'_>) -> u32
     requires { MayClock tap.old device.old count_limit }
     ensures within { result ≤ length scan.now.tdi }

@@ -210,7 +210,7 @@ impl Tap {
         out
     }
 
-    /// Whether the next bit is the first of a byte for the device.
+    /// Whether the tap takes whole bytes: true only where the next bit is the first of a byte for the device.
     pub(crate) fn takes_bytes(&self) -> bool
         ensures { IsTrue result → TakesBytes self.now }
     {

@@ -1,8 +1,8 @@
 -- Lemmas on specs/Assembling: a text of which one line more is read.
 use Rattle.std.proofs.Common.{◌≡◌, inl, inr, ℕ, ◌+◌, ◌-◌, ◌<◌, ◌≤◌, Bool, true, false, List, [], ◌∷◌, ◌++◌, Ok, Err, length, map, refl, ap, sym, subst, ◌∙◌, arith, append_assoc, length-append, length-drop, take, drop}
-use Rattle.std.proofs.lemmas.List.{drop-append-le, length-take-le, take-append-drop, take-append-le}
+use Rattle.std.proofs.lemmas.List.{drop-append-le, length-take-le, take-append-drop, take-append-le, map-append}
 use Rattle.std.proofs.lemmas.List.Sums.{fold-append}
-use Rattle.x7_words.proofs.ListLemmas.{all_append, map_append}
+use Rattle.x7_words.proofs.ListLemmas.{all_append}
 use Rattle.x7_listing.specs.Assembly.{AreHeadedAsm, AssembleTo, assembled, BeginsWithLines, IsFirstBadText, PassesLimitAt, with_line}
 use Rattle.x7_listing.specs.Assembling.{Output, TextsAreRead, OpensText, LinesAreRead, output_of}
 use Rattle.x7_listing.specs.declared.assembler.AsmFault.TheVariants as fault
@@ -24,7 +24,7 @@ grown lines l old new is e = e ∙ ap (λ b. b ++ line_bytes (check_of_bytes b) 
 pub begins_more : (limit : ℕ) (texts : List (List ℕ)) (lines : List Line) (l : Line) (t : List ℕ) (left : List (List ℕ)) → BeginsWithLines limit texts lines (t ∷ left) → FitsLine l → t ≡ text_of l → length (assembled (lines ++ l ∷ [])) ≤ limit
     → BeginsWithLines limit texts (lines ++ l ∷ []) left
 begins_more limit texts lines l t left b fits e within = record {
-  texts = b.texts ∙ ap (λ s. map text_of lines ++ s ∷ left) e ∙ sym (append_assoc (map text_of lines) (text_of l ∷ []) left) ∙ ap (λ s. s ++ left) (sym (map_append text_of lines (l ∷ [])));
+  texts = b.texts ∙ ap (λ s. map text_of lines ++ s ∷ left) e ∙ sym (append_assoc (map text_of lines) (text_of l ∷ []) left) ∙ ap (λ s. s ++ left) (sym (map-append text_of lines (l ∷ [])));
   fits = all_append FitsLine lines (l ∷ []) b.fits (fits, tt);
   within = within;
 }

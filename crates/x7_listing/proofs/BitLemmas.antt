@@ -15,7 +15,7 @@ use Rattle.x7_listing.proofs.GuessLemmas.{after_space, digits_after_space, befor
 use Rattle.x7_text.proofs.ValueLemmas.{bytes_back}
 use Rattle.x7_text.proofs.WholeLineLemmas.{length_hex_bytes}
 
--- what a field's text is of, if of anything
+-- the bytes of the field whose text this is, if it is a field's text
 abbrev field_guess : List ℕ → List ℕ
 field_guess t = if bytes_eq t (45 ∷ []) then [] else bytes_value t
 
@@ -107,7 +107,7 @@ cut_once here text rest own later c free e = (
   sym (digits_after_space text rest c.free) ∙ ap after_space (sym c.parts ∙ e) ∙ digits_after_space own later free,
 )
 
--- a text that is no field's, where its pairs are those of no bytes
+-- a text that isn't `-` and whose pairs of digits are those of no bytes is no field's
 pub no_field : (t : List ℕ) → (t ≡ codes "-" → ⊥) → ((bs : List ℕ) → AreBytes bs → t ≡ flat_map hex_byte bs → ⊥) → (field : List ℕ) → IsField field → t ≡ field_text field → ⊥
 no_field t dash none [] h e = dash e
 no_field t dash none (x ∷ xs) h e = none (x ∷ xs) h.bytes e

@@ -87,7 +87,7 @@ as_many [] = refl
 as_many (p ∷ ps) =
     omega (arith, as_many ps, length-append (words p) (flat_map words ps), length-append (stepped p) (flat_map stepped ps), length-map {B = ℕ × Step} p.payload (λ (w : ℕ). (w, Payload (register_named_by p.step) w)))
 
--- a gap, the sync word and packets
+-- the text of a gap, the sync word and packets has at least a byte for each of their bytes
 session_long : (gap : List ℕ) (packets : List Packet) → length gap + 4 + length (packet_bytes packets) ≤ length (ended_texts (gap_and_sync_lines gap) ++ open_words 0 (flat_map stepped packets))
 session_long gap packets =
     let ws : List ℕ = open_words 0 (flat_map stepped packets) in
@@ -118,7 +118,7 @@ place_long (Synced gap packets tail) is =
     let text : length (sure_place (Synced gap packets tail)) ≡ length (ended_texts (gap_and_sync_lines gap) ++ open_words 0 (flat_map stepped packets)) = refl in
     omega (arith, session_long gap packets, is.3, bytes, text, length-append ((gap ++ sync_bytes) ++ packet_bytes packets) tail, length-append (gap ++ sync_bytes) (packet_bytes packets), length-append gap sync_bytes)
 
--- a lister's text is at most four bytes short
+-- a lister's text is at most four bytes behind the bytes that it took
 pub few_held : (l : ListerState) (given before bytes : List ℕ) → ListerStandsFor l given before bytes → length before + length bytes ≤ length (given ++ l.text) + 4
 few_held l given before bytes s =
     let t = s.has_listed in
@@ -151,7 +151,7 @@ listed_long true line held all start place m t p = omega (arith, ap length (sure
     sure_at line held all start (Searching gap) m t = place_sure true line held all start (Searching gap) Mode.Searching (λ e. let f : Mode.Searching ≡ Mode.SyncFound = e in cc) t
     sure_at line held all start (Synced gap packets tail) m t = place_sure true line held all start (Synced gap packets tail) m t.0 t
 
--- a lister that takes runs is at most four bytes short too
+-- the text of a lister that takes runs is at most four bytes behind their bytes
 pub few_taken : (l : ListerState) (given before bytes : List ℕ) (due : Mode) → TakerStandsFor l given before bytes due → length before + length bytes ≤ length (given ++ l.text) + 4
 few_taken l given before bytes due t =
     let r = t.reading in
@@ -188,8 +188,8 @@ bytes_short i [] = omega arith
 bytes_short i (x ∷ xs) =
     omega (arith, bytes_short (next_in_line 32 i) xs, byte_short i x, length-append (element_text 32 (codes "bytes ") hex_byte i x) (open_text 32 (codes "bytes ") hex_byte (next_in_line 32 i) xs))
 
--- the lines of a place are few bytes more than what is sure there: those of four bytes of a gap, or
--- of a word that isn't whole, and line ends
+-- the lines of a place are at most 64 bytes more than what is sure there: those of four bytes of a gap, or of a word
+-- that isn't whole, and line ends
 place_short : (place : Place) → IsPlace place → length (ended_texts (place_lines place)) ≤ length (sure_place place) + 64
 place_short (Searching gap) is =
     let k : ℕ = length gap - 4 in
@@ -234,8 +234,8 @@ place_short (Synced gap packets tail) is =
       is.3,
     )
 
--- what a lister has listed, after the listings before, is at most so much
--- shorter than those and the listing of its bytes
+-- what a lister has listed, after the listings before, is at most 64 bytes shorter than those listings and the listing
+-- of the bytes that it took
 pub listing_held : (l : ListerState) (given before bytes : List ℕ) → ListerStandsFor l given before bytes → length before + length (listing_of bytes) ≤ length (given ++ l.text) + 64
 listing_held l given before bytes s =
     let r : Reading = reading_of bytes in

@@ -21,7 +21,7 @@ use Rattle.x7_packets.specs.PacketWords.{type1_count_bound, type2_count_bound}
 
 -- ---- what is decided
 
--- it holds, or it doesn't
+-- a statement holds, or it doesn't
 abbrev Decided : Type 0 → Type 0
 Decided P = P ⊎ (P → ⊥)
 

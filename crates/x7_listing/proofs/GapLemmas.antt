@@ -3,26 +3,22 @@ use Rattle.std.proofs.Common.{◌≡◌, ℕ, ◌+◌, ◌-◌, ◌<◌, ◌≤�
 use Rattle.std.proofs.lemmas.List.{take_more}
 use Rattle.x7_words.specs.Word.{bytes_of_word, words_of_bytes}
 use Rattle.x7_text.specs.Digits.{hex_byte}
-use Rattle.x7_text.specs.Row.{in_line_after, open_text}
+use Rattle.x7_text.specs.Row.{in_line_after, open_bytes}
 use Rattle.x7_words.proofs.WordLemmas.{words_four}
 use Rattle.x7_text.proofs.LineLemmas.{in_line_after_append, open_text_append}
 use Rattle.x7_listing.specs.Lister.{GapListed}
 
--- the text of bytes in `bytes` lines
-abbrev B : ℕ → List ℕ → List ℕ
-B i xs = open_text 32 (codes "bytes ") hex_byte i xs
-
 pub fresh_gap : (all start : List ℕ) (gap : List ℕ) → gap ≡ [] → all ≡ start → GapListed all start 0 [] gap
 fresh_gap all start gap e f = record { prefix = []; split = e; listed = f ∙ sym (append-nil start); count = refl; full = inr refl; few = omega arith }
 
--- bytes more of a gap: those held and a prefix of the new ones are listed, and four are held then
+-- bytes more of a gap: of those held and the new ones all but the last four are listed, and these four are held then
 pub listed_more : (given old new start : List ℕ) (line line2 : ℕ) (held held2 gap more listed : List ℕ) → GapListed (given ++ old) start line held gap → held ++ more ≡ listed ++ held2 → length held2 ≡ 4
-    → new ≡ old ++ B line listed → line2 ≡ in_line_after 32 line listed → GapListed (given ++ new) start line2 held2 (gap ++ more)
+    → new ≡ old ++ open_bytes line listed → line2 ≡ in_line_after 32 line listed → GapListed (given ++ new) start line2 held2 (gap ++ more)
 listed_more given old new start line line2 held held2 gap more listed g e four t n = record {
   prefix = g.prefix ++ listed;
   split = ap (λ t. t ++ more) g.split ∙ append_assoc g.prefix held more ∙ ap (λ t. g.prefix ++ t) e ∙ sym (append_assoc g.prefix listed held2);
-  listed = ap (λ t. given ++ t) t ∙ sym (append_assoc given old (B line listed)) ∙ ap (λ t. t ++ B line listed) g.listed ∙ append_assoc start (B 0 g.prefix) (B line listed)
-      ∙ ap (λ k. start ++ (B 0 g.prefix ++ B k listed)) g.count ∙ ap (λ t. start ++ t) (sym (open_text_append 32 (codes "bytes ") hex_byte 0 g.prefix listed));
+  listed = ap (λ t. given ++ t) t ∙ sym (append_assoc given old (open_bytes line listed)) ∙ ap (λ t. t ++ open_bytes line listed) g.listed ∙ append_assoc start (open_bytes 0 g.prefix) (open_bytes line listed)
+      ∙ ap (λ k. start ++ (open_bytes 0 g.prefix ++ open_bytes k listed)) g.count ∙ ap (λ t. start ++ t) (sym (open_text_append 32 (codes "bytes ") hex_byte 0 g.prefix listed));
   count = n ∙ ap (λ k. in_line_after 32 k listed) g.count ∙ sym (in_line_after_append 32 0 g.prefix listed);
   full = inl four;
   few = omega arith;
@@ -60,8 +56,8 @@ held_then (p ∷ q ∷ r ∷ s ∷ t ∷ xs) n byte e f = absurd (omega (arith, 
 
 -- bytes held and then a piece, of which all but the last four are listed
 pub listed_all : (given old mid new start : List ℕ) (line after line2 : ℕ) (held gap bytes : List ℕ) → GapListed (given ++ old) start line held gap → 4 ≤ length bytes
-    → mid ≡ old ++ B line held → after ≡ in_line_after 32 line held
-    → new ≡ mid ++ B after (take (length bytes - 4) bytes) → line2 ≡ in_line_after 32 after (take (length bytes - 4) bytes)
+    → mid ≡ old ++ open_bytes line held → after ≡ in_line_after 32 line held
+    → new ≡ mid ++ open_bytes after (take (length bytes - 4) bytes) → line2 ≡ in_line_after 32 after (take (length bytes - 4) bytes)
     → GapListed (given ++ new) start line2 (slice_index_or bytes (length bytes - 4) 0 ∷ slice_index_or bytes (length bytes - 4 + 1) 0 ∷ slice_index_or bytes (length bytes - 4 + 2) 0 ∷ slice_index_or bytes (length bytes - 4 + 3) 0 ∷ []) (gap ++ bytes)
 listed_all given old mid new start line after line2 held gap bytes g h m b t n =
     let k : ℕ = length bytes - 4 in
@@ -69,7 +65,7 @@ listed_all given old mid new start line after line2 held gap bytes g h m b t n =
     let split : held ++ bytes ≡ (held ++ take k bytes) ++ slice_index_or bytes k 0 ∷ slice_index_or bytes (k + 1) 0 ∷ slice_index_or bytes (k + 2) 0 ∷ slice_index_or bytes (k + 3) 0 ∷ [] =
     ap (λ t. held ++ t) (sym (take-append-drop k bytes) ∙ ap (λ t. take k bytes ++ t) last) ∙ sym (append_assoc held (take k bytes) (slice_index_or bytes k 0 ∷ slice_index_or bytes (k + 1) 0 ∷ slice_index_or bytes (k + 2) 0 ∷ slice_index_or bytes (k + 3) 0 ∷ [])) in
     listed_more given old new start line line2 held _ gap bytes (held ++ take k bytes) g split refl
-    (t ∙ ap (λ x. x ++ B after (take k bytes)) m ∙ append_assoc old (B line held) (B after (take k bytes)) ∙ ap (λ i. old ++ (B line held ++ B i (take k bytes))) b ∙ ap (λ x. old ++ x) (sym (open_text_append 32 (codes "bytes ") hex_byte line held (take k bytes))))
+    (t ∙ ap (λ x. x ++ open_bytes after (take k bytes)) m ∙ append_assoc old (open_bytes line held) (open_bytes after (take k bytes)) ∙ ap (λ i. old ++ (open_bytes line held ++ open_bytes i (take k bytes))) b ∙ ap (λ x. old ++ x) (sym (open_text_append 32 (codes "bytes ") hex_byte line held (take k bytes))))
     (n ∙ ap (λ i. in_line_after 32 i (take k bytes)) b ∙ sym (in_line_after_append 32 line held (take k bytes)))
 
 -- the words of four bytes

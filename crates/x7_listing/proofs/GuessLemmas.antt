@@ -17,6 +17,7 @@ use Rattle.x7_listing.specs.BitLine.{has_no_space}
 use Rattle.x7_listing.specs.Line.{Line, Empty, Comment, Bytes, Sync, Nop, Write, Read, Write2, Read2, Word, Data, Cmd, Check, FitsLine, IsLine, text_of}
 use Rattle.x7_text.specs.DigitValue.{bytes_value, word_value}
 use Rattle.x7_text.proofs.ValueLemmas.{bytes_back, word_back}
+use Rattle.x7_words.proofs.CaseLemmas.{both_true}
 
 -- what stands after a word that the text begins with
 abbrev pub after : List ℕ → List ℕ → Option (List ℕ)
@@ -112,16 +113,11 @@ unfoldable pub each_name : (List ℕ → ℕ → Bool) → ℕ → Bool
 each_name test zero = true
 each_name test (suc n) = test (reg_name n) n && each_name test n
 
-both : (a b : Bool) → (a && b) ≡ true → (a ≡ true) × (b ≡ true)
-both true true e = (refl, refl)
-both true false e = absurd cc
-both false b e = absurd cc
-
 pub each_holds : (test : List ℕ → ℕ → Bool) (k n : ℕ) → n < k → each_name test k ≡ true → test (reg_name n) n ≡ true
 unfolding each_name
 each_holds test zero n h e = absurd (omega arith)
 each_holds test (suc k) n h e =
-    let parts = both (test (reg_name k) k) (each_name test k) e in
+    let parts = both_true (test (reg_name k) k) (each_name test k) e in
     elim (cases_lt n k) [
       | inl below ↦ each_holds test k n below parts.1
       | inr above ↦ let same : k ≡ n = omega arith in let P : ℕ → Type 0 = λ j. test (reg_name j) j ≡ true in subst P same parts.0

@@ -40,7 +40,8 @@ module _ (check : ℕ) (b : Bool) (t rest old new : List ℕ) where
 
 -- ---- lines that stand for one word
 
--- where what stands after a line's first word is the text of no value that fits, the whole is that of no line of one word
+-- where what stands after a line's first word is the text of no value that fits, the whole is that of no line of one
+-- word
 no_value : {A : Type 0} (fits : A → Type 0) (text : A → List ℕ) (word : List ℕ) (line : A → Line) (t rest : List ℕ)
     → t ≡ word ++ rest → ((x : A) → FitsWordLine (line x) → fits x) → ((x : A) → text_of (line x) ≡ word ++ text x)
     → ((l : Line) → IsLine (word ++ rest) l → (x : A) × (l ≡ line x))

@@ -36,7 +36,7 @@ use Rattle.x7_listing.proofs.ListedBytesLemmas.{listing_stands}
 use Rattle.x7_listing.proofs.line.LineTextLemmas.{Listed, head_is_one}
 use Rattle.x7_packets.specs.PacketWords.{type1_count_bound, type2_count_bound}
 
--- names are short
+-- a register's name has fewer than eight bytes, and a command's fewer than ten
 few : List ℕ → ℕ → Bool
 few name n = nat_lt (length name) 8
 
@@ -156,7 +156,7 @@ packets_whole : (ps : List Packet) → AllByRecursion IsWhole (flat_map packet_l
 packets_whole [] = tt
 packets_whole (p ∷ ps) = all_append IsWhole (packet_lines p) (flat_map packet_lines ps) (word_whole (line_of_head p.step p.head) (head_is_one p.step p.head), payload_by (register_named_by p.step == 4) p.payload) (packets_whole ps)
 
--- a gap, the sync word and packets
+-- the lines of a gap, the sync word and packets have at most five bytes for each byte that they stand for, less eleven
 session_short : (gap : List ℕ) (packets : List Packet) → AllByRecursion Listed (packets_lines gap packets) → length (ended_texts (packets_lines gap packets)) + 11 ≤ 5 * length (flat_map (line_bytes 0) (packets_lines gap packets))
 session_short gap packets a =
     let ls : List Line = flat_map packet_lines packets in

@@ -1,5 +1,5 @@
 -- A text has one outcome: no two of its bytes, its first bad line and the line at which it passes the limit.
-use Rattle.std.proofs.Common.{◌≡◌, ◌⊎◌, ℕ, ◌+◌, ◌-◌, ◌<◌, ◌≤◌, List, [], ◌∷◌, ◌++◌, inl, inr, Result, Ok, Err, IfErr, IfOk, MatchResult, length, map, fold, refl, ap, sym, subst, ◌∙◌, arith, append_assoc, append-nil, length-append}
+use Rattle.std.proofs.Common.{◌≡◌, ◌⊎◌, ℕ, ◌+◌, ◌-◌, ◌<◌, ◌≤◌, List, [], ◌∷◌, ◌++◌, inl, inr, Result, Ok, Err, MatchResult, length, map, fold, refl, ap, sym, subst, ◌∙◌, arith, append_assoc, append-nil, length-append}
 use Rattle.std.proofs.lemmas.Grind.{fold-append}
 use Rattle.std.specs.List.{AllByRecursion}
 use Rattle.x7_listing.specs.Assembly.{asm_limit, AssembleTo, assembled, BeginsWithLines, AreAsm, after_one_line, IsOutcomeAfter, HasNoHeaderLine, IsFirstBadText, IsAsm, IsHeaded, PassesLimitAt, with_line}
@@ -156,19 +156,9 @@ one_outcome text a b (inl h) (inr k) = absurd (not_headed (split text) a h k.0)
 one_outcome text a b (inr h) (inl k) = absurd (not_headed (split text) b k h.0)
 one_outcome text a b (inr h) (inr k) = same_asm asm_limit (split text) a b h.1 k.1
 
--- the outcome of the listing of a stream is the stream, but for want of memory
+-- the outcome of the listing of a stream of at most `asm_limit` bytes is the stream, but for want of memory
 pub stream_outcome : {X : Type 0} (items : X → List ℕ) (text : List ℕ) (r : Result X AsmFault) → MatchResult r (λ x. IsAsm text (Ok (items x))) (λ f. (f ≡ fault.NoMemory) ⊎ IsAsm text (Err f))
     → (b : List ℕ) → AreBytes b → length b ≤ asm_limit → stream_listing b ≡ Ok text → MatchResult r (λ x. items x ≡ b) (λ f. f ≡ fault.NoMemory)
 stream_outcome items text (Ok x) o b a h e = let same : Ok (items x) ≡ Ok b = one_outcome text (Ok (items x)) (Ok b) o (stream_back b text a h e) in cc
 stream_outcome items text (Err f) (inl is) b a h e = is
 stream_outcome items text (Err f) (inr is) b a h e = let other : Ok b ≡ Err f = one_outcome text (Ok b) (Err f) (stream_back b text a h e) is in absurd cc
-
--- what a result says where it is a value
-pub ok_side : {X E : Type 0} (result : Result X E) (P : X → Type 0) (Q : E → Type 0) → MatchResult result P Q → IfOk result P
-ok_side (Ok x) P Q h = h
-ok_side (Err e) P Q h = tt
-
--- what a result says where it is an error
-pub err_side : {X E : Type 0} (result : Result X E) (P : X → Type 0) (Q : E → Type 0) → MatchResult result P Q → IfErr result Q
-err_side (Ok x) P Q h = tt
-err_side (Err e) P Q h = h

@@ -1,11 +1,11 @@
 -- What was listed of bytes is a prefix of the listing of every longer list of bytes.
 use Rattle.std.proofs.Common.{◌≡◌, ℕ, ◌+◌, ◌-◌, ◌<◌, ◌≤◌, Bool, true, false, if◌then◌else◌, List, [], ◌∷◌, ◌++◌, inl, inr, Option, None, length, take, drop, refl, ap, sym, subst, ◌∙◌, append_assoc, append-nil, arith, length-append, take-add, take-append-drop, codes, flat_map}
-use Rattle.std.proofs.lemmas.List.{take-append-le}
+use Rattle.std.proofs.lemmas.List.{take-append-le, map-append}
 use Rattle.std.proofs.lemmas.List.Sums.{fold-append}
 use Rattle.std.proofs.Math.Seq.{take-append_seam}
 use Rattle.std.specs.Prelude.{nat_lt}
 use Rattle.x7_words.specs.Word.{AreBytes, word_of_bytes}
-use Rattle.x7_words.proofs.ListLemmas.{all_back, all_prefix, map_append}
+use Rattle.x7_words.proofs.ListLemmas.{all_back, all_prefix}
 use Rattle.x7_packets.specs.ByHand.{before_last_four, header_packet, is_sync, last_four, Reading, reading_of, with_byte, with_byte_at, with_payload_word, with_session_byte, packets_with_word, with_word_after}
 use Rattle.x7_packets.specs.Packet.{Packet, count_of, EachPacket, ended, latest_after, meaning, register_named_by, payload_steps, stepped}
 use Rattle.x7_packets.specs.Reading.{Place, Searching, Synced, EndedSession, IsReading, IsEndedSession}
@@ -14,17 +14,13 @@ use Rattle.x7_packets.specs.declared.header.Step.TheVariants.{Payload}
 use Rattle.x7_packets.specs.Mode.{Mode}
 use Rattle.x7_packets.proofs.ByHandLemmas.{reading_is, reading_is_found}
 use Rattle.x7_text.specs.Digits.{hex_byte}
-use Rattle.x7_text.specs.Row.{close, in_line_after, open_text}
+use Rattle.x7_text.specs.Row.{close, in_line_after, open_bytes}
 use Rattle.x7_text.proofs.LineLemmas.{bytes_closed, open_text_append}
 use Rattle.x7_listing.specs.Line.{Sync, ended_texts}
 use Rattle.x7_listing.specs.Listing.{gap_and_sync_lines, gap_lines, listing_of, packet_lines, packets_lines, place_lines, sessions_text}
 use Rattle.x7_listing.specs.Lister.{GapListed, ListerStandsFor, ListerState, HasListedAt, in_line_after_words, open_words, written_of}
 use Rattle.x7_listing.proofs.ListingLemmas.{gap_text, packets_text, place_after, session_more, texts_append}
 use Rattle.x7_listing.proofs.SessionLemmas.{session_closed, open_words_append}
-
--- the text of bytes in `bytes` lines, the last of which stays open unless it is full
-abbrev B : ℕ → List ℕ → List ℕ
-B i xs = open_text 32 (codes "bytes ") hex_byte i xs
 
 -- the second list begins with the first
 abbrev pub IsPrefixOf : List ℕ → List ℕ → Type 0
@@ -39,17 +35,17 @@ prefix_then xs ys zs f g = (f.0 ++ g.0, g.1 ∙ ap (λ t. t ++ g.0) f.1 ∙ appe
 prefix_after : (start xs ys : List ℕ) → IsPrefixOf xs ys → IsPrefixOf (start ++ xs) (start ++ ys)
 prefix_after start xs ys f = (f.0, ap (λ t. start ++ t) f.1 ∙ sym (append_assoc start xs f.0))
 
--- the words of packets listed one by one, the last line being open
+-- the text of the words of packets listed one by one; a last `data` line that isn't full stays open
 abbrev W : List Packet → List ℕ
 W packets = open_words 0 (flat_map stepped packets)
 
--- a session's text, the last line being open
+-- a session's text; a last `data` line that isn't full stays open
 abbrev sure_session : List ℕ → List Packet → List ℕ
 sure_session gap packets = ended_texts (gap_and_sync_lines gap) ++ W packets
 
 -- the text that is sure at a place: a gap's last four bytes may yet be a sync word, and an open line may go on
 abbrev pub sure_place : Place → List ℕ
-sure_place (Searching gap) = B 0 (before_last_four gap)
+sure_place (Searching gap) = open_bytes 0 (before_last_four gap)
 sure_place (Synced gap packets tail) = sure_session gap packets
 
 -- the text of a reading that is sure, whatever bytes follow
@@ -57,10 +53,10 @@ abbrev pub sure_of : Reading → List ℕ
 sure_of r = sessions_text r.sessions ++ sure_place r.place
 
 -- a gap of more bytes begins with the text of its first ones
-gap_goes_on : (xs ys : List ℕ) → IsPrefixOf (B 0 xs) (B 0 (xs ++ ys))
-gap_goes_on xs ys = (B (in_line_after 32 0 xs) ys, open_text_append 32 (codes "bytes ") hex_byte 0 xs ys)
+gap_goes_on : (xs ys : List ℕ) → IsPrefixOf (open_bytes 0 xs) (open_bytes 0 (xs ++ ys))
+gap_goes_on xs ys = (open_bytes (in_line_after 32 0 xs) ys, open_text_append 32 (codes "bytes ") hex_byte 0 xs ys)
 
-gap_over : (xs : List ℕ) → IsPrefixOf (B 0 xs) (ended_texts (gap_lines xs))
+gap_over : (xs : List ℕ) → IsPrefixOf (open_bytes 0 xs) (ended_texts (gap_lines xs))
 gap_over xs = (close (in_line_after 32 0 xs), gap_text xs ∙ sym (bytes_closed xs))
 
 -- the bytes before the last four, with a byte more after them
@@ -73,10 +69,10 @@ before_more gap byte =
     let same : take k all ≡ take k gap = take-append-le k gap (byte ∷ []) (omega arith) in
     (take more (drop k all), ap (λ n. take n all) sum ∙ take-add k more all ∙ ap (λ t. t ++ take more (drop k all)) same)
 
-gap_text_more : (gap : List ℕ) (byte : ℕ) → IsPrefixOf (B 0 (before_last_four gap)) (B 0 (before_last_four (gap ++ byte ∷ [])))
+gap_text_more : (gap : List ℕ) (byte : ℕ) → IsPrefixOf (open_bytes 0 (before_last_four gap)) (open_bytes 0 (before_last_four (gap ++ byte ∷ [])))
 gap_text_more gap byte =
     let f : IsPrefixOf (before_last_four gap) (before_last_four (gap ++ byte ∷ [])) = before_more gap byte in
-    subst (λ t. IsPrefixOf (B 0 (before_last_four gap)) (B 0 t)) (sym f.1) (gap_goes_on (before_last_four gap) f.0)
+    subst (λ t. IsPrefixOf (open_bytes 0 (before_last_four gap)) (open_bytes 0 t)) (sym f.1) (gap_goes_on (before_last_four gap) f.0)
 
 -- a gap with a byte more, by whether it ends with the sync word
 searched_more : (gap : List ℕ) (byte : ℕ) (b : Bool) → IsPrefixOf (sure_place (Searching gap)) (sure_place (if b then Synced (before_last_four (gap ++ byte ∷ [])) [] [] else Searching (gap ++ byte ∷ [])))
@@ -84,8 +80,8 @@ searched_more gap byte true =
     let now : List ℕ = before_last_four (gap ++ byte ∷ []) in
     let lines : List ℕ = ended_texts (gap_lines now) in
     let sure : List ℕ = sure_session now [] in
-    prefix_then (B 0 (before_last_four gap)) (B 0 now) sure (gap_text_more gap byte)
-    (prefix_then (B 0 now) lines sure (gap_over now) (ended_texts (Sync ∷ []), append-nil (ended_texts (gap_and_sync_lines now)) ∙ texts_append (gap_lines now) (Sync ∷ [])))
+    prefix_then (open_bytes 0 (before_last_four gap)) (open_bytes 0 now) sure (gap_text_more gap byte)
+    (prefix_then (open_bytes 0 now) lines sure (gap_over now) (ended_texts (Sync ∷ []), append-nil (ended_texts (gap_and_sync_lines now)) ∙ texts_append (gap_lines now) (Sync ∷ [])))
 searched_more gap byte false = gap_text_more gap byte
 
 -- a word more is one word with its step more
@@ -99,7 +95,7 @@ last_stepped latest p w true =
     let old : List (ℕ × Step) = payload_steps (register_named_by p.step) p.payload in (
       step,
       append-nil (head ∷ payload_steps (register_named_by p.step) (p.payload ++ w ∷ []))
-          ∙ ap (λ t. head ∷ t) (map_append (λ x. (x, Payload (register_named_by p.step) x)) p.payload (w ∷ []))
+          ∙ ap (λ t. head ∷ t) (map-append (λ x. (x, Payload (register_named_by p.step) x)) p.payload (w ∷ []))
           ∙ sym (ap (λ t. t ++ (w, step) ∷ []) (append-nil (head ∷ old))),
     )
 last_stepped latest p w false =
@@ -201,8 +197,8 @@ sure_goes_on bytes (byte ∷ rest) f =
 place_over : (bytes : List ℕ) (sessions : List EndedSession) (place : Place) → IsReading bytes sessions place → IsPrefixOf (sure_place place) (ended_texts (place_lines place))
 place_over bytes sessions (Searching gap) is =
     let k : ℕ = length gap - 4 in
-    let grown : IsPrefixOf (B 0 (take k gap)) (B 0 gap) = subst (λ t. IsPrefixOf (B 0 (take k gap)) (B 0 t)) (take-append-drop k gap) (gap_goes_on (take k gap) (drop k gap)) in
-    prefix_then (B 0 (take k gap)) (B 0 gap) (ended_texts (gap_lines gap)) grown (gap_over gap)
+    let grown : IsPrefixOf (open_bytes 0 (take k gap)) (open_bytes 0 gap) = subst (λ t. IsPrefixOf (open_bytes 0 (take k gap)) (open_bytes 0 t)) (take-append-drop k gap) (gap_goes_on (take k gap) (drop k gap)) in
+    prefix_then (open_bytes 0 (take k gap)) (open_bytes 0 gap) (ended_texts (gap_lines gap)) grown (gap_over gap)
 place_over bytes sessions (Synced gap packets tail) is =
     prefix_then (sure_session gap packets) (ended_texts (packets_lines gap packets)) (ended_texts (place_lines (Synced gap packets tail))) (session_over gap packets is.ends.1)
     (ended_texts (gap_lines tail), texts_append (packets_lines gap packets) (gap_lines tail))
@@ -223,7 +219,7 @@ listed_before prefix held gap e four =
 none_before : (gap : List ℕ) → length gap ≤ 4 → before_last_four gap ≡ []
 none_before gap few = let n : length gap - 4 ≡ 0 = omega arith in ap (λ k. take k gap) n
 
-gap_sure : (all start : List ℕ) (line : ℕ) (held gap : List ℕ) → GapListed all start line held gap → all ≡ start ++ B 0 (before_last_four gap)
+gap_sure : (all start : List ℕ) (line : ℕ) (held gap : List ℕ) → GapListed all start line held gap → all ≡ start ++ open_bytes 0 (before_last_four gap)
 gap_sure all start line held gap g =
     let same : before_last_four gap ≡ g.prefix = elim g.full [
       | inl four ↦ listed_before g.prefix held gap g.split four
@@ -232,13 +228,13 @@ gap_sure all start line held gap g =
           let few : length gap ≤ 4 = omega (arith, ap length is, g.few) in
           none_before gap few ∙ sym none
     ] in
-    g.listed ∙ ap (λ t. start ++ B 0 t) (sym same)
+    g.listed ∙ ap (λ t. start ++ open_bytes 0 t) (sym same)
 
 -- what is listed at a place is the sure text there
 pub place_sure : (synced : Bool) (line : ℕ) (held all start : List ℕ) (place : Place) (m : Mode) → (m ≡ Mode.SyncFound → ⊥) → HasListedAt (written_of synced line held all) start place m → all ≡ start ++ sure_place place
 place_sure false line held all start (Searching gap) m d t = gap_sure all start line held gap t
 place_sure false line held all start (Synced gap packets tail) m d t = absurd (d t.0)
-place_sure true line held all start (Searching gap) m d t = t.2 ∙ sym (append-nil start) ∙ ap (λ x. start ++ B 0 (before_last_four x)) (sym t.0)
+place_sure true line held all start (Searching gap) m d t = t.2 ∙ sym (append-nil start) ∙ ap (λ x. start ++ open_bytes 0 (before_last_four x)) (sym t.0)
 place_sure true line held all start (Synced gap packets tail) m d t =
     let ws : List ℕ = W packets in
     t.1.listed ∙ append_assoc start (ended_texts (gap_and_sync_lines gap)) ws

@@ -3,7 +3,7 @@ use Rattle.std.proofs.Common.{◌≡◌, ℕ, ◌≤◌, List, [], ◌∷◌, �
 use Rattle.std.proofs.lemmas.Grind.{flat_map-append}
 use Rattle.std.specs.List.{AllByRecursion, flat_map}
 use Rattle.x7_words.specs.Word.{AreBytes}
-use Rattle.x7_words.proofs.ListLemmas.{all_append, map_append}
+use Rattle.x7_words.proofs.ListLemmas.{all_append}
 use Rattle.x7_text.proofs.SplitLemmas.{split_line}
 use Rattle.x7_listing.specs.Listing.{listing_lines, listing_of}
 use Rattle.x7_listing.specs.Assembly.{AssembleTo, assembled, with_line}
@@ -12,8 +12,9 @@ use Rattle.x7_text.specs.Lines.{split}
 use Rattle.x7_listing.specs.Line.{Line, Empty, line_bytes, FitsLine, text_of, ended_texts}
 use Rattle.x7_listing.proofs.ListedBytesLemmas.{Stands, listing_stands}
 use Rattle.x7_listing.proofs.line.LineTextLemmas.{Listed, line_free, same_bytes}
+use Rattle.std.proofs.lemmas.List.{map-append}
 
--- cut at the line ends
+-- the text of lines, each with its end, is cut into their texts and an empty last one
 split_lines : (ls : List Line) → AllByRecursion Listed ls → split (ended_texts ls) ≡ map text_of ls ++ [] ∷ []
 split_lines [] a = refl
 split_lines (l ∷ ls) a =
@@ -38,7 +39,7 @@ round_trip limit bytes a h =
     record {
       lines = listing_lines bytes ++ Empty ∷ [];
       begins = record {
-        texts = split_lines (listing_lines bytes) s.each ∙ sym (map_append text_of (listing_lines bytes) (Empty ∷ [])) ∙ sym (append-nil (map text_of (listing_lines bytes ++ Empty ∷ [])));
+        texts = split_lines (listing_lines bytes) s.each ∙ sym (map-append text_of (listing_lines bytes) (Empty ∷ [])) ∙ sym (append-nil (map text_of (listing_lines bytes ++ Empty ∷ [])));
         fits = fit_all (listing_lines bytes ++ Empty ∷ []) each;
         within = subst (λ b. length b ≤ limit) (sym is) h;
       };

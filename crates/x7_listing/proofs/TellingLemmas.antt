@@ -12,7 +12,7 @@ use Rattle.x7_packets.specs.declared.header.Step.TheVariants.{Filler, Nop, Open,
 use Rattle.x7_packets.specs.Mode.{Mode}
 use Rattle.x7_packets.specs.declared.cutter.Cut.TheVariants.{Skip, Sync}
 use Rattle.x7_text.specs.Digits.{hex_byte}
-use Rattle.x7_text.specs.Row.{bytes_text, close, in_line_after, open_text}
+use Rattle.x7_text.specs.Row.{bytes_text, close, in_line_after, open_bytes}
 use Rattle.x7_text.proofs.LineLemmas.{bytes_closed, in_line_after_append, open_text_append}
 use Rattle.x7_listing.specs.Line.{ended_texts}
 use Rattle.x7_listing.specs.Listing.{gap_and_sync_lines, gap_lines, packet_lines, packets_lines, place_lines, reading_text, sessions_text}
@@ -20,10 +20,6 @@ use Rattle.x7_listing.specs.Lister.{GapListed, SessionListed, HasListed, HasList
 use Rattle.x7_listing.proofs.GapLemmas.{fresh_gap}
 use Rattle.x7_listing.proofs.ListingLemmas.{gap_and_sync_text, gap_text, packets_text, place_after, session_more, texts_append}
 use Rattle.x7_listing.proofs.SessionLemmas.{session_closed, words_place_append, open_words_append}
-
--- the text of bytes in `bytes` lines
-abbrev B : ℕ → List ℕ → List ℕ
-B i xs = open_text 32 (codes "bytes ") hex_byte i xs
 
 skipped : (line2 : ℕ) (held2 all2 start gap : List ℕ) (run : Bor (List ℕ)) (sessions new_sessions : List EndedSession) (np : Place) (old new : Mode)
     → CutAdds (Skip run) sessions (Searching gap) new_sessions np → ChangesMode (Skip run) old new np → GapListed all2 start line2 held2 (gap ++ run.now) → HasListedAt (written_of false line2 held2 all2) start np new
@@ -49,8 +45,8 @@ skip_listed true line line2 held held2 all all2 before sessions new_sessions (Se
     let start : List ℕ = before ++ sessions_text sessions in
     same_sessions false line2 held2 all2 before sessions new_sessions np new a.0 (skipped line2 held2 all2 start gap run sessions new_sessions np old new a m (g start gap (fresh_gap all start gap t.0 t.2)))
 
-gap_closed : (all start : List ℕ) (line : ℕ) (prefix : List ℕ) → all ≡ start ++ B 0 prefix → line ≡ in_line_after 32 0 prefix → all ++ close line ≡ start ++ bytes_text prefix
-gap_closed all start line prefix e n = ap (λ t. t ++ close line) e ∙ append_assoc start (B 0 prefix) (close line) ∙ ap (λ k. start ++ (B 0 prefix ++ close k)) n ∙ ap (λ t. start ++ t) (bytes_closed prefix)
+gap_closed : (all start : List ℕ) (line : ℕ) (prefix : List ℕ) → all ≡ start ++ open_bytes 0 prefix → line ≡ in_line_after 32 0 prefix → all ++ close line ≡ start ++ bytes_text prefix
+gap_closed all start line prefix e n = ap (λ t. t ++ close line) e ∙ append_assoc start (open_bytes 0 prefix) (close line) ∙ ap (λ k. start ++ (open_bytes 0 prefix ++ close k)) n ∙ ap (λ t. start ++ t) (bytes_closed prefix)
 
 -- where a gap ends with the sync word, its four bytes are those held
 found_gap : (all start : List ℕ) (line : ℕ) (held gap : List ℕ) → GapListed all start line held (gap ++ sync_bytes) → all ++ close line ≡ start ++ bytes_text gap
@@ -148,26 +144,26 @@ words_listed_at true line line2 held held2 all all2 before bytes sessions new_se
 
 -- the end of a listing in a gap
 pub gap_ended : (all all2 before : List ℕ) (line : ℕ) (held bytes : List ℕ) (sessions : List EndedSession) (at : Place) (m : Mode) → HasListed (written_of false line held all) before sessions at m → (m ≡ Mode.SyncFound → ⊥)
-    → all2 ≡ all ++ B line held ++ close (in_line_after 32 line held) → all2 ≡ before ++ reading_text sessions at
+    → all2 ≡ all ++ open_bytes line held ++ close (in_line_after 32 line held) → all2 ≡ before ++ reading_text sessions at
 gap_ended all all2 before line held bytes sessions (Synced gap packets tail) m t d e = absurd (d t.0)
 gap_ended all all2 before line held bytes sessions (Searching gap) m t d e =
     let start : List ℕ = before ++ sessions_text sessions in
-    let listed : all ++ B line held ≡ start ++ B 0 gap = ap (λ t. t ++ B line held) t.listed ∙ append_assoc start (B 0 t.prefix) (B line held)
-    ∙ ap (λ k. start ++ (B 0 t.prefix ++ B k held)) t.count ∙ ap (λ t. start ++ t) (sym (open_text_append 32 (codes "bytes ") hex_byte 0 t.prefix held))
-    ∙ ap (λ t. start ++ B 0 t) (sym t.split) in
+    let listed : all ++ open_bytes line held ≡ start ++ open_bytes 0 gap = ap (λ t. t ++ open_bytes line held) t.listed ∙ append_assoc start (open_bytes 0 t.prefix) (open_bytes line held)
+    ∙ ap (λ k. start ++ (open_bytes 0 t.prefix ++ open_bytes k held)) t.count ∙ ap (λ t. start ++ t) (sym (open_text_append 32 (codes "bytes ") hex_byte 0 t.prefix held))
+    ∙ ap (λ t. start ++ open_bytes 0 t) (sym t.split) in
     let count : in_line_after 32 line held ≡ in_line_after 32 0 gap = ap (λ k. in_line_after 32 k held) t.count ∙ sym (in_line_after_append 32 0 t.prefix held) ∙ ap (in_line_after 32 0) (sym t.split) in
-    e ∙ gap_closed (all ++ B line held) start (in_line_after 32 line held) gap listed count ∙ append_assoc before (sessions_text sessions) (bytes_text gap)
+    e ∙ gap_closed (all ++ open_bytes line held) start (in_line_after 32 line held) gap listed count ∙ append_assoc before (sessions_text sessions) (bytes_text gap)
     ∙ ap (λ t. before ++ t) (ap (λ t. sessions_text sessions ++ t) (sym (gap_text gap)) ∙ sym (place_after sessions (Searching gap)))
 
 -- the end of a listing in a session
 pub session_over : (all all2 before : List ℕ) (line : ℕ) (held kept bytes : List ℕ) (sessions : List EndedSession) (at : Place) (m : Mode) → HasListed (written_of true line held all) before sessions at m → IsReading bytes sessions at → kept ≡ tail_of at
-    → all2 ≡ all ++ close line ++ B 0 kept ++ close (in_line_after 32 0 kept) → all2 ≡ before ++ reading_text sessions at
+    → all2 ≡ all ++ close line ++ open_bytes 0 kept ++ close (in_line_after 32 0 kept) → all2 ≡ before ++ reading_text sessions at
 session_over all all2 before line held kept bytes sessions (Searching gap) m t r k e =
     rw (e, k, t.1, t.2, t.0) (simp (append_assoc, append-nil))
 session_over all all2 before line held kept bytes sessions (Synced gap packets tail) m t r k e =
     let start : List ℕ = before ++ sessions_text sessions in
     let lines : List ℕ = ended_texts (packets_lines gap packets) in
     let whole : lines ++ bytes_text tail ≡ ended_texts (place_lines (Synced gap packets tail)) = ap (λ t. lines ++ t) (sym (gap_text tail)) ∙ sym (texts_append (packets_lines gap packets) (gap_lines tail)) in
-    e ∙ append_assoc (all ++ close line) (B 0 kept) (close (in_line_after 32 0 kept)) ∙ ap (λ t. all ++ close line ++ t) (bytes_closed kept) ∙ ap (λ t. all ++ close line ++ bytes_text t) k
+    e ∙ append_assoc (all ++ close line) (open_bytes 0 kept) (close (in_line_after 32 0 kept)) ∙ ap (λ t. all ++ close line ++ t) (bytes_closed kept) ∙ ap (λ t. all ++ close line ++ bytes_text t) k
     ∙ ap (λ t. t ++ bytes_text tail) (session_ended all start line gap packets t.1 r.ends.1) ∙ append_assoc start lines (bytes_text tail) ∙ append_assoc before (sessions_text sessions) (lines ++ bytes_text tail)
     ∙ ap (λ t. before ++ t) (ap (λ t. sessions_text sessions ++ t) whole ∙ sym (place_after sessions (Synced gap packets tail)))

@@ -10,7 +10,7 @@ use Rattle.x7_listing.specs.Assembly.{AreHeadedAsm, asm_limit, assembled, Begins
 use Rattle.x7_listing.specs.declared.assembler.AsmFault.{AsmFault}
 use Rattle.x7_listing.specs.declared.assembler.AsmFault.TheVariants as fault
 
--- the first `n` texts are those of lines, whose bytes these are, and the others are left
+-- the first `n` texts are those of lines, whose bytes these are, within the limit, and the others are left
 pub record LinesAreRead (limit : ℕ) (all left : List (List ℕ)) (bytes : List ℕ) (n : ℕ) : Type 0 where
   pub lines : List Line
   pub begins : BeginsWithLines limit all lines left
@@ -57,8 +57,8 @@ pub record IsSoundOutput (out : List ℕ) (start : ℕ) (checker : CheckerState)
   pub begun : start ≤ length out
   pub keeps : KeepsCheckOf checker (drop start out)
 
--- `n` of the texts are read, a header's line included, and the others are left: the output has their bytes, those of
--- lines from `start` on, whose check is kept
+-- `n` of the texts are read, a header's line included, and the others are left: the output has the bytes of those read,
+-- `asm_limit` at most, those of lines from `start` on, whose check is kept
 pub record TextsAreRead (all left : List (List ℕ)) (b : Output) (n : ℕ) : Type 0 where
   pub others : List (List ℕ)
   pub first : ℕ
@@ -100,7 +100,7 @@ pub record AppendsFirstLines (text old new : List ℕ) (size count : ℕ) : Type
   pub counted : count ≤ size
   pub takes : AppendsLines text (drop size text) old new count
 
--- whether a line was read
+-- whether there is a line among those that were read
 abbrev pub has_any : List (List ℕ) → Bool
 has_any [] = false
 has_any (t ∷ ts) = true
@@ -114,7 +114,7 @@ pub record HasReadWithRoom (b : Output) (lines : List (List ℕ)) : Type 0 where
   pub read : IsOutputOf b lines
   pub room : has_any lines ≡ true → HasLineRoom b
 
--- memory may be wanting at a line: it is the first, or those up to it assemble
+-- memory may be wanting at a line: it is the first, or all lines up to and with it assemble
 abbrev pub IsFirstOrGood : List (List ℕ) → List ℕ → Type 0
 IsFirstOrGood lines line = (lines ≡ []) ⊎ ((bytes : List ℕ) × AreHeadedAsm (lines ++ line ∷ []) (Ok bytes))
 

@@ -1,5 +1,5 @@
--- What a text assembles to: the bytes of its lines, or its first text of no line, or the first line at which the bytes
--- pass a limit (this project's choice). Lines count from 1.
+-- What a text assembles to: the bytes of its header's line, if it begins with one, and of its lines; or the first text
+-- that is no line's; or the first line at which the bytes pass a limit (this project's choice). Lines count from 1.
 use Rattle.std.specs.Prelude.{◌≡◌, ◌≢◌, ◌⊎◌, ℕ, ◌+◌, ◌-◌, ◌<◌, ◌≤◌, List, [], ◌∷◌, ◌++◌, length, map, fold, Result, Ok, Err}
 use Rattle.std.specs.List.{AllByRecursion}
 use Rattle.x7_text.specs.Lines.{split}
@@ -24,7 +24,7 @@ pub record BeginsWithLines (limit : ℕ) (all : List (List ℕ)) (lines : List L
   pub fits : AllByRecursion FitsLine lines
   pub within : length (assembled lines) ≤ limit
 
--- the texts are those of lines, and these are their bytes
+-- the texts are those of lines, and these are their bytes, which are within the limit
 pub record AssembleTo (limit : ℕ) (all : List (List ℕ)) (bytes : List ℕ) : Type 0 where
   pub lines : List Line
   pub begins : BeginsWithLines limit all lines []
@@ -39,7 +39,7 @@ pub record IsFirstBadText (limit : ℕ) (all : List (List ℕ)) (n : ℕ) : Type
   pub count : n ≡ length lines + 1
   pub no_line : (l : Line) → IsLine bad l → ⊥
 
--- text n is the first at which the bytes pass the limit, and a line each up to it
+-- text n is the first at which the bytes pass the limit, and each text up to and with it is a line's
 pub record PassesLimitAt (limit : ℕ) (all : List (List ℕ)) (n : ℕ) : Type 0 where
   pub lines : List Line
   pub last : Line
@@ -60,7 +60,7 @@ AreAsm limit all (Err fault.NoMemory) = ⊥
 abbrev pub asm_limit : ℕ
 asm_limit = 67108864
 
--- the outcome of a text with one line more before it, which stands for these bytes
+-- the outcome of a text by that of what stands after its first line, where this line stands for the bytes `prefix`
 abbrev pub after_one_line : List ℕ → Result (List ℕ) AsmFault → Result (List ℕ) AsmFault
 after_one_line prefix (Ok bytes) = Ok (prefix ++ bytes)
 after_one_line prefix (Err (fault.Line n)) = Err (fault.Line (n + 1))

@@ -6,7 +6,7 @@ use Rattle.x7_header.specs.Header.{HeaderContents, FitHeaderFields, header_bytes
 use Rattle.x7_text.specs.Digits.{hex_byte}
 use Rattle.x7_words.specs.Characters.{space_byte}
 
--- the text of a header's field: two digits for each byte, or `-` where it holds nothing
+-- the text of a header's field: two hex digits for each byte, or `-` where it holds nothing
 abbrev pub field_text : List ℕ → List ℕ
 field_text [] = codes "-"
 field_text (x ∷ xs) = flat_map hex_byte (x ∷ xs)
@@ -54,7 +54,7 @@ has_no_space (c ∷ cs) = if c == space_byte then false else has_no_space cs
 abbrev pub IsFirstSpace : List ℕ → ℕ → Type 0
 IsFirstSpace text at = (at < length text) × (slice_index text at ≡ space_byte) × ((j : ℕ) → j < at → slice_index text j ≢ space_byte)
 
--- the text stands before the first space of all, and the rest after it
+-- `text` is what stands before the first space of `all`, and `rest` what stands after it
 pub record IsCutAtSpace (all text rest : List ℕ) : Type 0 where
   pub parts : all ≡ text ++ space_byte ∷ rest
   pub free : has_no_space text ≡ true

@@ -79,7 +79,7 @@ IsWordLine (Data words) = ⊥
 IsWordLine Check = ⊥
 IsWordLine _ = Unit {0}
 
--- the word that a line of such a kind stands for; 0 for any other line
+-- the word that a line of one word (`IsWordLine`) stands for; 0 for any other line
 abbrev pub word_of_line : Line → ℕ
 word_of_line Sync = sync_word
 word_of_line Nop = no_op

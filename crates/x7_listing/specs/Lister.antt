@@ -44,7 +44,7 @@ abbrev pub in_line_after_words : ℕ → List (ℕ × Step) → ℕ
 in_line_after_words i [] = i
 in_line_after_words i (s ∷ ss) = in_line_after_words (in_line_after_word i s.1) ss
 
--- the bytes of a gap are listed but for those that are held, which may yet be a sync word
+-- the bytes of a gap are listed but for those that are held, the last four at most, which may be bytes of a sync word
 pub record GapListed (all start : List ℕ) (in_line : ℕ) (held gap : List ℕ) : Type 0 where
   pub prefix : List ℕ
   pub split : gap ≡ prefix ++ held
@@ -53,7 +53,7 @@ pub record GapListed (all start : List ℕ) (in_line : ℕ) (held gap : List ℕ
   pub full : (length held ≡ 4) ⊎ (prefix ≡ [])
   pub few : length held ≤ 4
 
--- the words of a session are listed, and the last line is open
+-- the gap before a session, its sync word and its words are listed; a `data` line that isn't full stays open
 pub record SessionListed (all start : List ℕ) (in_line : ℕ) (gap : List ℕ) (packets : List Packet) : Type 0 where
   pub listed : all ≡ start ++ ended_texts (gap_and_sync_lines gap) ++ open_words 0 (flat_map stepped packets)
   pub count : in_line ≡ in_line_after_words 0 (flat_map stepped packets)
@@ -62,7 +62,7 @@ pub record SessionListed (all start : List ℕ) (in_line : ℕ) (gap : List ℕ)
 pub record WrittenSoFar : Type 0 where
   -- whether the last bytes listed are a session's
   pub is_synced : Bool
-  -- how many elements stand in the open line
+  -- how many bytes of a gap, or words of a session, stand in the open line; 0 where none is open
   pub in_line : ℕ
   -- the bytes that are held: of a gap, or of no whole word where runs are taken
   pub held : List ℕ
@@ -109,7 +109,7 @@ pub record ListerState : Type 0 where
   pub cutter : CutterState
   -- whether the last bytes listed are a session's
   pub is_synced : Bool
-  -- how many elements stand in the open line
+  -- how many bytes of a gap, or words of a session, stand in the open line; 0 where none is open
   pub in_line : ℕ
   -- the bytes that are held: of a gap, or of no whole word where runs are taken
   pub held : List ℕ
@@ -120,7 +120,7 @@ pub record ListerState : Type 0 where
 abbrev pub lister_of : CutterState → Bool → ℕ → List ℕ → List ℕ → ListerState
 lister_of cutter is_synced in_line held text = record { cutter = cutter; is_synced = is_synced; in_line = in_line; held = held; text = text }
 
--- what a lister has written, the texts given and then its own
+-- what a lister has written: the texts given, which are those that were cleared, and then its own
 abbrev pub listing_written : ListerState → List ℕ → WrittenSoFar
 listing_written l given = written_of l.is_synced l.in_line l.held (given ++ l.text)
 

@@ -10,7 +10,7 @@ use Rattle.x7_text.specs.Row.{bytes_row_size, row_words, rows}
 use Rattle.x7_listing.specs.HeadLine.{line_of_head}
 use Rattle.x7_listing.specs.Line.{Line, Bytes, Sync, Data, cmd_line, ended_texts}
 
--- the lines of a payload: one a word where the register is CMD, else one for each row of words
+-- the lines of a payload: one a word where the register is CMD, else eight words a line, the last maybe fewer
 abbrev pub payload_lines : ℕ → List ℕ → List Line
 payload_lines register ws = if register == number_of Cmd then map cmd_line ws else map Data (rows row_words ws)
 
@@ -18,7 +18,7 @@ payload_lines register ws = if register == number_of Cmd then map cmd_line ws el
 abbrev pub packet_lines : Packet → List Line
 packet_lines p = line_of_head p.step p.head ∷ payload_lines (register_named_by p.step) p.payload
 
--- the lines of the bytes of a gap, or of no whole word: 32 bytes a line
+-- the lines of the bytes of a gap, or of those after a session's last whole word: 32 bytes a line, the last maybe fewer
 abbrev pub gap_lines : List ℕ → List Line
 gap_lines bs = map Bytes (rows bytes_row_size bs)
 

@@ -19,7 +19,7 @@ is_in_session (pen.Gap gap) = false
 is_in_session (pen.Session in_line) = true
 is_in_session (pen.Tail in_line tail) = true
 
--- how many elements stand in a pen's open line
+-- how many bytes of a gap, or words of a session, stand in a pen's open line; 0 where none is open
 abbrev pub in_line_of : Pen → ℕ
 in_line_of (pen.Gap gap) = gap.in_line
 in_line_of (pen.Session in_line) = in_line.count

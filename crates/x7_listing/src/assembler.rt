@@ -12,19 +12,19 @@ use thiserror::Error;
 use x7_text::read_lines;
 use x7_words::NoMemory;
 
-/// How many bytes a text may stand for: 64 MiB, as a stream has at most.
+/// How many bytes a text may stand for at most: 64 MiB, as many as a stream may have (this project's choice).
 pub const ASM_LIMIT: usize = 67_108_864;
 
 /// Why a text stands for no bytes. Lines count from 1.
 #[derive(Clone, Copy, Debug, Drop, Error)]
 pub enum AsmFault {
-    /// The first line that is none of the assembler's.
+    /// The first line that is none of the assembler's; a header's line is one only where it is the text's first.
     #[error("line {0} is no line")]
     Line(u64),
-    /// The first line at which the bytes pass the limit.
+    /// The first line at which the bytes, a header's among them, pass `ASM_LIMIT`.
     #[error("line {0} passes the limit")]
     TooLong(u64),
-    /// There was no memory for the bytes.
+    /// There was no memory for the bytes, or to hold the beginning of a line.
     #[error("no memory")]
     NoMemory,
 }
@@ -51,11 +51,11 @@ impl From<AllocError> for AsmFault {
     }
 }
 
-/// Assembles a text: the bytes of its header and lines, or the first line that is none of the assembler's, or at which
-/// the bytes pass `ASM_LIMIT`.
+/// Assembles a text (this project's choice): the bytes of its header and lines, or its first line at fault, as
+/// `AsmFault` says.
 ///
-/// The listing of a stream assembles back to the stream, unless memory runs out, which it does only at the first line
-/// or at one up to which all are good.
+/// The listing of a stream of at most `ASM_LIMIT` bytes assembles back to the stream, unless memory runs out. Memory
+/// runs out only at the first line, or at one up to and with which all are good.
 pub fn assemble(alloc: Global, text: &[u8]) -> Result<Vec<u8>, AsmFault>
     ensures bytes { IfOk result (λ bytes. IsAsm text.now (Ok bytes.items)) }
     ensures fault { IfErr result (λ fault. (fault ≡ AsmFault.NoMemory) ⊎ IsAsm text.now (Err fault)) }

@@ -1,4 +1,4 @@
-//! Laws of listings and of texts that are assembled.
+//! Laws of listings and of texts that are assembled. The functions do nothing: their contracts are the laws.
 ghost use Rattle.std.specs.Prelude.{◌≡◌, ◌+◌, ◌*◌, ◌<◌, ◌^◌, ◌≤◌, ℕ, List, ◌++◌, length, true, Result, Ok};
 ghost use Rattle.x7_words.specs.Word.{AreBytes};
 ghost use Rattle.x7_text.specs.Lines.{has_no_end};
@@ -25,20 +25,20 @@ pub fn listed_is_a_prefix()
         → IsTextPrefix (given ++ l.text) (before ++ listing_of (bytes ++ rest)) }
 {}
 
-/// A lister's text is never more than four bytes behind the bytes that it took.
+/// The text that a lister has listed of the bytes that it took is at most four bytes shorter than these bytes.
 pub fn few_bytes_are_held()
     ensures { (l : ListerState) (given before bytes : List ℕ) → ListerStandsFor l given before bytes
         → length before + length bytes ≤ length (given ++ l.text) + 4 }
 {}
 
-/// A lister's text, after the listings before, is never more than 64 bytes
-/// behind the listing of the bytes that it took.
+/// The text that a lister has listed of the bytes that it took is at most 64 bytes shorter than the listing of these
+/// bytes.
 pub fn little_text_is_held()
     ensures { (l : ListerState) (given before bytes : List ℕ) → ListerStandsFor l given before bytes
         → length before + length (listing_of bytes) ≤ length (given ++ l.text) + 64 }
 {}
 
-/// A lister that takes runs is never more than four bytes of text behind their bytes.
+/// The text that a lister of runs has listed is at most four bytes shorter than the bytes of the runs.
 pub fn few_bytes_of_runs_are_held()
     ensures { (l : ListerState) (given before bytes : List ℕ) (due : Mode) → TakerStandsFor l given before bytes due
         → length before + length bytes ≤ length (given ++ l.text) + 4 }
@@ -69,7 +69,7 @@ pub fn listing_is_short()
     ensures { (bytes text : List ℕ) → AreBytes bytes → stream_listing bytes ≡ Ok text → length text ≤ 5 * length bytes + 4 }
 {}
 
-/// A header's line is that of no other header, and no other line.
+/// The text of a header's line is that of no other header, and of no line of another kind.
 pub fn header_line_is_its_own()
     ensures no_other_header { (x y : HeaderContents) → FitsHeader x → FitsHeader y → bit_text x ≡ bit_text y → x ≡ y }
     ensures no_line { (x : HeaderContents) (line : Line) → IsLine (bit_text x) line → ⊥ }

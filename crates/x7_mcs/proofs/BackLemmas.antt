@@ -62,7 +62,7 @@ prefix_more xs x done f e h = record {
   marked = λ p. ap (λ (b : Bool). covers x p || b) (f.marked p ∙ ap (nat_lt p) (sym e)) ∙ marks_more x p ∙ ap (λ (k : ℕ). nat_lt p (k + length x.bytes)) e ∙ ap (nat_lt p) (sym (length-append done x.bytes));
 }
 
--- what the text of bytes gives
+-- a text that goes on from line n, with this base and these records before it, gives the bytes `all`
 pub record Ends (n base : ℕ) (xs : List DataRecord) (text all : List ℕ) : Type 0 where
   pub reading : FlashReading
   pub is : with_end (after_lines n (mcs_reading base false xs) (lines_of text)) ≡ Ok reading
@@ -82,7 +82,7 @@ parts (x ∷ xs) b h = let p = parts xs b h.1 in ((h.0, p.0), p.1)
 eq_false_not : (a : ℕ) → (a == 0) ≡ false → a ≡ 0 → ⊥
 eq_false_not a e f = grind (arith, common_steps)
 
--- where a base stands for a place
+-- the base is that of the place's block, or the place begins a block, whose record 04 comes
 abbrev pub AtBase : ℕ → ℕ → Type 0
 AtBase place base = (base ≡ block_size * (place / block_size)) ⊎ (place % block_size ≡ 0)
 
@@ -109,7 +109,7 @@ one_row n base place xs done r rest f e h l a w b i =
           ∙ ap (λ (k : ℕ). after_lines (p.0 + 1) (mcs_reading (block_size * (place / block_size)) false (record { place = k; bytes = r } ∷ xs)) (lines_of rest)) is,
     )
 
--- what holds before rows, if any
+-- rows, if there are any, begin at a multiple of 16 for which the base stands
 abbrev pub Aligned : ℕ → ℕ → List (List ℕ) → Type 0
 Aligned place base [] = Unit {0}
 Aligned place base (r ∷ rs) = (place % 16 ≡ 0) × AtBase place base

@@ -16,6 +16,7 @@ use Rattle.x7_mcs.specs.declared.record.Meaning.{Meaning}
 use Rattle.x7_mcs.specs.declared.record.Meaning.TheVariants as meaning
 use Rattle.x7_mcs.proofs.OutcomeLemmas.{none_is}
 use Rattle.x7_mcs.proofs.RowsLemmas.{first_of_16}
+use Rattle.std.proofs.Math.Seq.{drop-append-le}
 
 -- ---- lines in turn
 
@@ -121,11 +122,6 @@ records_apart text r e = apart_lines (lines_of text) 1 of_no_line r (apart_end (
 
 -- ---- rows in parts
 
-drop_append : (n : ℕ) (xs ys : List ℕ) → n ≤ length xs → drop n (xs ++ ys) ≡ drop n xs ++ ys
-drop_append zero xs ys h = refl
-drop_append (suc n) [] ys h = absurd (omega arith)
-drop_append (suc n) (x ∷ xs) ys h = drop_append n xs ys (omega arith)
-
 pub in_parts : (k place : ℕ) (xs ys : List ℕ) → length xs ≡ 16 * k → row_lines place (rows 16 (xs ++ ys)) ≡ row_lines place (rows 16 xs) ++ row_lines (place + length xs) (rows 16 ys)
 in_parts zero place xs ys e =
     let none : xs ≡ [] = nil_from_length xs (omega (arith, e)) in
@@ -138,7 +134,7 @@ in_parts (suc k) place xs ys e =
     let rest : length (drop 16 xs) ≡ 16 * k = omega (arith, e, long) in
     let there : place + length (take 16 xs) + length (drop 16 xs) ≡ place + length xs = omega (arith, one, long, e) in
     ap (row_lines place) (first_of_16 (xs ++ ys) (omega (arith, both, e)))
-    ∙ ap₂ (λ (t u : List ℕ). block_start place ++ data_line (place % block_size) t ++ row_lines (place + length t) (rows 16 u)) (take-append-le 16 xs ys (omega (arith, e))) (drop_append 16 xs ys (omega (arith, e)))
+    ∙ ap₂ (λ (t u : List ℕ). block_start place ++ data_line (place % block_size) t ++ row_lines (place + length t) (rows 16 u)) (take-append-le 16 xs ys (omega (arith, e))) (drop-append-le 16 xs ys (omega (arith, e)))
     ∙ ap (λ (t : List ℕ). block_start place ++ data_line (place % block_size) (take 16 xs) ++ t) (in_parts k (place + length (take 16 xs)) (drop 16 xs) ys rest ∙ ap (λ (p : ℕ). row_lines (place + length (take 16 xs)) (rows 16 (drop 16 xs)) ++ row_lines p (rows 16 ys)) there)
     ∙ joined (block_start place) (data_line (place % block_size) (take 16 xs)) (row_lines (place + length (take 16 xs)) (rows 16 (drop 16 xs))) (row_lines (place + length xs) (rows 16 ys))
     ∙ ap (λ (t : List (List ℕ)). row_lines place t ++ row_lines (place + length xs) (rows 16 ys)) (sym (first_of_16 xs (omega (arith, e))))

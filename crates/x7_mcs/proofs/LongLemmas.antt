@@ -48,7 +48,7 @@ pub empty_line : (n : ℕ) (r : FlashReading) (line : List ℕ) → length line 
 empty_line n r [] e = refl
 empty_line n r (c ∷ cs) e = absurd (omega (arith, e))
 
--- what a bool tells
+-- what holds by a bool that is true, or false
 pub by_true : (b : Bool) (P Q : Type 0) → b ≡ true → MatchBool b P Q → P
 by_true b P Q e h = subst (λ (a : Bool). MatchBool a P Q) e h
 

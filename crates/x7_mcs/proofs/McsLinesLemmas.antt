@@ -21,6 +21,7 @@ use Rattle.x7_mcs.proofs.GoesLemmas.{gives_bytes, gives_fault, gives_no_end}
 use Rattle.x7_mcs.proofs.LawLemmas.{in_turn, reported_one}
 use Rattle.x7_mcs.proofs.LineLemmas.{line_first}
 use Rattle.x7_mcs.proofs.ReadLemmas.{read_data}
+use Rattle.x7_text.proofs.LineReaderLemmas.{left_some}
 
 -- ---- lines without their ends
 
@@ -28,13 +29,9 @@ bare_more : (t : List ℕ) (ts : List (List ℕ)) → (ts ≡ [] → ⊥) → ba
 bare_more t [] h = absurd (h refl)
 bare_more t (u ∷ ts) h = refl
 
-after_some : (ls ts : List (List ℕ)) → (ts ≡ [] → ⊥) → ls ++ ts ≡ [] → ⊥
-after_some [] ts h e = h e
-after_some (l ∷ ls) ts h e = cc
-
 bare_after : (ls ts : List (List ℕ)) → (ts ≡ [] → ⊥) → bare_lines (ls ++ ts) ≡ map without_return ls ++ bare_lines ts
 bare_after [] ts h = refl
-bare_after (l ∷ ls) ts h = bare_more l (ls ++ ts) (after_some ls ts h) ∙ ap (λ us. without_return l ∷ us) (bare_after ls ts h)
+bare_after (l ∷ ls) ts h = bare_more l (ls ++ ts) (left_some ls ts h) ∙ ap (λ us. without_return l ∷ us) (bare_after ls ts h)
 
 some_after : (t : List ℕ) (ts : List (List ℕ)) → t ∷ ts ≡ [] → ⊥
 some_after t ts e = cc

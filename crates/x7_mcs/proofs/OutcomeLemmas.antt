@@ -1,6 +1,6 @@
 -- What a flash text gives, said in other words.
 use Rattle.std.proofs.lemmas.Bool.{cases_lt}
-use Rattle.std.proofs.Common.{◌≡◌, ℕ, zero, suc, ◌+◌, ◌<◌, ◌≤◌, Bool, true, false, if◌then◌else◌, None, Some, IfErr, IfOk, MatchResult, inl, inr, ◌⊎◌, List, Result, Ok, Err, refl, subst, arith}
+use Rattle.std.proofs.Common.{◌≡◌, ℕ, zero, suc, ◌+◌, ◌<◌, ◌≤◌, Bool, true, false, if◌then◌else◌, None, Some, MatchResult, inl, inr, ◌⊎◌, List, Result, Ok, Err, refl, subst, arith}
 use Rattle.x7_mcs.specs.DataRecords.{DataRecord, covered, overlap}
 use Rattle.x7_mcs.specs.declared.fault.McsFault.{McsFault}
 use Rattle.x7_mcs.specs.declared.fault.McsFault.TheVariants as fault
@@ -42,13 +42,3 @@ none_by false xs p n c e more k h l = elim (cases_lt p k) [
 pub none_is : (xs : List DataRecord) (p n : ℕ) → overlap xs p n ≡ None → (k : ℕ) → p ≤ k → k < p + n → covered xs k ≡ false
 none_is xs p zero e k h l = absurd (omega arith)
 none_is xs p (suc n) e k h l = none_by (covered xs p) xs p n refl e (none_is xs (p + 1) n) k h l
-
--- what a result says where it is a value
-pub ok_side : {X E : Type 0} (result : Result X E) (P : X → Type 0) (Q : E → Type 0) → MatchResult result P Q → IfOk result P
-ok_side (Ok x) P Q h = h
-ok_side (Err e) P Q h = tt
-
--- what a result says where it is an error
-pub err_side : {X E : Type 0} (result : Result X E) (P : X → Type 0) (Q : E → Type 0) → MatchResult result P Q → IfErr result Q
-err_side (Ok x) P Q h = tt
-err_side (Err e) P Q h = h

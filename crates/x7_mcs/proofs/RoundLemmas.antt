@@ -10,7 +10,7 @@ use Rattle.x7_mcs.specs.Text.{record_line}
 use Rattle.x7_mcs.specs.declared.fault.McsFault.TheVariants as fault
 use Rattle.x7_mcs.proofs.LineLemmas.{line_ends}
 
--- no character is a line end or a 0D
+-- each character is greater than 0D, so none is a line end or a 0D
 abbrev pub Plain : List ℕ → Type 0
 Plain [] = Unit {0}
 Plain (c ∷ cs) = (14 ≤ c) × Plain cs

@@ -1,4 +1,4 @@
--- The places that data records cover (this project's choice).
+-- Data records: the places that they cover, the bytes that they give, and one record more (this project's choice).
 use Rattle.std.specs.Prelude.{◌≡◌, ℕ, zero, suc, ◌+◌, ◌-◌, ◌==◌, ◌&&◌, ◌||◌, nat_le, nat_lt, max, Bool, true, false, if◌then◌else◌, List, [], ◌∷◌, length, map, get_or, Option, None, Some, Result, Ok, Err}
 use Rattle.std.specs.List.{range_with_len}
 use Rattle.x7_words.specs.Flash.{erased_byte, flash_limit}
@@ -19,7 +19,7 @@ abbrev pub covered : List DataRecord → ℕ → Bool
 covered [] p = false
 covered (x ∷ xs) p = covers x p || covered xs p
 
--- the byte of the record that covers a place, and FF, as an erase leaves it, where none does
+-- the byte of the list's first record that covers a place, and FF, as an erase leaves it, where none does
 abbrev pub byte_at : List DataRecord → ℕ → ℕ
 byte_at [] p = erased_byte
 byte_at (x ∷ xs) p = if covers x p then get_or x.bytes (p - x.place) erased_byte else byte_at xs p
@@ -47,12 +47,13 @@ abbrev pub overlap : List DataRecord → ℕ → ℕ → Option ℕ
 overlap xs p zero = None
 overlap xs p (suc n) = if covered xs p then Some p else overlap xs (p + 1) n
 
--- the records, unless a place is covered already
+-- the records, or `Overlap` with the place that is covered already, if one is
 abbrev pub unless_covered : Option ℕ → List DataRecord → Result (List DataRecord) McsFault
 unless_covered (Some p) xs = Err (fault.Overlap p)
 unless_covered None xs = Ok xs
 
--- the records with that of line n, or its fault
+-- the records with that of line n before them, or its fault: `TooLarge` where it has a byte at `flash_limit` or after
+-- it, and else `Overlap` with the least of its places that one of them covers
 abbrev pub with_record : ℕ → List DataRecord → DataRecord → Result (List DataRecord) McsFault
 with_record n xs x =
     if nat_lt flash_limit (record_end x) then Err (fault.TooLarge n)

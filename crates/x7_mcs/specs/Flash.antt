@@ -1,4 +1,4 @@
--- The flash bytes that a text gives (Intel HEX; the order of faults is this project's choice).
+-- The flash bytes that a text gives (Intel HEX; the order of faults is this project's choice). Lines count from 1.
 use Rattle.std.specs.Prelude.{ℕ, ◌+◌, ◌==◌, Bool, true, false, if◌then◌else◌, List, [], ◌∷◌, Option, None, Some, Result, Ok, Err}
 use Rattle.x7_words.specs.Characters.{colon_byte}
 use Rattle.x7_mcs.specs.declared.fault.McsFault.{McsFault}
@@ -9,7 +9,7 @@ use Rattle.x7_mcs.specs.Lines.{lines_of}
 use Rattle.x7_mcs.specs.Record.{record_data, meaning_of, bytes_of_pairs}
 use Rattle.x7_mcs.specs.DataRecords.{DataRecord, records_image, with_record}
 
--- what lines give: the base that stands, whether a record 01 stood, and the data records, the last first
+-- what lines give: the base that stands, in bytes, whether a record 01 stood, and the data records, the last first
 pub record FlashReading : Type 0 where
   pub base : ℕ
   pub has_ended : Bool
@@ -28,7 +28,7 @@ abbrev pub with_records : FlashReading → Result (List DataRecord) McsFault →
 with_records r (Ok xs) = Ok (mcs_reading r.base r.has_ended xs)
 with_records r (Err f) = Err f
 
--- what lines give with the data of line n at an address
+-- what lines give with the data of line n at an address, which counts from the base that stands
 abbrev pub after_data : ℕ → FlashReading → ℕ → List ℕ → Result FlashReading McsFault
 after_data n r address content = with_records r (with_record n r.records (record { place = r.base + address; bytes = content }))
 
@@ -50,7 +50,7 @@ abbrev pub after_line : ℕ → FlashReading → List ℕ → Result FlashReadin
 after_line n r [] = Ok r
 after_line n r (c ∷ cs) = if c == colon_byte then after_bytes n r (bytes_of_pairs cs) else Err (fault.Line n)
 
--- the first fault stays
+-- what comes after a reading, or the reading's fault: the first fault stays
 abbrev pub and_then : Result FlashReading McsFault → (FlashReading → Result FlashReading McsFault) → Result FlashReading McsFault
 and_then (Err f) more = Err f
 and_then (Ok r) more = more r
@@ -60,12 +60,12 @@ abbrev pub after_lines : ℕ → FlashReading → List (List ℕ) → Result Fla
 after_lines n r [] = Ok r
 after_lines n r (t ∷ ts) = and_then (after_line n r t) (λ s. after_lines (n + 1) s ts)
 
--- a text is to have a record 01
+-- what the lines of a text gave, or their fault, or `NoEnd` where no record 01 was among them
 abbrev pub with_end : Result FlashReading McsFault → Result FlashReading McsFault
 with_end (Err f) = Err f
 with_end (Ok r) = if r.has_ended then Ok r else Err fault.NoEnd
 
--- what a text gives, or its first bad line's fault
+-- what a text gives, or its first bad line's fault, or `NoEnd`
 abbrev pub flash_reading : List ℕ → Result FlashReading McsFault
 flash_reading text = with_end (after_lines 1 of_no_line (lines_of text))
 

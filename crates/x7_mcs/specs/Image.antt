@@ -12,22 +12,22 @@ places_per_mark = 16
 abbrev pub is_marked : List ℕ → ℕ → Bool
 is_marked marks p = bit_at (get_or marks (p / places_per_mark) 0) (p % places_per_mark) == 1
 
--- no place from one to before another is marked
+-- no place from `from` up to the one before `to` is marked
 abbrev pub AreFree : List ℕ → ℕ → ℕ → Type 0
 AreFree marks from to = (k : ℕ) → from ≤ k → k < to → is_marked marks k ≡ false
 
--- the places from one up to another are marked, and each other place is marked where it was before
+-- the places from `from` up to the one before `to` are marked, and each other place is marked where it was before
 abbrev pub AreMarked : List ℕ → ℕ → ℕ → List ℕ → Type 0
 AreMarked old from to new = (p : ℕ) → is_marked new p ≡ (if nat_le from p && nat_lt p to then true else is_marked old p)
 
--- the least marked place of those from one to before another
+-- `q` is the least marked place of those from `from` up to the one before `to`
 pub record IsFirstMarked (marks : List ℕ) (from to q : ℕ) : Type 0 where
   pub since : from ≤ q
   pub within : q < to
   pub marked : is_marked marks q ≡ true
   pub before : AreFree marks from q
 
--- the new marks have one for each place before an end, and all the old ones
+-- the new marks have one for each place before `end`: the old ones, and after them empty ones
 abbrev pub HasMarksUpTo : ℕ → List ℕ → List ℕ → Type 0
 HasMarksUpTo end old new = (end ≤ places_per_mark * length new) × ((k : ℕ) → get_or new k 0 ≡ get_or old k 0)
 

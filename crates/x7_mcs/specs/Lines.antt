@@ -13,6 +13,7 @@ bare_lines [] = []
 bare_lines (t ∷ []) = t ∷ []
 bare_lines (t ∷ u ∷ ts) = without_return t ∷ bare_lines (u ∷ ts)
 
--- the lines of a text without their ends, which are 0A or 0D 0A; the last may lack its end, and a lone 0D ends none
+-- the lines of a text without their ends, which are 0A or 0D 0A; the last is what stands after the last end, empty
+-- where nothing does; a 0D without an 0A after it ends no line and stays
 abbrev pub lines_of : List ℕ → List (List ℕ)
 lines_of text = bare_lines (split text)

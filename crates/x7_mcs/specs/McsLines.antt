@@ -12,7 +12,8 @@ use Rattle.x7_mcs.specs.declared.fault.McsFault.TheVariants as fault
 abbrev pub LinesCameTo : Result FlashReading McsFault → McsLines → Type 0
 LinesCameTo reading b = CameTo reading b.context b.image
 
--- lines that have their end were taken: they gave the base and end that stand, and the records that the image has
+-- lines that have their end were taken: they gave the base that stands, whether a record 01 has come, and the records
+-- that the image has
 abbrev pub HasReadRecords : McsLines → List (List ℕ) → Type 0
 HasReadRecords b lines = LinesCameTo (after_lines 1 of_no_line (map without_return lines)) b
 
@@ -29,7 +30,7 @@ AreGoodMcsLines lines line = HasNoFault (after_lines 1 of_no_line (map without_r
 abbrev pub HasMcsFault : McsFault → List (List ℕ) → Type 0
 HasMcsFault f lines = (f ≡ fault.NoMemory) ⊎ (flash_of_lines lines ≡ Err f)
 
--- a call on lines that are taken one by one came to what this reading comes to, or gave the reading's fault
+-- a call on lines that are taken one by one came to what this reading comes to, or failed as `FailsAsReading` says
 abbrev pub LinesComeTo : {A : Type 0} → Result A McsFault → Result FlashReading McsFault → McsLines → Type 0
 LinesComeTo result reading new = MatchResult result (λ _. LinesCameTo reading new) (λ f. FailsAsReading reading f)
 
@@ -39,7 +40,6 @@ pub record TakesFirstLine (lines : List (List ℕ)) (text rest : List ℕ) (new 
   pub cut : split text ≡ line ∷ split rest
   pub read : HasReadRecords new (lines ++ line ∷ [])
 
--- the first line of a text was taken after these lines, and a rest is left; or no line of it has its end, and none was
--- taken
+-- the first line of a text was taken after these lines, where a rest was found; where none was found, no line was taken
 abbrev pub TakesIfEnded : {R : Type 0} → (R → List ℕ) → List (List ℕ) → List ℕ → Option R → McsLines → Type 0
 TakesIfEnded bytes lines text found new = MatchOption found (HasReadRecords new lines) (λ rest. TakesFirstLine lines text (bytes rest) new)

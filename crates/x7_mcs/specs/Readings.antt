@@ -1,4 +1,4 @@
--- What a call does to an image and to the base and end that stand (this project's choice).
+-- What a call does to an image and to a context: the base, and whether a record 01 has come (this project's choice).
 use Rattle.std.specs.Prelude.{◌≡◌, ◌⊎◌, ℕ, List, ◌∷◌, Result, Ok, Err, MatchResult}
 use Rattle.x7_mcs.specs.Flash.{FlashReading, after_meaning, mcs_reading}
 use Rattle.x7_mcs.specs.DataRecords.{DataRecord, with_record}
@@ -29,7 +29,7 @@ IsRecordRefused n records r f = ((f ≡ fault.NoMemory) × (with_record n record
 
 -- ---- the lines so far
 
--- what the lines so far gave: a context's base and end, and these records
+-- what the lines so far gave: a context's base and whether a record 01 has come, and these records
 abbrev pub flash_reading_at : Context → List DataRecord → FlashReading
 flash_reading_at context records = mcs_reading context.base context.has_ended records
 
@@ -51,6 +51,6 @@ HasNoFault reading = (r : FlashReading) × (reading ≡ Ok r)
 abbrev pub FailsAsReading : Result FlashReading McsFault → McsFault → Type 0
 FailsAsReading reading f = ((f ≡ fault.NoMemory) × HasNoFault reading) ⊎ (reading ≡ Err f)
 
--- a call came to what this reading comes to, and the image has its records; or it gave the reading's fault
+-- a call came to what this reading comes to, and the image has its records; or it failed as `FailsAsReading` says
 abbrev pub CallComesTo : Result Context McsFault → Result FlashReading McsFault → Image → Type 0
 CallComesTo result reading image = MatchResult result (λ c. CameTo reading c image) (λ f. FailsAsReading reading f)

@@ -8,7 +8,7 @@ use Rattle.x7_mcs.specs.declared.fault.McsFault.TheVariants as fault
 use Rattle.x7_mcs.specs.declared.record.Meaning.{Meaning}
 use Rattle.x7_mcs.specs.declared.record.Meaning.TheVariants as meaning
 
--- how many bytes a record of 16 address bits reaches over from its base on: those of a block
+-- how many bytes the 16 address bits of a record reach from the base on: those of a block
 abbrev pub block_size : ℕ
 block_size = 65536
 
@@ -22,27 +22,29 @@ bytes_beside_data = 5
 
 -- ---- the types of records
 
--- data
+-- the type of a record of data
 abbrev pub data_type : ℕ
 data_type = 0
 
--- the end of the file
+-- the type of the record that ends a file
 abbrev pub end_type : ℕ
 end_type = 1
 
--- the base of the addresses that follow, by 16 (an extended segment address)
+-- the type of a record that gives the base of the addresses that follow, in units of 16 bytes (an extended segment
+-- address)
 abbrev pub segment_base_type : ℕ
 segment_base_type = 2
 
--- where a program starts, as a segment and an offset
+-- the type of a record that says where a program starts, as a segment and an offset
 abbrev pub segment_start_type : ℕ
 segment_start_type = 3
 
--- the base of the addresses that follow, by 65,536 (an extended linear address)
+-- the type of a record that gives the base of the addresses that follow, in units of 65,536 bytes (an extended linear
+-- address)
 abbrev pub linear_base_type : ℕ
 linear_base_type = 4
 
--- where a program starts, as one address
+-- the type of a record that says where a program starts, as one address
 abbrev pub linear_start_type : ℕ
 linear_start_type = 5
 
@@ -64,7 +66,7 @@ IsOfItsCount bs = record_count bs + bytes_beside_data ≡ length bs
 abbrev pub record_address : List ℕ → ℕ
 record_address bs = 256 * get_or bs 1 0 + get_or bs 2 0
 
--- the number in the two data bytes of a record that gives a base
+-- the number in the two data bytes of a record that gives a base, the high byte first
 abbrev pub base_value : List ℕ → ℕ
 base_value bs = 256 * get_or bs 4 0 + get_or bs 5 0
 
@@ -76,7 +78,7 @@ record_data bs = take (record_count bs) (drop 4 bs)
 abbrev pub sum_found : List ℕ → ℕ
 sum_found bs = get_or bs (length bs - 1) 0
 
--- the byte that makes the sum of these and itself 0, without its carries
+-- the byte that makes the sum of these and itself 0 modulo 256
 abbrev pub sum_byte : List ℕ → ℕ
 sum_byte bs = (byte_values - sum bs % byte_values) % byte_values
 
@@ -86,8 +88,8 @@ sum_wanted bs = sum_byte (take (length bs - 1) bs)
 
 -- ---- what a record says
 
--- what the bytes of line n say by type, count and address. Data end within 65,536 (this project's choice), and a start
--- has no effect
+-- what the bytes of line n say by type, count and address, or `Line` where these are no record's. Data end within the
+-- 65,536 addresses of a block (this project's choice), and a start has no effect
 abbrev pub meaning_by_type : ℕ → List ℕ → Result Meaning McsFault
 meaning_by_type n bs =
     if record_type bs == data_type && nat_le (record_address bs + record_count bs) block_size then Ok (meaning.Data (record_address bs))
@@ -97,7 +99,8 @@ meaning_by_type n bs =
     else if (record_type bs == segment_start_type || record_type bs == linear_start_type) && record_count bs == 4 then Ok meaning.Start
     else Err (fault.Line n)
 
--- what the bytes of line n say, where a record 01 stood before or not
+-- what the bytes of line n say, where a record 01 stood before or not; or the first fault of these: the count, the sum
+-- byte, a record 01 before the line, the type with the count and the address
 abbrev pub meaning_of : ℕ → Bool → List ℕ → Result Meaning McsFault
 meaning_of n has_ended bs =
     if not (record_count bs + bytes_beside_data == length bs) then Err (fault.Line n)

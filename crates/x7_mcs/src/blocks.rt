@@ -59,7 +59,7 @@ impl Model for McsText {
 }
 
 impl McsText {
-    /// The text of an image.
+    /// The text of an image of at most 134,217,728 bytes.
     pub fn new(alloc: Global, image: Vec<u8>) -> Result<McsText, NoMemory>
         requires { length image.items ≤ flash_limit }
         ensures { IfOk result (λ text. text ≡ image.items) }

@@ -13,8 +13,8 @@ use crate::mcs_lines::McsLines;
 use std::alloc::Global;
 use x7_text::read_lines;
 
-/// The bytes that a flash text gives, FF where no record gave one, or its first fault. Memory is wanting only at a good
-/// line after good ones.
+/// The bytes that a flash text gives (Intel HEX), FF where no record gave one, or its first fault. `NoMemory` comes
+/// only at a good line after good ones.
 pub fn flash_of(alloc: Global, text: &[u8]) -> Result<Vec<u8>, McsFault>
     ensures bytes { IfOk result (λ bytes. mcs_of text.now ≡ Ok bytes.items) }
     ensures fault { IfErr result (λ fault. (fault ≡ McsFault.NoMemory) ⊎ (mcs_of text.now ≡ Err fault)) }

@@ -1,5 +1,5 @@
 //! The bytes of a flash that is being read, and the places that its records gave.
-ghost use Rattle.std.specs.Prelude.{◌≡◌, ℕ, true, ◌≤◌, ◌<◌, ◌+◌, ◌-◌, ◌*◌, ◌/◌, ◌%◌, ◌^◌, ◌==◌, ◌&&◌, nat_le, nat_lt, if◌then◌else◌, List, [], length, get_or, IfSome, OnOk, MatchResult, MatchOption};
+ghost use Rattle.std.specs.Prelude.{◌≡◌, ℕ, ◌≤◌, ◌<◌, ◌+◌, ◌-◌, ◌*◌, ◌/◌, ◌%◌, ◌^◌, ◌==◌, ◌&&◌, List, [], length, get_or, IfSome, OnOk, MatchResult, MatchOption};
 ghost use Rattle.std.specs.Int.{bit_at};
 ghost use Rattle.x7_words.specs.Flash.{erased_byte};
 ghost use Rattle.x7_mcs.specs.DataRecords.{DataRecord, overlap};
@@ -11,7 +11,7 @@ use crate::fault::McsFault;
 use std::alloc::{AllocError, Global};
 use x7_words::ERASED_BYTE;
 
-/// How many bytes a text gives at most, as a size in memory: those of the largest flash.
+/// How many bytes a text gives at most (this project's choice), as a size in memory: those of the largest flash.
 pub const IMAGE_LIMIT: usize = x7_words::FLASH_LIMIT as usize;
 
 /// How many places a mark is for.
@@ -52,7 +52,7 @@ fn grow_bytes(bytes: &mut Vec<u8>, size: usize) -> Result<(), AllocError>
     bytes.resize(size, ERASED_BYTE)
 }
 
-/// Writes a content over the bytes from a place on, as many as it has.
+/// Writes a content over as many bytes from a place on.
 fn set_bytes(bytes: &mut [u8], place: usize, content: &[u8])
     requires { place + length content.now ≤ length bytes.old }
     ensures length { length bytes.new ≡ length bytes.old }
@@ -155,7 +155,7 @@ fn has_bit(mark: u16, bit: usize) -> bool
     mark >> bit & 1 == 1
 }
 
-/// The least of `count` places from one on that is marked.
+/// The least of `count` places from one on that is marked; `None` where none of them is.
 fn first_marked(marks: &[u16], place: usize, count: usize) -> Option<usize>
     requires { place + count < 2 ^ 34 }
     ensures { MatchOption result (AreFree marks.now place (place + count)) (λ q. IsFirstMarked marks.now place (place + count) q) }
@@ -175,7 +175,7 @@ fn first_marked(marks: &[u16], place: usize, count: usize) -> Option<usize>
     None
 }
 
-/// The least of `count` places from one on that a record gave.
+/// The least of `count` places from one on that a record gave; `None` where a record gave none of them.
 #[inline(always)]
 fn overlap(image: &Image, place: usize, count: usize) -> Option<usize>
     requires { place + count < 2 ^ 34 }
@@ -188,7 +188,8 @@ fn overlap(image: &Image, place: usize, count: usize) -> Option<usize>
     first_marked(&image.marks, place, count)
 }
 
-/// Takes the data of line `line_number`'s record into the image, from a place on, or answers its fault.
+/// Takes the data of line `line_number`'s record into the image, from a place on, or answers the record's fault, or
+/// `NoMemory` where the record has no fault.
 #[inline(always)]
 pub(crate) fn take_content(
     image: &mut Image,

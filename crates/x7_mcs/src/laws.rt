@@ -1,4 +1,5 @@
-//! What a text gives, said in other words: laws of the definitions, for the proofs of crates above.
+//! What a text gives, said in other words: laws of the definitions. The functions do nothing: their
+//! contracts are the laws.
 ghost use Rattle.std.specs.Prelude.{◌≡◌, ℕ, true, false, ◌≤◌, ◌<◌, ◌+◌, ◌-◌, ◌*◌, ◌%◌, List, ◌∷◌, ◌++◌, length, get_or, Some, None, Ok, Err};
 ghost use Rattle.x7_text.specs.Row.{rows};
 ghost use Rattle.x7_words.specs.Flash.{erased_byte, flash_limit};
@@ -8,7 +9,7 @@ ghost use Rattle.x7_mcs.specs.DataRecords.{HaveNoOverlap, DataRecord, byte_at, c
 ghost use Rattle.x7_mcs.specs.Text.{mcs_text, row_lines, row_size};
 ghost use Rattle.x7_mcs.specs.declared.fault.McsFault.{McsFault};
 
-/// The text of bytes gives them back.
+/// The Intel HEX text of a flash image leads back to the image, which has at most 134,217,728 bytes.
 pub fn text_leads_back()
     ensures { (bytes : List ℕ) → AreBytes bytes → length bytes ≤ flash_limit → mcs_of (mcs_text bytes) ≡ Ok bytes }
 {}
@@ -29,8 +30,8 @@ pub fn lines_in_turn()
         → after_lines n r (first ++ others) ≡ and_then (after_lines n r first) (λ s. after_lines (n + length first) s others) }
 {}
 
-/// A flash of records is as long as the furthest of them reaches. Each of its bytes is the one at its place: where no
-/// two records overlap that of the record which covers it, and FF where no record does.
+/// A flash of records is as long as the furthest of them reaches. Its byte at a place is `byte_at`: where no two
+/// records overlap, the byte of the record that covers the place, and FF where no record covers it.
 pub fn bytes_by_place()
     ensures length { (records : List DataRecord) → length (records_image records) ≡ extent records }
     ensures each_byte { (records : List DataRecord) (p : ℕ) → p < extent records → get_or (records_image records) p erased_byte ≡ byte_at records p }
@@ -44,14 +45,14 @@ pub fn records_are_apart()
     ensures { (text : List ℕ) (r : FlashReading) → flash_reading text ≡ Ok r → HaveNoOverlap r.records }
 {}
 
-/// The place that an overlap names is the least of the given places that a record covers; where it names none, no
-/// record covers one of them.
+/// Of the n places from place p on: the one that `overlap` names is the least that a record covers; where it names
+/// none, no record covers one of them.
 pub fn overlap_is_the_least()
     ensures found { (xs : List DataRecord) (p n q : ℕ) → overlap xs p n ≡ Some q → (p ≤ q) × (q < p + n) × (covered xs q ≡ true) × ((k : ℕ) → p ≤ k → k < q → covered xs k ≡ false) }
     ensures none_covered { (xs : List DataRecord) (p n : ℕ) → overlap xs p n ≡ None → (k : ℕ) → p ≤ k → k < p + n → covered xs k ≡ false }
 {}
 
-/// The lines of bytes in two parts, the first of which ends where a row does.
+/// The lines of bytes are those of two parts of them, one after the other, where the first part is of whole rows.
 pub fn rows_in_parts()
     ensures { (place : ℕ) (xs ys : List ℕ) → length xs % row_size ≡ 0
         → row_lines place (rows row_size (xs ++ ys)) ≡ row_lines place (rows row_size xs) ++ row_lines (place + length xs) (rows row_size ys) }

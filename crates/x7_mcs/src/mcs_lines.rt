@@ -1,5 +1,5 @@
 //! What the lines of a flash text give, as they come.
-ghost use Rattle.std.specs.Prelude.{◌≡◌, ◌+◌, ◌<◌, ◌++◌, ◌∷◌, [], List, ℕ, length, Ok, IfErr, IfOk, MatchOption, MatchResult};
+ghost use Rattle.std.specs.Prelude.{◌≡◌, ◌+◌, ◌<◌, ◌∷◌, [], List, ℕ, length, Ok, IfErr, IfOk, MatchOption, MatchResult};
 ghost use Rattle.x7_text.specs.LineReader.{FailsAfter, WantsAt};
 ghost use Rattle.x7_text.specs.Lines.{split};
 ghost use Rattle.x7_mcs.specs.Flash.{after_data, after_line};
@@ -22,7 +22,8 @@ use x7_text::{TakesLines, first_line};
 /// The last address at which a row begins that ends within its block.
 const LAST_ROW_ADDRESS: u16 = (BLOCK_SIZE as usize - ROW_SIZE) as u16;
 
-/// The image that the lines of a flash text gave so far, and the base and end that stand for the lines that come.
+/// The image that the lines of a flash text gave so far, and what stands for the lines that come: the base, and whether
+/// a record 01 has come.
 #[derive(Drop)]
 pub struct McsLines {
     image: Image,
@@ -43,7 +44,8 @@ impl McsLines {
         }
     }
 
-    /// Takes line `line_number`, which is that of this row in the form in which one is written here.
+    /// Takes line `line_number`, which is the line of this row in the form in which this crate writes it; or answers
+    /// the line's fault, or `NoMemory`.
     #[inline(always)]
     fn take_row(&mut self, line_number: u64, row: &RowRecord) -> Result<(), McsFault>
         requires { length row.now.content ≡ row_size }
@@ -69,7 +71,8 @@ impl McsLines {
         Ok(())
     }
 
-    /// Takes the first line of a text, line `line_number`, if it has its end. Answers the text after it.
+    /// Takes the first line of a text, line `line_number`, from 1, if the line has its end, and answers the text after
+    /// it; `None` where the line has no end, and then nothing was taken.
     #[inline(always)]
     fn take_first_line<'t>(
         &mut self,

@@ -5,7 +5,7 @@ ghost use Rattle.x7_mcs.specs.Record.{IsOfItsCount, base_value, record_data, mea
 
 use crate::fault::McsFault;
 
-/// How many bytes a record of 16 address bits reaches over from its base on: those of a block.
+/// How many bytes the 16 address bits of a record reach from the base on: those of a block.
 pub(crate) const BLOCK_SIZE: u32 = 65_536;
 
 /// How many bytes a record has beside its data: its count, the two of its address, its type and its sum byte.
@@ -17,13 +17,15 @@ pub(crate) const DATA_TYPE: u8 = 0x00;
 /// The type of the record that ends a file.
 const END_TYPE: u8 = 0x01;
 
-/// The type of a record that gives the base of the addresses that follow, by 16 (an extended segment address).
+/// The type of a record that gives the base of the addresses that follow, in units of 16 bytes (an extended segment
+/// address).
 const SEGMENT_BASE_TYPE: u8 = 0x02;
 
 /// The type of a record that says where a program starts, as a segment and an offset.
 const SEGMENT_START_TYPE: u8 = 0x03;
 
-/// The type of a record that gives the base of the addresses that follow, by 65,536 (an extended linear address).
+/// The type of a record that gives the base of the addresses that follow, in units of 65,536 bytes (an extended linear
+/// address).
 pub(crate) const LINEAR_BASE_TYPE: u8 = 0x04;
 
 /// The type of a record that says where a program starts, as one address.
@@ -34,15 +36,15 @@ const LINEAR_START_TYPE: u8 = 0x05;
 pub(crate) enum Meaning {
     /// Where a program starts, which has no effect here.
     Start,
-    /// The data begin at this address.
+    /// The data begin at this address, which counts from the base that stands.
     Data(u32),
     /// No record follows.
     End,
-    /// The base of the addresses that follow.
+    /// The base of the addresses that follow, a place in bytes.
     Base(u32),
 }
 
-/// The sum of bytes, without its carries.
+/// The sum of bytes modulo 256.
 #[inline(always)]
 pub(crate) fn sum_of(bytes: &[u8]) -> u8
     ensures { result ≡ sum bytes.now % byte_values }
@@ -54,7 +56,7 @@ pub(crate) fn sum_of(bytes: &[u8]) -> u8
     total
 }
 
-/// The byte that makes the sum of a record's fields, its data and itself 0.
+/// The byte that makes the sum of a record's fields, its data and itself 0 modulo 256.
 #[inline(always)]
 pub(crate) fn sum_byte(fields: &[u8], content: &[u8]) -> u8
     ensures { result ≡ sum_byte (fields.now ++ content.now) }
@@ -62,7 +64,7 @@ pub(crate) fn sum_byte(fields: &[u8], content: &[u8]) -> u8
     0u8.wrapping_sub(sum_of(fields).wrapping_add(sum_of(content)))
 }
 
-/// The number in the two data bytes of a record that gives a base.
+/// The number in the two data bytes of a record that gives a base, the high byte first.
 fn base_value(bytes: &[u8]) -> u32
     requires { bytes_beside_data < length bytes.now }
     ensures { result ≡ base_value bytes.now }
@@ -70,7 +72,8 @@ fn base_value(bytes: &[u8]) -> u32
     256 * u32::from(bytes[4]) + u32::from(bytes[5])
 }
 
-/// What the record of line `line_number` says by its type, its count and its address.
+/// What the record of line `line_number` says by its type, its count and its address, or `Line` where these are no
+/// record's.
 fn meaning_by_type(line_number: u64, bytes: &[u8]) -> Result<Meaning, McsFault>
     requires { IsOfItsCount bytes.now }
     ensures { result ≡ meaning_by_type line_number bytes.now }
@@ -87,7 +90,8 @@ fn meaning_by_type(line_number: u64, bytes: &[u8]) -> Result<Meaning, McsFault>
     }
 }
 
-/// What the bytes of line `line_number` say, where a record 01 stood before or not.
+/// What the bytes of line `line_number` say, where a record 01 stood before or not; or the first fault of these: the
+/// count, the sum byte, a record 01 before the line, the type with the count and the address.
 pub(crate) fn meaning_of(
     line_number: u64,
     has_ended: bool,

@@ -13,31 +13,32 @@ use std::simd::prelude::*;
 use x7_text::{hex_of_byte, hex_of_sixteen};
 use x7_words::are_bytes;
 
-/// How many bytes of a flash a row has, each but the last.
+/// How many bytes of a flash a row has; the last row may have fewer.
 pub(crate) const ROW_SIZE: usize = 16;
 
 /// How many bytes of text the data record of a whole row has, with its line end.
 pub(crate) const ROW_LINE_SIZE: usize = 44;
 
-/// Where the digits of a row's count begin in its line, after `:`; those of its address and of its type follow.
+/// Where the digits of a row's count begin in its line, in bytes from 0, after `:`; those of its address and of its
+/// type follow.
 const FIELDS_PLACE: usize = 1;
 
-/// Where the four digits of a row's address begin in its line.
+/// Where the four digits of a row's address begin in its line, in bytes from 0.
 const ADDRESS_PLACE: usize = 3;
 
-/// Where the digits of a row's first eight bytes begin in its line.
+/// Where the digits of a row's first eight bytes begin in its line, in bytes from 0.
 const FIRST_HALF_PLACE: usize = 9;
 
-/// Where the digits of a row's last eight bytes begin in its line.
+/// Where the digits of a row's last eight bytes begin in its line, in bytes from 0.
 const SECOND_HALF_PLACE: usize = 25;
 
-/// Where the digits of a row's sum byte begin in its line.
+/// Where the digits of a row's sum byte begin in its line, in bytes from 0.
 const SUM_PLACE: usize = 41;
 
-/// Where the line end of a row stands in its line.
+/// Where the line end of a row stands in its line, in bytes from 0.
 const LINE_END_PLACE: usize = 43;
 
-/// The sum of sixteen bytes, without its carries.
+/// The sum of sixteen bytes modulo 256.
 #[inline(always)]
 fn sum_of_content(content: &[u8; 16]) -> u8
     ensures { result ≡ sum content.now % byte_values }
@@ -45,7 +46,7 @@ fn sum_of_content(content: &[u8; 16]) -> u8
     u8x16::from_array(*content).reduce_sum()
 }
 
-/// The sum byte of a data record of sixteen bytes.
+/// The sum byte of a data record of sixteen bytes at an address.
 #[inline(always)]
 fn sum_byte_of_row(address: u16, content: &[u8; 16]) -> u8
     ensures { result ≡ sum_byte (row_fields address ++ content.now) }
@@ -59,7 +60,7 @@ fn sum_byte_of_row(address: u16, content: &[u8; 16]) -> u8
     0u8.wrapping_sub(sum_of(&fields).wrapping_add(sum_of_content(content)))
 }
 
-/// The digits of the fields of a data record of sixteen bytes.
+/// The digits of the fields of a data record of sixteen bytes at an address: its count, the address and its type.
 #[inline(always)]
 fn hex_of_fields(address: u16) -> [u8; 8]
     ensures { result ≡ flat_map hex_byte (row_fields address) }
@@ -175,8 +176,8 @@ fn is_row_line(line: &[u8; ROW_LINE_SIZE], address: u16, content: &[u8; 16]) -> 
     [line[SUM_PLACE], line[SUM_PLACE + 1]] == hex_of_byte(sum_byte_of_row(address, content))
 }
 
-/// The row whose line a text begins with, in the form in which one is written here, and the text after that line. None
-/// says nothing of the text.
+/// The row whose line a text begins with, in the form in which this crate writes it, and the text after that line.
+/// `None` says nothing of the text.
 #[inline(always)]
 pub(crate) fn first_row(text: &[u8]) -> Option<(RowRecord, &[u8])>
     ensures line { IfSome result (λ r. text.now ≡ data_line r.0.address r.0.content ++ r.1.now) }

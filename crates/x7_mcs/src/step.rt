@@ -20,8 +20,8 @@ pub(crate) struct Context {
     pub(crate) has_ended: bool,
 }
 
-/// Takes the data of line `line_number`'s record into the image, and gives the base and the end that stand after
-/// it.
+/// Takes the data of the record of line `line_number`, from 1, into the image, and gives the base (a place in bytes)
+/// that stands after it and whether a record 01 has come; or the record's fault, or `NoMemory`.
 #[inline(always)]
 pub(crate) fn take_data(
     image: &mut Image,
@@ -43,8 +43,8 @@ pub(crate) fn take_data(
     Ok(context)
 }
 
-/// Takes the record of line `line_number`, by its bytes, into the image, and gives the base and the end that stand after
-/// it.
+/// Takes the record of line `line_number`, from 1, by its bytes, into the image, and gives the base (a place in bytes)
+/// that stands after it and whether a record 01 has come; or the record's fault, or `NoMemory`.
 fn take_record(
     image: &mut Image,
     line_number: u64,
@@ -73,7 +73,8 @@ fn take_record(
     }
 }
 
-/// Takes line `line_number` into the image, and gives the base and the end that stand after it.
+/// Takes line `line_number`, from 1, into the image, and gives the base (a place in bytes) that stands after it and
+/// whether a record 01 has come; or the line's fault, or `NoMemory`.
 pub(crate) fn take_line(
     image: &mut Image,
     line_number: u64,

@@ -50,7 +50,7 @@ fn put_record_line(out: &mut Vec<u8>, fields: &[u8], content: &[u8])
     put(out, b"\n");
 }
 
-/// Appends the record 04 where a block begins.
+/// Appends the record 04 where a block begins, and nothing at any other place.
 #[inline(always)]
 fn put_block_start(out: &mut Vec<u8>, place: u32)
     requires room { HasSpareRoom out.old base_line_size }
@@ -106,7 +106,9 @@ fn put_row(out: &mut Vec<u8>, place: u32, row: &[u8])
     put_data_line(out, (place % BLOCK_SIZE) as u16, row);
 }
 
-/// Appends the lines of rows of 16 bytes, the first of which stands at a place where a row begins. It takes no memory.
+/// Appends the lines of bytes from a place on, which is a multiple of 16: a data record for each 16 of them, the last
+/// of which may have fewer, and a record 04 before one that begins a block. It takes no memory: the text is to have
+/// room for four bytes for each of the bytes, and 60 more.
 pub fn put_rows(text: &mut Vec<u8>, place: u32, bytes: &[u8])
     requires begins { place % row_size ≡ 0 }
     requires within { place + length bytes.now ≤ flash_limit }
@@ -124,8 +126,8 @@ pub fn put_rows(text: &mut Vec<u8>, place: u32, bytes: &[u8])
     }
 }
 
-/// The text of a flash's bytes: a record 04 for each block of 65,536 bytes begun, data records of 16 bytes, and a
-/// record 01.
+/// The text of a flash's bytes (Intel HEX; rows of 16 bytes are this project's choice): a record 04 for each block of
+/// 65,536 bytes begun, data records of 16 bytes, the last of which may have fewer, and a record 01.
 pub fn mcs_text(alloc: Global, flash: &[u8]) -> Result<Vec<u8>, NoMemory>
     requires { length flash.now ≤ flash_limit }
     ensures text { IfOk result (λ text. text.items ≡ mcs_text flash.now) }

@@ -21,14 +21,14 @@ cut_at w (suc n) (suc i) ws d h =
     let e : w + w * i ≡ w * suc i = sym (mul-suc w i ∙ (omega arith)) in
     cut_at w n i (drop w ws) d (omega arith) ∙ ap (take w) (drop-drop (w * i) w ws ∙ ap (λ k. drop k ws) e)
 
--- this many words are there up to the end of a frame
+-- frame i of n, from 0, ends within the words of all
 pub frame_end : (w n i : ℕ) → i < n → w * i + w ≤ w * n
 frame_end w n i h =
     let most : w * suc i ≤ w * n = mul-le-mul_left w (omega arith) in
     let next : w * suc i ≡ w * i + w = mul-suc w i in
     omega arith
 
--- one frame written over
+-- words cut into frames, where one frame is written over
 pub cut_set : (w n i : ℕ) (ws new : List ℕ) → i < n → length new ≡ w → w * n ≤ length ws →
     cut_in_frames w n (take (w * i) ws ++ (new ++ drop (w * i + w) ws)) ≡ set (cut_in_frames w n ws) i new
 unfolding cut_in_frames

@@ -20,7 +20,7 @@ stored_width w n p ws h e =
     let left : length (drop (w * p) ws) ≡ length ws - w * p = length-drop (w * p) ws in
     length-take-le w (drop (w * p) ws) (omega arith)
 
--- one more after them
+-- a stored frame, where words come after all frames
 pub frame_before : (w n p : ℕ) (ws new : List ℕ) → p < n → length ws ≡ w * n → stored_frame w (ws ++ new) p ≡ stored_frame w ws p
 frame_before w n p ws new h e =
     let end = frame_end w n p h in
@@ -30,7 +30,7 @@ frame_before w n p ws new h e =
 pub frame_after : (w n : ℕ) (ws new : List ℕ) → length ws ≡ w * n → length new ≡ w → stored_frame w (ws ++ new) n ≡ new
 frame_after w n ws new e f = ap (take w) (drop_at ws new (w * n) e) ∙ take_all w new (omega arith)
 
--- one written over
+-- the stored frames, where one is written over
 frame_over : (w n p q : ℕ) (ws new : List ℕ) → p < n → q < n → length ws ≡ w * n → length new ≡ w →
     stored_frame w (words_with_frame (w * p) new ws) q ≡ get_or (set (cut_in_frames w n ws) p new) q []
 frame_over w n p q ws new h i e f =
@@ -80,7 +80,8 @@ seen_set w ws us numbers others rank new long inside here there =
 pub seen_count : (m : Inside) (frames : List (List ℕ)) → frames_seen m ≡ frames → length frames ≡ length m.numbers.items
 seen_count m frames e = ap length (sym e) ∙ length-map m.numbers.items (stored_frame m.width m.words.items)
 
--- a rank, and the number of its frame
+-- a rank of a memory: the number of its frame is that of a stored one, which ends within the words, and these are at
+-- most 255 * (131,072 + 1)
 pub record IsRank (m : Inside) (rank : ℕ) : Type 0 where
   pub inside : rank < length m.numbers.items
   pub below : get_or m.numbers.items rank 0 < m.stored_count
@@ -119,7 +120,7 @@ own_number {n} {k} e own = elim (cases_lt 0 k) [
   | inr z ↦ absurd (own (omega arith))
 ]
 
--- there is room for the first frame of its own at a rank
+-- while no more frames are stored, the zeros among them, than there are ranks, there is room for one more
 pub next_room : (m : Inside) → StoresFrames m → m.stored_count ≤ length m.numbers.items → m.width * m.stored_count + m.width ≤ vec_capacity m.words
 next_room m is h =
     let next : m.width * suc m.stored_count ≡ m.width * m.stored_count + m.width = mul-suc m.width m.stored_count in
@@ -127,7 +128,7 @@ next_room m is h =
     let room = is.room in
     omega arith
 
--- a frame as long as the one that stands at a rank
+-- a frame as long as the one that stands at a rank has the memory's width
 pub new_width : (m : Inside) (rank : ℕ) (new : List ℕ) (frames : List (List ℕ)) → StoresFrames m → IsRank m rank → frames_seen m ≡ frames →
     length new ≡ length (get_or frames rank []) → length new ≡ m.width
 new_width m rank new frames is r e f =
@@ -186,7 +187,7 @@ first_room m rank is r none =
     let used = is.used in
     omega arith
 
--- a rank's number is its old one or the new one
+-- once a rank was given a number, that rank has the new number, and any other its old one
 number_after : (numbers : List ℕ) (rank number i : ℕ) → rank < length numbers →
     ((i ≡ rank) × (get_or (set numbers rank number) i 0 ≡ number)) ⊎ ((i ≢ rank) × (get_or (set numbers rank number) i 0 ≡ get_or numbers i 0))
 number_after numbers rank number i h =

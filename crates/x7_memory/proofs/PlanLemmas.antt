@@ -65,7 +65,8 @@ planned_insert (first ∷ rows) (suc i) row a h free =
     ]
 
 module _ (rows : List PlanRow) (row : PlanRow) (at : ℕ) (gap : IsInsertPlace rows row.far at) where
-  -- each new row is an old one below the gap, the new one at it, or an old one moved up by one
+  -- rows stay in order with a row at the place where its address goes: each of them is an old one before it, the new
+  -- one, or an old one moved up by one place
   pub order_insert : AreInOrder rows → AreInOrder (insert rows at row)
   order_insert order i j d lt inside =
       let new = insert rows at row in
@@ -97,7 +98,7 @@ plan_insert width rows row at is gap e fits = record {
   each = all_insert rows row at gap IsPlanRow is.each fits;
 }
 
--- a list of words, element by element
+-- numbers that place by place have 32 bits are words
 pub words_by_place : (ws : List ℕ) → ((i : ℕ) → i < length ws → get_or ws i 0 < 2 ^ 32) → AreWords ws
 words_by_place [] f = tt
 words_by_place (w ∷ ws) f = (f 0 (omega arith), words_by_place ws (λ i h. f (suc i) (omega arith)))
@@ -115,7 +116,7 @@ unplanned (r ∷ rows) far e =
       | inr n ↦ All-cons (λ r. r.far ≡ far → ⊥) r rows (λ same. n.1 (sym same)) (unplanned rows far (sym (planned_after r rows far n.1) ∙ e))
     ]
 
--- the frame of an address is that of each of its rows, and a row of it is there
+-- where no two rows have one address, the frame of an address is that of each row with it
 alone : (rows : List PlanRow) (far : ℕ) (words : List ℕ) → AreApart rows → planned rows far ≡ Some words → All (λ r. r.far ≡ far → r.words ≡ words) rows
 alone [] far words apart e = All-nil (λ r. r.far ≡ far → r.words ≡ words)
 alone (r ∷ rows) far words apart e =

@@ -18,7 +18,7 @@ use Rattle.x7_memory.specs.Rows.{AreKept, row_in, rows_in}
 pub no_place : StoredRow
 no_place = record { far = 0; start = 0 }
 
--- what holds anyway
+-- what holds anyway holds on an error
 pub on_err : {A B P : Type 0} → (r : Result A B) → P → OnErr r P
 on_err (Ok x) p = tt
 on_err (Err e) p = p

@@ -31,7 +31,7 @@ and_true : (b : Bool) → b ≡ (b && true)
 and_true true = refl
 and_true false = refl
 
--- an or of numbers is 0 where both are
+-- an or of numbers is 0 exactly where both are
 or_zeros : (a w : ℕ) → (bit_or a w == 0) ≡ ((a == 0) && (w == 0 && true))
 or_zeros a w = elim (eq-zero-or-pos a) [
   | inl e ↦ rw e (ap (λ (n : ℕ). n == 0) (or_zero_l w) ∙ and_true (w == 0))
@@ -60,7 +60,7 @@ pub zero_words : (n : ℕ) → AreWords (replicate n 0)
 zero_words zero = tt
 zero_words (suc n) = (omega arith, zero_words n)
 
--- frames of zeros are frames of the part
+-- frames of zeros are frames of a part whose addresses rise
 pub zeros_are : (part : PartData) → Rises 0 (addresses_in part) → AreFramesOf part (zero_frames part)
 zeros_are part rises = record {
   order = rises;
@@ -69,7 +69,7 @@ zeros_are part rises = record {
   words = alike AreWords (length (addresses_in part)) (replicate (frame_words part) 0) (zero_words (frame_words part));
 }
 
--- the first frame that is stored
+-- the first frame that is stored is of zeros
 pub first_zeros : (m : Inside) → StoresFrames m → take m.width m.words.items ≡ replicate m.width 0
 first_zeros m is = ap (λ k. take m.width (drop k m.words.items)) (sym (mul-zero m.width)) ∙ is.zeros
 
@@ -110,7 +110,7 @@ none_room p width count some narrow few ew es e f room =
 pub new_zeros : (part : PartData) (width count : ℕ) → width ≡ frame_words part → count ≡ length (addresses_in part) → replicate count (replicate width 0) ≡ zero_frames part
 new_zeros part width count w n = rw (w, n) refl
 
--- fields that are a memory of the part, when no rank has a frame of its own any more
+-- the frames of a memory of a part, when no rank has a frame of its own any more, are the part's, all zeros
 pub cleared : (part : PartData) (m : Inside) (frames : List (List ℕ)) (words numbers : List ℕ) → StoresFrames m → frames_seen m ≡ frames → AreFramesOf part frames →
     words ≡ take m.width m.words.items → numbers ≡ replicate (length m.numbers.items) 0 → map (stored_frame m.width words) numbers ≡ zero_frames part
 cleared part m frames words numbers is e are f g =

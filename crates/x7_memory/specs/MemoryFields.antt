@@ -4,7 +4,7 @@ use Rattle.std.specs.List.{sum_by}
 use Rattle.x7_part.specs.Limits.{most_frame_words, most_frames}
 use Rattle.x7_memory.specs.declared.memory.Memory.TheInside.{Inside}
 
--- the frame with a number among those that are stored one after another
+-- the frame with a number, from 0, among frames of `width` words that are stored one after another
 abbrev pub stored_frame : ℕ → List ℕ → ℕ → List ℕ
 stored_frame width words number = take width (drop (width * number) words)
 
@@ -17,12 +17,13 @@ abbrev pub own_frame_count : ℕ → ℕ
 own_frame_count zero = 0
 own_frame_count (suc number) = 1
 
--- no two ranks have one number, save 0, that of the zeros
+-- no two ranks have a stored frame of one number, save 0, that of the zeros
 abbrev pub AreDistinct : List ℕ → Type 0
 AreDistinct numbers =
     (i j : ℕ) → i < length numbers → j < length numbers → 0 < slice_index_or numbers i 0 → slice_index_or numbers i 0 ≡ slice_index_or numbers j 0 → i ≡ j
 
--- there is room for a frame of each rank and for the zeros, which stand first; each rank has a frame that is stored
+-- a memory's fields: there is room for a frame of each rank and for the zeros, which stand first; each rank has a frame
+-- that is stored, the zeros or one of its own, and no others are stored
 pub record StoresFrames (m : Inside) : Type 0 where
   pub some : 0 < m.width
   pub narrow : m.width ≤ most_frame_words

@@ -6,7 +6,8 @@ use Rattle.x7_part.specs.AddressOrder.{addresses_in, Rises}
 use Rattle.x7_words.specs.Word.{AreWords}
 use Rattle.x7_memory.specs.FrameMap.{FrameMap}
 
--- of frames that go with addresses one by one, the first whose address is `far`
+-- of frames that go with addresses one by one, the first whose address is `far`; `None` where none of the addresses is
+-- `far`
 unfoldable pub frame_among : List ℕ → List (List ℕ) → FrameMap
 frame_among (a ∷ rest) (words ∷ frames) far = if far == a then Some words else frame_among rest frames far
 frame_among _ _ far = None

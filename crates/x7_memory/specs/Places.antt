@@ -7,7 +7,7 @@ pub record IsRowPlace (rows : List PlanRow) (far i : ℕ) : Type 0 where
   pub inside : i < length rows
   pub same : (d : PlanRow) → (slice_index_or rows i d).far ≡ far
 
--- the address would go to place i: smaller ones before it, and greater ones from there on
+-- the address would go to place i: the rows before have smaller addresses, and those from place i on greater ones
 pub record IsInsertPlace (rows : List PlanRow) (far i : ℕ) : Type 0 where
   pub inside : i ≤ length rows
   pub smaller : (j : ℕ) (d : PlanRow) → j < i → (slice_index_or rows j d).far < far

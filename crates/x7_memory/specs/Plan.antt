@@ -11,7 +11,7 @@ pub record PlanRow : Type 0 where
   pub far : ℕ
   pub words : List ℕ
 
--- frames of one width
+-- rows, and a width in words; that the frames of the rows have this width, `IsDraft` and `IsPlan` say
 pub record PlanData : Type 0 where
   pub width : ℕ
   pub rows : List PlanRow
@@ -20,7 +20,7 @@ pub record PlanData : Type 0 where
 abbrev pub planned_addresses : List PlanRow → List ℕ
 planned_addresses rows = map (λ row. row.far) rows
 
--- rows as a map: the frame of the first row with the address
+-- rows as a map: the frame of the first row with the address, none where no row has it
 unfoldable pub planned : List PlanRow → FrameMap
 planned [] far = None
 planned (row ∷ rows) far = if far == row.far then Some row.words else planned rows far
@@ -38,12 +38,12 @@ pub record IsPlanRow (row : PlanRow) : Type 0 where
 abbrev pub AreApart : List PlanRow → Type 0
 AreApart rows = (i j : ℕ) (d : PlanRow) → i < j → j < length rows → (slice_index_or rows i d).far ≡ (slice_index_or rows j d).far → ⊥
 
--- rows of one width and of 32 bits, in the order in which they came
+-- a draft's rows have its width, and addresses and words of 32 bits; they stand in any order
 pub record IsDraft (draft : PlanData) : Type 0 where
   pub width : All (λ row. length row.words ≡ draft.width) draft.rows
   pub each : All IsPlanRow draft.rows
 
--- a plan's rows stand in order, have its width and 32 bits
+-- a plan's rows stand in order, each address once, and have its width, and addresses and words of 32 bits
 pub record IsPlan (plan : PlanData) : Type 0 where
   pub order : AreInOrder plan.rows
   pub width : All (λ row. length row.words ≡ plan.width) plan.rows

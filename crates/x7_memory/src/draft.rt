@@ -45,7 +45,7 @@ impl Draft {
         })
     }
 
-    /// Adds a frame after the others. Its address may stand in the draft already.
+    /// Adds a frame after the others. Its address may stand in the draft already. Want of memory changes nothing.
     pub fn push(&mut self, far: u32, words: &[u32]) -> Result<(), NoMemory>
         requires width { length words.now ≡ self.old.width }
         ensures added { OnOk result (self.new.rows ≡ self.old.rows ++ record { far = far; words = words.now } ∷ []) }

@@ -16,9 +16,9 @@ pub struct Memory {
     /// The words of the frames that are stored, one after another. The first frame is zeros. There is room for it and
     /// for a frame of each rank.
     words: Vec<u32>,
-    /// By rank, the number of its frame among those that are stored: 0 for zeros, until other words are put there.
+    /// By rank, the number, from 0, of its frame among those that are stored: 0 for the zeros that ranks share.
     numbers: Vec<u32>,
-    /// The number of the frames that are stored.
+    /// How many frames are stored, the zeros among them.
     stored_count: u32,
     /// The number of words of a frame.
     width: usize,
@@ -65,7 +65,7 @@ impl Memory {
         })
     }
 
-    /// The frame at an address, none for what is no address.
+    /// The frame at an address, none for what is no address of the part.
     pub fn frame(&self, part: &Part, far: u32) -> Option<&[u32]>
         requires part { AreFramesOf part.now self.now }
         ensures found { IfSome result (λ words. frame_at part.now self.now far ≡ Some words.now) }
@@ -125,7 +125,7 @@ impl Memory {
         self.put_at(rank as usize, words);
     }
 
-    /// Puts a frame at a rank. Zeros that take the place of zeros are not stored.
+    /// Puts a frame at a rank. Zeros are not stored at a rank without a frame of its own.
     fn put_at(&mut self, rank: usize, words: &[u32])
         requires rank { rank < length self.old }
         requires width { (d : List ℕ) → length words.now ≡ length (slice_index_or self.old rank d) }
@@ -195,10 +195,9 @@ fn clear_words(words: &mut Vec<u32>)
 {
     let count = words.len();
     words.clear();
-    match words.resize(count, 0) {
-        Ok(()) => (),
-        Err(_) => unreachable!(),
-    }
+    let Ok(()) = words.resize(count, 0) else {
+        unreachable!()
+    };
 }
 
 /// Appends a frame for which there is room.
@@ -207,10 +206,9 @@ fn append(words: &mut Vec<u32>, frame: &[u32])
     ensures items { words.new.items ≡ words.old.items ++ frame.now }
     ensures room { vec_capacity words.old ≤ vec_capacity words.new }
 {
-    match words.extend_from_slice(frame) {
-        Ok(()) => (),
-        Err(_) => unreachable!(),
-    }
+    let Ok(()) = words.extend_from_slice(frame) else {
+        unreachable!()
+    };
 }
 
 /// Writes a frame over the words from number `start` on.

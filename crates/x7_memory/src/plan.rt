@@ -42,7 +42,8 @@ impl Plan {
         Plan { rows }
     }
 
-    /// Plans a frame. Where the address has one already, the answer is false and nothing changes.
+    /// Plans a frame, and answers true. Where the address has one already, the answer is false, also without memory,
+    /// and nothing changes. Want of memory changes nothing.
     pub fn insert(&mut self, far: u32, words: &[u32]) -> Result<bool, NoMemory>
         requires width { length words.now ≡ self.old.width }
         ensures certain { Contains (planned_addresses self.old.rows) far → result ≡ Ok false }

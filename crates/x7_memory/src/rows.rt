@@ -9,7 +9,7 @@ use std::alloc::Global;
 use std::marker::Model;
 use x7_words::NoMemory;
 
-/// The address of a frame, and the number of the words of other frames before its own.
+/// The address of a frame, and how many words stand before its own in the vector.
 #[derive(Clone, Copy)]
 struct StoredRow {
     far: u32,
@@ -20,7 +20,7 @@ struct StoredRow {
 pub(crate) struct Rows {
     /// The number of words of a frame.
     width: u32,
-    /// The words of all frames, in the order in which they came.
+    /// The words of all frames, in the order in which they came, also of one for whose row there was no memory.
     words: Vec<u32>,
     rows: Vec<StoredRow>,
 }
@@ -72,7 +72,7 @@ impl Rows {
         })
     }
 
-    /// Adds a row after the others.
+    /// Adds a row after the others. Want of memory changes no row.
     pub(crate) fn push(&mut self, far: u32, words: &[u32]) -> Result<(), NoMemory>
         requires width { length words.now ≡ self.old.width }
         ensures added { OnOk result (self.new.rows ≡ self.old.rows ++ record { far = far; words = words.now } ∷ []) }
@@ -82,7 +82,7 @@ impl Rows {
         self.insert(self.len(), far, words)
     }
 
-    /// Adds a row at a place, and moves those from there on after it.
+    /// Adds a row at a place, from 0, and moves the rows from that place on after it. Want of memory changes no row.
     pub(crate) fn insert(&mut self, place: usize, far: u32, words: &[u32]) -> Result<(), NoMemory>
         requires place { place ≤ length self.old.rows }
         requires width { length words.now ≡ self.old.width }

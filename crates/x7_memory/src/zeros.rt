@@ -2,7 +2,7 @@
 ghost use Rattle.std.specs.Prelude.{◌≡◌};
 ghost use Rattle.x7_memory.specs.PartFrames.{are_zeros};
 
-/// Whether all words are 0. The first is looked at before the rest: most frames that aren't blank show it there.
+/// Whether all words are 0. The first word is looked at before the rest: most frames that aren't zeros show it there.
 pub fn are_zeros(words: &[u32]) -> bool
     ensures { result ≡ are_zeros words.now }
 {

@@ -10,7 +10,7 @@ use Rattle.x7_outcome.specs.Outcome.{FormGives}
 use Rattle.x7_outcome.specs.Outside.{CameInRun, Outside, known_in}
 use Rattle.x7_outcome.specs.Ending.{AnswersOver, CausedBy, EndIsCaused, ReportsMishap, OutputAfterEvent, OutputByCause}
 
--- an event of a mishap, by that
+-- the cause of the event of a mishap
 mishap_cause : (m : Mishap) (form : AskedForm) (old new : Outside) (event : Event) → mishap_event m ≡ event → ReportsMishap form old new event → CausedBy (cause_of_event event) form old new event
 mishap_cause (Failing name given) form old new event e h = subst (λ (c : ReasonCause). CausedBy c form old new event) (ap cause_of_event e) h
 mishap_cause (Lacking name) form old new event e h = subst (λ (c : ReasonCause). CausedBy c form old new event) (ap cause_of_event e) (inl h)
@@ -40,7 +40,7 @@ has_cause form old new (Ok answer) (inl h) = absurd h
 has_cause form old new (Err event) (inl h) = outside_cause form old new event h
 has_cause form old new got (inr h) = due_cause (known_in old) form old new got refl h
 
--- what other forms leave where nothing was written
+-- what forms other than `list` leave of the output where nothing was written
 pub leaves_all : (form : AskedForm) (cause : ReasonCause) (old new : Outside) (event : Event) → listed_by (Some form) ≡ None → (cause ≡ Break → ⊥) → new.out.written ≡ old.out.written → OutputByCause cause (Some form) old new event
 leaves_all form Break old new event l n e = absurd (n refl)
 leaves_all form cause old new event l n e = subst (λ (s : Option (List ℕ)). OutputAfterEvent s event old new) (sym l) e

@@ -29,13 +29,13 @@ answers_over form old new whole c =
 
 -- ---- how large a flash is
 
--- an event of another reason says nothing of a flash's size
+-- an event of another reason than `TooLarge` says nothing of a flash's size
 pub not_large : (form : Option AskedForm) (new : FlashState) (event : Event) → (event.reason ≡ why.TooLarge → ⊥) → IsMeasured form new (Err event)
 not_large form new event n = λ name a e. absurd (n (ap (λ (x : Event). x.reason) e))
 
 -- ---- when a flash fails
 
--- an event of another reason is no fault of a flash
+-- an event of another reason than `ReadFault` is no fault of a flash
 pub not_fault : (form : Option AskedForm) (old : InputsState) (new : FlashState) (event : Event) → (event.reason ≡ why.ReadFault → ⊥) → FailsLast form old new (Err event)
 not_fault None old new event n = tt
 not_fault (Some form) old new event n = λ name a e at. absurd (n (ap (λ (x : Event). x.reason) e))

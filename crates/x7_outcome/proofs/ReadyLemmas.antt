@@ -1,12 +1,12 @@
--- What a last step comes to, that reads nothing: an end that is due, or want of memory.
+-- What a last step that reads nothing comes to: an end that is due, or want of memory.
 use Rattle.std.proofs.Common.{◌≡◌, ℕ, List, Result, Err, ap, subst, sym, inl, inr, ◌⊎◌}
 use Rattle.x7_forms.specs.declared.bad_input.InputFault.{InputFault}
 use Rattle.x7_forms.specs.Event.{Event, bad_input, no_memory}
 use Rattle.x7_forms.specs.Known.{Answer}
 use Rattle.x7_forms.specs.Step.{IsDecided, IsPossible}
 
--- what a last step comes to, that reads nothing: want of memory, or an end that
--- contents decide, known or not, and that is due
+-- what a last step that reads nothing comes to: want of memory, or an end that contents decide, known or not, and that
+-- is due
 abbrev pub EndsDue : (Result Answer Event → Type 0) → Result Answer Event → Type 0
 EndsDue Due got = (got ≡ Err no_memory) ⊎ (IsPossible got × IsDecided got × Due got)
 

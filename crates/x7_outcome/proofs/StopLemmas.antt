@@ -25,22 +25,22 @@ stops_by Contents form old now event t = t
 pub want_stops : (form : AskedForm) (old now : InputsState) (event : Event) → event ≡ no_memory → StopsBy (cause_of_event event) form old now event
 want_stops form old now event e = subst (λ (x : Event). StopsBy (cause_of_event x) form old now x) (sym e) tt
 
--- one of the form's inputs
+-- reading stopped at one of the form's inputs
 pub among_stops : (form : AskedForm) (old now : InputsState) (event : Event) → StopsAmong (inputs_of old.contents form) old now event → StopsBy (cause_of_event event) form old now event
 among_stops form old now event (inl e) = want_stops form old now event e
 among_stops form old now event (inr h) = stops_by (cause_of_event event) form old now event (inr (inr h))
 
--- the first of the form's inputs
+-- reading stopped at the first of the form's inputs
 pub first_stops : (form : AskedForm) (first : Limited) (others : List Limited) (old now : InputsState) (event : Event)
     → inputs_of old.contents form ≡ first ∷ others → IsLastAsked first.name first.limit now → AsksAtMost old 1 now → IsAbout first.name event → StopsBy (cause_of_event event) form old now event
 first_stops form first others old now event i s n a = among_stops form old now event (about_among (inputs_of old.contents form) [] first others old now event i s n a)
 
--- the second
+-- reading stopped at the second of the form's inputs
 pub second_stops : (form : AskedForm) (first second : Limited) (others : List Limited) (old now : InputsState) (event : Event)
     → inputs_of old.contents form ≡ first ∷ second ∷ others → IsLastAsked second.name second.limit now → AsksAtMost old 2 now → IsAbout second.name event → StopsBy (cause_of_event event) form old now event
 second_stops form first second others old now event i s n a = among_stops form old now event (about_among (inputs_of old.contents form) (first ∷ []) second others old now event i s n a)
 
--- the third
+-- reading stopped at the third of the form's inputs
 pub third_stops : (form : AskedForm) (first second third : Limited) (others : List Limited) (old now : InputsState) (event : Event)
     → inputs_of old.contents form ≡ first ∷ second ∷ third ∷ others → IsLastAsked third.name third.limit now → AsksAtMost old 3 now → IsAbout third.name event → StopsBy (cause_of_event event) form old now event
 third_stops form first second third others old now event i s n a = among_stops form old now event (about_among (inputs_of old.contents form) (first ∷ second ∷ []) third others old now event i s n a)
@@ -56,10 +56,10 @@ want_only value form old now (Err x) h = want_stops form old now (event_of x) h
 
 -- ---- how often inputs are asked for, and their ends read
 
--- the first of a form's inputs
+-- the first of a form's inputs was asked for
 pub first_asked : (name : List ℕ) (others : List (List ℕ)) (old new : InputsState) → AsksAtMost old 1 new → AsksAtMost old (length (name ∷ others)) new
 first_asked name others old new h = let some : 1 ≤ suc (length others) = omega arith in few_more old new 1 (length (name ∷ others)) some h
 
--- two inputs, one after the other
+-- two inputs were asked for, one after the other
 pub both_asked : (old mid new : InputsState) → AsksAtMost old 1 mid → AsksAtMost mid 1 new → AsksAtMost old 2 new
 both_asked old mid new a b = few_on old mid new 1 1 a b

@@ -11,7 +11,7 @@ use Rattle.x7_boot.specs.Text.{boot_lines}
 use Rattle.x7_boot.specs.declared.boots.BootEnd.{BootEnd}
 use Rattle.x7_boot.specs.declared.boots.Tried.{Tried}
 
--- `Holds` is true of the part and the last attempt of a boot, where the boot's device has no word due
+-- `Holds` is true of each part and course of an attempt that left the boot's device as it is, if no word is due
 abbrev pub ForLastAttemptOf : BootedState → (PartData → AttemptCourse → Type 0) → Type 0
 ForLastAttemptOf boot Holds = (part : PartData) (last : AttemptCourse) → IsDeviceOf part boot.device last → NoWordDue boot.device → Holds part last
 

@@ -1,4 +1,5 @@
--- What may end a command, and what its output holds then (this project's choice).
+-- What may end a command, what its output holds and what is so of its flash then, and what a text that is made ready,
+-- or the event in place of it, has as its cause (this project's choice).
 use Rattle.std.specs.Prelude.{◌≡◌, ◌<◌, ◌≤◌, ℕ, List, [], ◌∷◌, ◌++◌, length, Option, None, Some, Result, Ok, Err, Bool, true, false, ◌⊎◌}
 use Rattle.x7_words.specs.Flash.{FlashState, IfKnown}
 use Rattle.x7_words.specs.Input.{AsksAtMost, InputsState, InputsStay}
@@ -38,9 +39,9 @@ GivesIfKnown (Some known) form end = FormGives known form end
 abbrev pub ReportsMishap : AskedForm → Outside → Outside → Event → Type 0
 ReportsMishap form old new event = IsOfMishap Answer (known_in old) (CameInRun (Some form) old new) (λ known end. FormGives known form end) event
 
--- At `place` of the flash another byte was read than an update with the stream's data writes there, and it is the first
--- such byte of these data and the FF after them, or of the switch word of the slot that is opened. Where the contents
--- aren't known, it is so for some data.
+-- At `place` of the flash another byte was read than an update with the data of the stream named `stream` writes there.
+-- This byte is the first such one of these data and the FF after them, or of the switch word of the slot that is
+-- opened. Where the contents aren't known, this holds for some data.
 pub record ReadsWrongAt (known : Option Known) (stream : List ℕ) (new : FlashState) (place : ℕ) : Type 0 where
   pub bytes : List ℕ
   pub has_data : HasData known stream bytes
@@ -63,11 +64,12 @@ WritesLast form old new = WritesFail (updated_by (Some form)) old.flash new.flas
 abbrev pub CausedBy : ReasonCause → AskedForm → Outside → Outside → Event → Type 0
 -- never: the words have a form
 CausedBy Wording form old new event = ⊥
--- it is that of want of memory
+-- the event is that of want of memory
 CausedBy Want form old new event = event ≡ no_memory
--- it reports a fault that came, and is the first event over known contents with that fault
+-- the event reports a fault that came, and is the first one over known contents with that fault
 CausedBy Fault form old new event = ReportsMishap form old new event
--- it reports a name that was missing, by the count of absences; or by known contents the name isn't there
+-- the event reports a name that was missing, by the count of absences, and is the first one over known contents without
+-- that name; or known contents give the event
 CausedBy Absence form old new event = ReportsMishap form old new event ⊎ IsKnownToGive (known_in old) form (Err event)
 -- the output failed, or a write of the flash, as `WritesLast` says
 CausedBy Break form old new event = (event ≡ writing_failed) × (SinkFails old.out new.out ⊎ WritesLast form old new)
@@ -100,7 +102,7 @@ pub record ListsSoFar (bytes : List ℕ) (old new : Option (List ℕ)) : Type 0 
   pub has_listing : (rest : List ℕ) → (text : List ℕ) × (stream_listing (bytes ++ rest) ≡ Ok text)
   pub puts_prefix : (rest text : List ℕ) → AreBytes rest → stream_listing (bytes ++ rest) ≡ Ok text → PutsPrefix old text new
 
--- the output got nothing, or a prefix of the listing of bytes that are a prefix of the stream, and of whatever may
+-- the output got nothing; or a prefix of the listing of bytes that the stream begins with, which is one whatever bytes
 -- follow them
 abbrev pub ListsPrefix : List ℕ → Outside → Outside → Type 0
 ListsPrefix stream old new =
@@ -137,7 +139,7 @@ abbrev pub GetsPrefixOfText : Option Known → AskedForm → SinkState → SinkS
 GetsPrefixOfText None form old new = (text : List ℕ) × PutsSome old text new
 GetsPrefixOfText (Some known) form old new = GetsPrefixOfKnown (listed_by (Some form)) known form old new
 
--- what the output got where it failed: a prefix of the text; where a write of the flash failed, nothing
+-- what the output got where a write failed: a prefix of the text; of a form with a stream for a flash, nothing
 abbrev pub OutputAfterFailure : Option (List ℕ) → AskedForm → Outside → Outside → Type 0
 OutputAfterFailure None form old new = GetsPrefixOfText (known_in old) form old.out new.out
 OutputAfterFailure (Some stream) form old new = new.out.written ≡ old.out.written
@@ -185,8 +187,8 @@ IsUnusable name now event = (event ≡ missing name) ⊎ ((event ≡ too_large n
 abbrev pub TouchesFlashLast : List ℕ → FlashState → FlashState → Event → Type 0
 TouchesFlashLast name old new event = (event ≡ no_memory) ⊎ ((event ≡ writing_failed) ⊎ ((event.concerned ≡ name) ⊎ (new ≡ old)))
 
--- An update whose flash can't be used asks for no stream, unless the stream has the flash's name. A boot touches its
--- flash only once its part is good.
+-- An update whose flash can't be used asks for no stream, unless the stream has the flash's name. A boot that an event
+-- ended touched its flash as `TouchesFlashLast` says.
 abbrev pub JudgesFlash : {A : Type 0} → Option AskedForm → Sources → Sources → Result A Event → Type 0
 JudgesFlash (Some (UpdatingFlash flash stream)) old new (Err event) = IsUnusable flash new.flash event → (new.inputs.selects ≤ old.inputs.selects) ⊎ (flash ≡ stream)
 JudgesFlash (Some (Booting part flash)) old new (Err event) = TouchesFlashLast flash old.flash new.flash event
@@ -209,9 +211,9 @@ abbrev pub CommandEndsAs : Option AskedForm → Outside → Outside → Result B
 CommandEndsAs form old new (Ok stopped) = (text : List ℕ) × CommandEnds form old new (Ok (record { stopped = stopped; text = text }))
 CommandEndsAs form old new (Err event) = CommandEnds form old new (Err event)
 
--- What a form did, up to the line that is said of its end: how it ended, where reading stopped, that an update whose
--- flash can't be used asks for no stream, and a boot whose part isn't good for no flash, how often inputs were asked
--- for, and that every input keeps its bytes.
+-- What a form did, up to the line that is said of its end: how it ended, where reading stopped, that an update and a
+-- boot touched flash and stream in the order of `JudgesFlash`, how often inputs were asked for, and that every input
+-- keeps its bytes.
 pub record Answered (form : AskedForm) (old new : Outside) (got : Result Bool Event) : Type 0 where
   pub ends : CommandEndsAs (Some form) old new got
   pub stops : StopsReading (Some form) old.inputs new.inputs got
@@ -219,7 +221,7 @@ pub record Answered (form : AskedForm) (old new : Outside) (got : Result Bool Ev
   pub asks : AsksAtMost old.inputs (length (names_of (Some form))) new.inputs
   pub stays : InputsStay old.inputs new.inputs
 
--- what a form that writes no text did, whatever the sinks hold
+-- what a form that writes no text did, whatever the sinks hold, if the output is the same before and after
 abbrev pub AnsweredSilently : AskedForm → Sources → Sources → Result Bool Event → Type 0
 AnsweredSilently form old new got = (before after : Outside) → after.out ≡ before.out → Answered form (with_sources before old) (with_sources after new) got
 
@@ -239,24 +241,28 @@ PutsAnswer (Ok answer) old new (Err event) = (event ≡ writing_failed) × SinkF
 abbrev pub AnswersOver : AskedForm → Outside → Outside → Result Answer Event → Type 0
 AnswersOver form old new got = IsCausedBy (known_in old) (CameInRun (Some form) old new) (λ known end. FormGives known form end) got
 
--- a text of the form that is ready has its cause in what the form reads, whatever the sinks hold
+-- a text of the form that is ready, or the event in place of it, has its cause in what the form reads, whatever the
+-- sinks hold
 abbrev pub AnswersFrom : AskedForm → Sources → Sources → Result Answer Event → Type 0
 AnswersFrom form old new got = (before after : Outside) → AnswersOver form (with_sources before old) (with_sources after new) got
 
--- a text of a form that reads no flash has its cause in the inputs, whatever a flash holds
+-- a text of a form that reads no flash, or the event in place of it, has its cause in the inputs, whatever a flash
+-- holds
 abbrev pub AnswersForm : AskedForm → InputsState → InputsState → Result Answer Event → Type 0
 AnswersForm form old new got = AnswersBy (step_over (names_of (Some form)) old new) (λ known end. FormGives known form end) got
 
--- A form that reads inputs alone made its text ready, or not: the text has its cause, reading stopped where an input
--- ends the form, no more inputs were asked for than the form names, and every input keeps its bytes.
+-- A form that reads inputs alone made its text ready, or not: the text, or the event in place of it, has its cause,
+-- reading stopped where an input ends the form, no more inputs were asked for than the form names, and every input
+-- keeps its bytes.
 pub record MakesReady (form : AskedForm) (old new : InputsState) (got : Result Answer Event) : Type 0 where
   pub caused : AnswersForm form old new got
   pub stops : StopsReading (Some form) old new got
   pub asks : AsksAtMost old (length (names_of (Some form))) new
   pub stays : InputsStay old new
 
--- A form that reads a flash too made its text ready, or not: the text has its cause in inputs and flash, the flash's
--- size and its faults fit the answer, the flash was touched as `JudgesFlash` says, and the rest is as in `MakesReady`.
+-- A form that reads a flash too made its text ready, or not: the text, or the event in place of it, has its cause in
+-- inputs and flash, the flash's size and its faults fit the answer, the flash was touched as `JudgesFlash` says, and
+-- the rest is as in `MakesReady`.
 pub record MakesReadyFrom (form : AskedForm) (old new : Sources) (got : Result Answer Event) : Type 0 where
   pub caused : AnswersFrom form old new got
   pub stops : StopsReading (Some form) old.inputs new.inputs got
@@ -266,7 +272,8 @@ pub record MakesReadyFrom (form : AskedForm) (old new : Sources) (got : Result A
   pub asks : AsksAtMost old.inputs (length (names_of (Some form))) new.inputs
   pub stays : InputsStay old.inputs new.inputs
 
--- a flash's name isn't there, or the flash failed: it was asked for, and its count of absences, or of faults, rose
+-- the flash of a name isn't there, or it failed: it may have been asked for by that name, and its count of absences, or
+-- of faults, rose
 abbrev pub IsMissingOrFailed : List ℕ → FlashState → FlashState → Event → Type 0
 IsMissingOrFailed name old new event = ((event ≡ missing name) × FlashLacksAmong (name ∷ []) old new name) ⊎ ((event ≡ reading_failed name) × FlashFailsAmong (name ∷ []) old new name)
 

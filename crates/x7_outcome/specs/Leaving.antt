@@ -13,25 +13,24 @@ use Rattle.x7_forms.specs.Known.{Answer, Known}
 use Rattle.x7_outcome.specs.Outcome.{stream_data}
 use Rattle.x7_outcome.specs.Outside.{UsesFlashAs, Outside, Sources, known_from, known_in, sources}
 
--- where the contents are known, `bytes` are the data of the stream `stream`
+-- where the contents are known, `bytes` are the data of the stream under the name `stream`
 abbrev pub HasData : Option Known → List ℕ → List ℕ → Type 0
 HasData None stream bytes = Unit {0}
 HasData (Some known) stream bytes = stream_data known stream ≡ Ok bytes
 
--- What may be found of a flash: what it held; or, of a form with a stream for it, what an update may leave with the
--- stream's data, or with some bytes where the contents aren't known.
+-- What may be found of a flash: what it held; or, of a form with the name of a stream for it, what an update may leave
+-- with the stream's data, or with some bytes where the contents aren't known.
 abbrev pub MayBeFound : Option Known → Option (List ℕ) → List ℕ → List ℕ → Type 0
 MayBeFound known None flash found = found ≡ flash
 MayBeFound known (Some stream) flash found = (found ≡ flash) ⊎ ((bytes : List ℕ) × HasData known stream bytes × MayBeLeft bytes flash found)
 
--- what a run does to the flash, what may be found of the flash after a power loss at any moment of the run, and what is
--- left of it
+-- what a run does to the flash; and what the flash may hold, after a power loss at any moment of the run and at its end
 pub record UsesFlash (form : Option AskedForm) (old : Sources) (new : FlashState) (past since : ℕ → List ℕ → Type 0) : Type 0 where
   pub keeps : UsesFlashAs (flash_use form) old.flash new
   pub moments : AtAnyMoment old.flash new past since (MayBeFound (known_from old) (updated_by form))
 
--- what a call for a form does to the flash, over these inputs, and what may be found of the flash after a power loss at
--- any moment of the call, and is left of it
+-- what a call for a form, over these inputs, does to the flash; and what the flash may hold, after a power loss at any
+-- moment of the call and at its end
 abbrev pub CallUsesFlash : {F : Type 0} → FlashModel F → Option AskedForm → InputsState → F → F → Type 0
 CallUsesFlash f form inputs old new = UsesFlash form (sources inputs (f.state old)) (f.state new) (f.found_since old) (f.found_since new)
 
@@ -43,7 +42,7 @@ BytesAfterReason why.WriteFault old new = Unit {0}
 BytesAfterReason (why.Differs place) old new = Unit {0}
 BytesAfterReason reason old new = new.bytes ≡ old.bytes
 
--- An update that is done leaves the flash as it is after one with the stream's data, or with some bytes where the
+-- An update that is done leaves the flash as it is after an update with the stream's data, or with some bytes where the
 -- contents aren't known. Of one that isn't, `BytesAfterReason` says what it leaves.
 abbrev pub UpdateLeaves : Option (List ℕ) → Outside → Outside → Result Answer Event → Type 0
 UpdateLeaves None old new end = Unit {0}

@@ -75,7 +75,7 @@ listed_found stream_name (Held bytes) = listed_bytes stream_name bytes
 listed_found stream_name Absent = Err (missing stream_name)
 listed_found stream_name (Broken bytes) = and_so (if_within stream_name stream_limit bytes) (λ _. Err (reading_failed stream_name))
 
--- `list STREAM`: the listing of the stream, its header's line first
+-- `list STREAM`: the listing of the stream, its header's line first, or the event in place of it
 abbrev pub listed : Known → List ℕ → Result Answer Event
 listed known stream_name = listed_found stream_name (known.inputs stream_name)
 
@@ -86,17 +86,18 @@ pub record PartAndText : Type 0 where
   pub part : PartData
   pub text : List ℕ
 
--- the part of a part file is read, and then a text for it
+-- the part of a part file, which is read first, and a text for the part; or the first event
 abbrev pub part_and_text : Known → List ℕ → List ℕ → Result PartAndText Event
 part_and_text known part_name text_name = and_so (part_known known part_name) (λ part. and_so (whole_known known text_limit text_name) (λ text. Ok (record { part = part; text = text })))
 
--- the data of a stream that has a limit of its own: its limit is judged before its header
+-- the data of a stream that has a limit of its own, or the event in place of them: the limit is judged before the
+-- header
 abbrev pub stream_data : Known → List ℕ → Result (List ℕ) Event
 stream_data known name = and_so (whole_known known stream_limit name) (data_in name)
 
 -- ---- asm
 
--- the event of a text that assembles to nothing
+-- the event of a text that is refused by a line, or of want of memory for its bytes
 abbrev pub asm_event : List ℕ → AsmFault → Event
 asm_event name (asm.Line line) = bad_input name (input.Line line)
 asm_event name (asm.TooLong line) = bad_input name (input.LongLine line)
@@ -121,7 +122,7 @@ abbrev pub debug_inputs : Known → List ℕ → List ℕ → List ℕ → Resul
 debug_inputs known part_name stream_name script_name =
     and_so (part_known known part_name) (λ part. and_so (stream_data known stream_name) (λ stream. and_so (whole_known known script_limit script_name) (λ script. Ok (record { part = part; stream = stream; script = script }))))
 
--- the event of a text that is no script
+-- the event of a text that is no script, or of want of memory for its orders
 abbrev pub script_event : List ℕ → ScriptFault → Event
 script_event name (script.Line line) = bad_input name (input.Line line)
 script_event name script.NoMemory = no_memory
@@ -142,7 +143,7 @@ DebuggedAs name (Ok d) (Err event) = (fault : ScriptFault) × (IsScriptOf d.scri
 
 -- ---- SVF
 
--- the event of an SVF text that has a statement at fault
+-- the event of an SVF text that has a statement at fault, or of want of memory
 abbrev pub svf_event : List ℕ → SvfFault → Event
 svf_event name (svf.Line line) = bad_input name (input.Line line)
 svf_event name svf.NoMemory = no_memory
@@ -168,7 +169,7 @@ PlayedSvf name (Ok texts) (Err event) = (fault : SvfFault) × IsSvfOf texts.text
 
 -- ---- plans
 
--- the event of a frames text that gives no plan, by its first line at fault
+-- the event of a frames text that gives no plan, by its first line at fault, or of want of memory
 abbrev pub frames_event : List ℕ → FramesFault → Event
 frames_event name (frames.Line line) = bad_input name (input.Line line)
 frames_event name (frames.Address line) = bad_input name (input.AddressLine line)
@@ -181,7 +182,8 @@ PlannedFull name (Err event) end = Err event ≡ end
 PlannedFull name (Ok texts) (Ok answer) = (answer.stopped ≡ false) × (plan : PlanData) × IsPlanOf texts.part texts.text (Ok plan) × (answer.text ≡ full_stream texts.part plan)
 PlannedFull name (Ok texts) (Err event) = (fault : FramesFault) × IsPlanOf texts.part texts.text (Err fault) × (frames_event name fault ≡ event)
 
--- the event of a stream that isn't planned
+-- the event of a stream that isn't planned: the plan is empty, the part lacks an address, so many slots can't be read
+-- back (none, or more than there are), or memory is wanting
 abbrev pub planner_event : List ℕ → PlanFault → Event
 planner_event name planner.Empty = bad_input name input.Empty
 planner_event name (planner.Foreign far) = bad_input name input.Foreign
@@ -233,11 +235,13 @@ image_by name unit s =
     if nat_lt flash_limit (image_size (length s.golden) (length s.update)) then Err (bad_input name input.Image)
     else Ok (record { stopped = false; text = image_of unit s.golden s.update })
 
--- `image GOLDEN UPDATE`: the flash image of both streams' data, for parts whose start address counts bytes
+-- `image GOLDEN UPDATE`: the flash image of both streams' data, for parts whose start address counts bytes, or the
+-- event in place of it
 abbrev pub image_answer : Known → List ℕ → List ℕ → Result Answer Event
 image_answer known golden_name update_name = and_so (image_streams known golden_name update_name) (image_by update_name 1)
 
--- `image PART GOLDEN UPDATE`: the flash image of both streams' data for a part, by its start unit
+-- `image PART GOLDEN UPDATE`: the flash image of both streams' data for a part, by the part's start unit, or the event
+-- in place of it
 abbrev pub image_answer_for : Known → List ℕ → List ℕ → List ℕ → Result Answer Event
 image_answer_for known part_name golden_name update_name =
     and_so (part_known known part_name) (λ part. and_so (image_streams known golden_name update_name) (image_by update_name part.start_unit))
@@ -260,8 +264,8 @@ pub record IsBootText (part : PartData) (flash : List ℕ) (answer : Answer) : T
   pub stopped : answer.stopped ≡ has_failed end
   pub text : answer.text ≡ boot_text part (reverse (map tried (last ∷ older))) end last
 
--- the boot of a part from what is found under the name of a flash; where nothing is known of the flash, any text, or
--- that it is too large
+-- the boot of a part from what is found under the name of a flash: the text of the boot, or that the flash is too
+-- large, isn't there or failed; where nothing is known of the flash, any text, or that it is too large
 abbrev pub FlashBoots : List ℕ → PartData → Option Found → Result Answer Event → Type 0
 FlashBoots name part None (Ok answer) = Unit {0}
 FlashBoots name part None (Err event) = event ≡ too_large name
@@ -270,7 +274,7 @@ FlashBoots name part (Some (Held flash)) (Err event) = (flash_limit < length fla
 FlashBoots name part (Some Absent) end = end ≡ Err (missing name)
 FlashBoots name part (Some (Broken bytes)) end = end ≡ Err (reading_failed name)
 
--- `boot PART FLASH`: the boot of the part from the flash
+-- `boot PART FLASH`: the boot of the part from the flash, or the event in place of its text
 abbrev pub BootedAs : List ℕ → Result PartData Event → Option Found → Result Answer Event → Type 0
 BootedAs name (Err event) flash end = Err event ≡ end
 BootedAs name (Ok part) flash end = FlashBoots name part flash end
@@ -302,7 +306,8 @@ update_event names (update_fault.Differs place wrote read) = differs names.flash
 update_event names update_fault.NoMemory = no_memory
 
 -- why a flash isn't updated with a stream, by its bytes where they are known; a byte that is verified may be another
--- than the one written there only where the flash's bytes aren't known
+-- than the one written there only where the flash's bytes aren't known; a failed call and want of memory are none of
+-- these reasons
 abbrev pub IsUpdateFault : Option (List ℕ) → List ℕ → UpdateFault → Type 0
 IsUpdateFault bytes stream (update_fault.NoLayout place) = IfKnown bytes (λ flash. NoLayoutAt (length flash) flash place)
 IsUpdateFault bytes stream update_fault.TooLong = IfKnown bytes (IsTooLong stream)
@@ -310,7 +315,7 @@ IsUpdateFault bytes stream (update_fault.Differs place wrote read) = ((size : �
 IsUpdateFault bytes stream (update_fault.Failed writing) = ⊥
 IsUpdateFault bytes stream update_fault.NoMemory = ⊥
 
--- the update of a flash that holds `bytes`, where these are known, with the data of a stream
+-- the update of a flash that holds `bytes`, where these are known, with the data of a stream, or the stream's event
 abbrev pub UpdatesWith : UpdateNames → Option (List ℕ) → Result (List ℕ) Event → Result Answer Event → Type 0
 UpdatesWith names bytes (Err event) end = Err event ≡ end
 UpdatesWith names bytes (Ok stream) (Ok answer) = (answer ≡ no_text) × IfKnown bytes (CanBeUpdatedWith stream)
@@ -335,11 +340,11 @@ UpdatedAs known names end = FlashUpdates names (known.flash names.flash) (stream
 
 -- ---- Intel HEX
 
--- `mcs IMAGE`: the Intel HEX text of an image
+-- `mcs IMAGE`: the Intel HEX text of an image, or the event in place of it
 abbrev pub mcs_written : Known → List ℕ → Result Answer Event
 mcs_written known image_name = and_so (whole_known known flash_limit image_name) (λ image. Ok (record { stopped = false; text = mcs_text image }))
 
--- the event of an Intel HEX text that gives no image
+-- the event of an Intel HEX text that gives no image, or of want of memory
 abbrev pub mcs_event : List ℕ → McsFault → Event
 mcs_event name (mcs.Line line) = bad_input name (input.Line line)
 mcs_event name (mcs.Sum line want got) = bad_input name (input.Sum line want got)
@@ -353,7 +358,7 @@ abbrev pub mcs_image : List ℕ → Result (List ℕ) McsFault → Result Answer
 mcs_image name (Ok bytes) = Ok (record { stopped = false; text = bytes })
 mcs_image name (Err fault) = Err (mcs_event name fault)
 
--- `unmcs TEXT`: the flash image of an Intel HEX text
+-- `unmcs TEXT`: the flash image of an Intel HEX text, or the event in place of it
 abbrev pub mcs_read : Known → List ℕ → Result Answer Event
 mcs_read known text_name = and_so (whole_known known text_limit text_name) (λ text. mcs_image text_name (mcs_of text))
 

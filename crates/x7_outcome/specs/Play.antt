@@ -19,7 +19,7 @@ report_of part bytes = record {
 unfoldable pub reported : PartData → List ℕ → Result Answer Event
 reported part bytes = if nat_lt reads_limit (length (reads_of part on_the_bench bytes)) then Err too_many_reads else Ok (report_of part bytes)
 
--- `play PART STREAM..`: the report of the streams' data, one after the other
+-- `play PART STREAM..`: one report of the data of all streams, one after the other, or the event in place of it
 abbrev pub played : Known → List ℕ → List (List ℕ) → Result Answer Event
 played known part streams = and_so (part_known known part) (λ p. and_so (streams_known known stream_limit streams) (reported p))
 

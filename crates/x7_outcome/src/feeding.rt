@@ -1,7 +1,7 @@
 //! Texts that are read line by line while they come.
-ghost use Rattle.std.specs.Prelude.{ℕ, ◌<◌, List, [], ◌++◌, length, Ok, Err, IfOk, IfErr, ◌+◌};
+ghost use Rattle.std.specs.Prelude.{◌≢◌, ℕ, ◌<◌, List, [], ◌++◌, length, Ok, Err, IfOk, IfErr, ◌+◌};
 ghost use Rattle.x7_words.specs.Input.{taken_bytes_limit};
-ghost use Rattle.x7_forms.specs.Event.{event_of};
+ghost use Rattle.x7_forms.specs.Event.{event_of, no_memory};
 ghost use Rattle.x7_forms.specs.Step.{IsUnread, ReadsWhole};
 ghost use Rattle.x7_forms.specs.Turn.{AsksOnlyFor};
 ghost use Rattle.x7_forms.specs.Known.{text_limit};
@@ -38,6 +38,8 @@ fn end_text<T: TakesLines>(read: Result<LineReader<T>, T::Fault>) -> Result<T::O
 }
 
 /// Reads a text of at most `TEXT_LIMIT` bytes line by line while it comes, to its end also where a line is at fault.
+/// The answer is what its lines give, or the fault for which they are refused, which may be want of memory; or why it
+/// wasn't read (`IsUnread`), which is never want of memory.
 pub fn feed_whole<'w, I: Inputs, T: TakesLines>(
     alloc: Global,
     inputs: &mut I,
@@ -49,6 +51,7 @@ pub fn feed_whole<'w, I: Inputs, T: TakesLines>(
         × ReadsWhole (I.state inputs.old) (I.state inputs.new) text_limit name.now (Ok text)) }
     ensures refused { IfErr result (λ r. ReadsWhole (I.state inputs.old) (I.state inputs.new) text_limit name.now (Err (event_of r))) }
     ensures named { IfErr result (λ r. IsUnread name.now (event_of r)) }
+    ensures memory { IfErr result (λ r. event_of r ≢ no_memory) }
     ensures asks { AsksOnlyFor (I.state inputs.old) name.now text_limit (I.state inputs.new) }
 {
     open(inputs, name)?;

@@ -10,7 +10,7 @@ ghost use Rattle.x7_outcome.specs.Ending.{IsMissingOrFailed, IsUnattachedOrLarge
 use x7_forms::{Refusal, Why};
 use x7_words::{FLASH_LIMIT, Flash, SelectFault};
 
-/// Attaches the flash of this name.
+/// Attaches the flash of this name, or answers that it isn't there or failed.
 pub fn attach<'w, F: Flash>(flash: &mut F, name: &'w str) -> Result<(), Refusal<'w>>
     ensures attached { OnOk result ((F.state flash.new).attached ≡ true) }
     ensures refused { IfErr result (λ r. IsMissingOrFailed name.now (F.state flash.old) (F.state flash.new) (event_of r)) }
@@ -33,7 +33,7 @@ pub fn attach<'w, F: Flash>(flash: &mut F, name: &'w str) -> Result<(), Refusal<
     }
 }
 
-/// Attaches the flash of this name, and refuses one of more than `FLASH_LIMIT` bytes.
+/// Attaches the flash of this name, or answers that it isn't there, failed, or has more than `FLASH_LIMIT` bytes.
 pub fn open_flash<'w, F: Flash>(flash: &mut F, name: &'w str) -> Result<(), Refusal<'w>>
     ensures attached { OnOk result ((F.state flash.new).attached ≡ true) }
     ensures within { OnOk result (IfKnown (F.state flash.new).bytes (λ all. length all ≤ flash_limit)) }

@@ -1,10 +1,10 @@
 //! Streams that are read whole, each with a limit of its own, of `STREAM_LIMIT` bytes.
-ghost use Rattle.std.specs.Prelude.{◌≡◌, ◌≤◌, [], ◌∷◌, IfErr, IfOk, length};
+ghost use Rattle.std.specs.Prelude.{◌≡◌, ◌≤◌, [], ◌∷◌, IfErr, IfOk, Ok, length, true};
 ghost use Rattle.x7_outcome.specs.Outcome.{stream_data};
 ghost use Rattle.x7_forms.specs.Known.{stream_limit};
-ghost use Rattle.x7_forms.specs.Event.{event_of};
+ghost use Rattle.x7_forms.specs.Event.{event_of, no_memory};
 ghost use Rattle.x7_forms.specs.Turn.{AsksOnlyFor};
-ghost use Rattle.x7_forms.specs.Step.{AnswersAs, IsUnplayed, result_by, step_over};
+ghost use Rattle.x7_forms.specs.Step.{AnswersAs, IsUnplayed, ReadsWhole, result_by, step_over};
 ghost use Rattle.x7_outcome.specs.Stream.{data_from};
 
 use std::alloc::Global;
@@ -20,7 +20,8 @@ pub struct Stream {
     pub start: usize,
 }
 
-/// Reads a stream whole: one of more than `STREAM_LIMIT` bytes is refused before its header is looked at.
+/// Reads a stream whole: one of more than `STREAM_LIMIT` bytes is refused before its header is looked at. `IsUnplayed`
+/// has all reasons of a refusal; memory may be wanting only once the stream is open.
 pub fn read_stream<'w, I: Inputs>(
     alloc: Global,
     inputs: &mut I,
@@ -29,6 +30,8 @@ pub fn read_stream<'w, I: Inputs>(
     ensures caused { AnswersAs (step_over (name.now ∷ []) (I.state inputs.old) (I.state inputs.new))
         (λ known. stream_data known name.now) (result_by data_from result) }
     ensures named { IfErr result (λ r. IsUnplayed name.now (event_of r)) }
+    ensures memory { IfErr result (λ r. event_of r ≡ no_memory → (I.state inputs.new).selected ≡ true) }
+    ensures whole { IfOk result (λ stream. ReadsWhole (I.state inputs.old) (I.state inputs.new) stream_limit name.now (Ok stream.bytes.items)) }
     ensures within { IfOk result (λ stream. stream.start ≤ length stream.bytes.items) }
     ensures asks { AsksOnlyFor (I.state inputs.old) name.now stream_limit (I.state inputs.new) }
 {
@@ -52,7 +55,8 @@ fn into_data(stream: Stream) -> Vec<u8>
     bytes
 }
 
-/// Reads a stream, and keeps its data alone: the bytes after its header, or all where it has none.
+/// Reads a stream, and keeps its data alone: the bytes after its header, or all where it has none. `IsUnplayed` has the
+/// reasons of a refusal; memory may be wanting only once the stream is open.
 pub fn read_data<'w, I: Inputs>(
     alloc: Global,
     inputs: &mut I,
@@ -61,6 +65,7 @@ pub fn read_data<'w, I: Inputs>(
     ensures caused { AnswersAs (step_over (name.now ∷ []) (I.state inputs.old) (I.state inputs.new))
         (λ known. stream_data known name.now) (result_by (λ bytes. bytes.items) result) }
     ensures named { IfErr result (λ r. IsUnplayed name.now (event_of r)) }
+    ensures memory { IfErr result (λ r. event_of r ≡ no_memory → (I.state inputs.new).selected ≡ true) }
     ensures asks { AsksOnlyFor (I.state inputs.old) name.now stream_limit (I.state inputs.new) }
 {
     let stream = read_stream(alloc, inputs, name)?;

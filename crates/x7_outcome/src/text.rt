@@ -88,8 +88,8 @@ impl Ready for PlayText {
     }
 }
 
-/// Writes a text that is ready, and answers whether what the text reports stopped. Where there is a refusal in place of
-/// a text, nothing is written, and the refusal is the answer.
+/// Writes a text that is ready, and answers whether what the text reports stopped, or that the output failed. Where
+/// there is a refusal in place of a text, nothing is written, and the refusal is the answer.
 pub fn put_whole<'w, T: Ready + Drop, O: Sink>(
     whole: Result<T, Refusal<'w>>,
     out: &mut O,

@@ -58,7 +58,7 @@ pub record ComesAfter (place : Place) (more : List ℕ) : Type 0 where
   pub searching : is_synced place ≡ false
   pub none : NoneBegins (gap_of place) more
 
--- so they do where they may follow
+-- bytes that may follow others that end at a place come after these
 may_stand : (place : Place) (more : List ℕ) → IsPlace place → MayFollow place more → ComesAfter place more
 may_stand place more is m = record { searching = m.searching; none = by place is m.searching m.apart }
   where
@@ -91,7 +91,7 @@ tail_same before prefix (t ∷ ts) q = refl
 pub ends_appended : (a b : List ℕ) → AreBytes (a ++ b) → ComesAfter (reading_of a).place b → is_synced (reading_of (a ++ b)).place ≡ is_synced (reading_of b).place
 ends_appended a b f d = ap (λ (r : Reading). is_synced r.place) (read_appended a b f d) ∙ synced_same (reading_of a).sessions (gap_of (reading_of a).place) (reading_of b).sessions (reading_of b).place
 
--- an access entered n bytes later, after others
+-- the access of a step that is entered n bytes later, among accesses moved by n and before others, is moved by n
 entered_moved : (n place k : ℕ) (s : Step) (h g : History) → k ≡ n + place → entered k s (moved n h ++ g) ≡ moved n (entered place s h) ++ g
 entered_moved n place k (step.Payload register w) h g e = ap (λ (x : ℕ). entry (Write register w) x ∷ (moved n h ++ g)) e
 entered_moved n place k (step.Read register count) h g e = by_count (count == 0)

@@ -5,7 +5,7 @@ use Rattle.std.proofs.lemmas.Bool.Decides.{nat_tests}
 use Rattle.std.specs.List.{flat_map}
 use Rattle.x7_words.specs.Word.{AreBytes, AreWords, bytes_of_word, words_of_bytes}
 use Rattle.x7_words.proofs.ListLemmas.{all_append, all_back, all_take}
-use Rattle.x7_words.proofs.WordLemmas.{bytes_words, length_words, words_fit}
+use Rattle.x7_words.proofs.WordLemmas.{bytes_words, length_words, words_fit, word_bytes}
 use Rattle.x7_packets.specs.Matching.{IsClear, IsFirstSync, MatcherStandsFor}
 use Rattle.x7_packets.specs.SyncWord.{sync_bytes}
 use Rattle.x7_packets.specs.declared.header.Step.{Step}
@@ -58,10 +58,7 @@ words_go_on n ps register ws f other some l r d (inr a) = payload_goes_on (in_wr
 
 -- ---- a cutter
 
-fits_word : (w : ℕ) → AreBytes (bytes_of_word w)
-fits_word w = (omega arith, (omega arith, (omega arith, (omega arith, tt))))
-
--- what a word more comes to, which goes on
+-- a cutter after further words of a session that goes on
 record GoesOn (n : CutterState) (bytes : List ℕ) (sessions : List EndedSession) (gap : List ℕ) (packets : List Packet) (more : List (ℕ × Step)) : Type 0 where
   new : Place
   stands : CutterStandsFor n bytes sessions new
@@ -81,7 +78,7 @@ goes_on c n w step bytes sessions gap tail packets is to none none2 calm grows s
       new = Synced gap g.packets [];
       stands = record {
         reading = record {
-          fits = all_append (λ b. b < 256) bytes (bytes_of_word w) s.reading.fits (fits_word w);
+          fits = all_append (λ b. b < 256) bytes (bytes_of_word w) s.reading.fits (word_bytes w);
           joined = joined ∙ ap (λ t. flat_map session_bytes sessions ++ t) (sym (append-nil (gap ++ sync_bytes ++ packet_bytes g.packets)));
           each = s.reading.each;
           ends = (s.reading.ends.0, g.each, g.end ∙ calm, omega arith);
@@ -101,7 +98,7 @@ takes_head c n w step is to none none2 calm grows bytes sessions (Synced gap pac
 pub takes_nop : (c : CutterState) → c.mode ≡ Mode.Synced → c.kept ≡ [] → c.machine.due ≡ 0 → TakesAsOneRun c c (bytes_of_word no_op) (Head no_op Nop)
 takes_nop c is none due = takes_head c c no_op Nop is is none none refl (λ ps s. nop_grows c.machine ps due s)
 
--- a header and a word that begin bytes
+-- bytes that begin with the header of a type 1 write of one word and with the word begin with that write
 pub begins_write : (bytes head word rest : List ℕ) (register h w : ℕ) → head ≡ take 4 bytes → rest ≡ drop 4 bytes → word ≡ take 4 rest → 8 ≤ length bytes → bytes_of_word h ≡ head → bytes_of_word w ≡ word → h ≡ type1_write_header register 1 → register < reg_number_count → w < 2 ^ 32 → BeginsWrite bytes register w
 begins_write bytes head word rest register h w a r b long e f g range fits = record {
   range = range;
@@ -122,7 +119,7 @@ writes_one old new bs register w is to matcher none none2 begins opens ends =
       middle = middle;
       begins = begins;
       head = takes_head old middle (type1_write_header register 1) (Open register 1) is refl none refl refl opens;
-      word = λ bytes sessions place s. word_more middle new bytes (bytes_of_word w) sessions place register w s refl ends (fits_word w) refl none2 to matcher;
+      word = λ bytes sessions place s. word_more middle new bytes (bytes_of_word w) sessions place register w s refl ends (word_bytes w) refl none2 to matcher;
       none_kept = none2;
     }
 

@@ -1,6 +1,5 @@
 -- Equal words in a row, a block of them at a time.
-use Rattle.std.proofs.Common.{Bool, true, false, not, cond, w8, map, ◌%◌, ◌^◌, ◌==◌, ◌≡◌, ℕ, zero, suc, ◌+◌, ◌-◌, ◌*◌, ◌/◌, ◌<◌, ◌≤◌, List, [], ◌∷◌, ◌++◌, length, take, drop, drop-drop, take-add, take_all, length-drop, replicate, get_or, refl, ap, sym, ◌∙◌, append_assoc, arith}
-use Rattle.std.proofs.Math.Nat.{mul-suc}
+use Rattle.std.proofs.Common.{Bool, true, false, not, cond, w8, map, ◌%◌, ◌^◌, ◌==◌, ◌≡◌, ℕ, zero, suc, ◌+◌, ◌-◌, ◌*◌, ◌/◌, ◌<◌, ◌≤◌, List, [], ◌∷◌, ◌++◌, length, take, drop, take-add, take_all, length-drop, replicate, get_or, refl, ap, sym, ◌∙◌, append_assoc, arith}
 use Rattle.std.proofs.lemmas.Bool.{eqb-true}
 use Rattle.std.proofs.lemmas.Simd.{length-zip2, mask_l-mod, tops_compared}
 use lib.Lanes.{mask_l, top, zip2}
@@ -9,12 +8,7 @@ use Rattle.std.specs.List.{flat_map}
 use Rattle.std.specs.Simd.{first_chunks}
 use Rattle.x7_words.specs.Word.{bytes_of_word}
 use Rattle.x7_packets.specs.Nops.{equal_bytes}
-
-chunk_at : (n m k : ℕ) (xs d : List ℕ) → k < m → get_or (first_chunks n m xs) k d ≡ take n (drop (n * k) xs)
-chunk_at n zero k xs d h = absurd (omega (arith, h))
-chunk_at n (suc m) zero xs d h = ap (λ (j : ℕ). take n (drop j xs)) (let e : 0 ≡ n * 0 = omega arith in e)
-chunk_at n (suc m) (suc k) xs d h =
-    chunk_at n m k (drop n xs) d (omega (arith, h)) ∙ ap (take n) (drop-drop (n * k) n xs ∙ ap (λ (j : ℕ). drop j xs) (let m : n * suc k ≡ n * k + n = mul-suc n k in let e : n + n * k ≡ n * suc k = omega (arith, m) in e))
+use Rattle.x7_words.proofs.ListLemmas.{chunk_at}
 
 equal_add : (w m n : ℕ) → equal_bytes w (m + n) ≡ equal_bytes w m ++ equal_bytes w n
 equal_add w zero n = ap (equal_bytes w) (let e : 0 + n ≡ n = omega arith in e)
@@ -42,7 +36,7 @@ same_by_none (x ∷ xs) (y ∷ ys) e h = same_head (x == y) (mask_l (zip2 differ
 pub same_block : (a b : List ℕ) → length a ≡ 32 → length b ≡ 32 → mask_l (map (top (hbits w8)) (zip2 (λ a b. cond (differs a b) (2 ^ bits w8 - 1) 0) a b)) % 2 ^ 64 ≡ 0 → a ≡ b
 same_block a b p q e = same_by_none a b (p ∙ sym q) (sym (mask_differs a b p q) ∙ e)
 
--- the bytes of a word, this many times
+-- the bytes of a word, n times, are those of n equal words
 pub eight_equal : (n w : ℕ) (bytes : List ℕ) → bytes ≡ bytes_of_word w → flat_map (λ x. x) (replicate n bytes) ≡ equal_bytes w n
 eight_equal zero w bytes e = refl
 eight_equal (suc n) w bytes e = ap (λ t. bytes ++ t) (eight_equal n w bytes e) ∙ ap (λ t. t ++ equal_bytes w n) e

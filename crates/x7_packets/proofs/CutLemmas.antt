@@ -117,7 +117,7 @@ not_sync_found : {m : Mode} (b : Bool) → m ≡ (if b then Mode.Searching else 
 not_sync_found true e f = absurd (cc)
 not_sync_found false e f = absurd (cc)
 
--- what words more come to
+-- a cutter after further words of a session, each with its step, and the session that these words make longer
 abbrev WordsMore : CutterState → List ℕ → List EndedSession → List ℕ → List Packet → List (ℕ × Step) → Type 0
 WordsMore n bytes sessions gap packets more = (new_sessions : List EndedSession) × (new : Place) × CutterStandsFor n bytes new_sessions new × LongerSession gap packets more sessions new_sessions new
 
@@ -239,14 +239,14 @@ cuts_all c n rest run taken is to same none none2 some t after e fits =
       adds = λ bytes sessions place s. rw all (skip_all c n bytes rest run sessions place s is to same after e fits);
     })
 
--- no byte is kept of which the count is 0
+-- no byte is kept where the count is 0
 pub none_kept : (kept : List ℕ) (count : ℕ) → count ≡ 0 → take count kept ≡ []
 none_kept kept count e = ap (λ k. take k kept) e
 
--- a count of bytes of which none are kept
+-- the count is 0 where no byte is kept
 pub no_count : (kept : List ℕ) (count : ℕ) → count ≤ length kept → take count kept ≡ [] → count ≡ 0
 no_count kept count h e = sym (length-take-le count kept h) ∙ ap length e
 
--- bytes after a mode that keeps none
+-- a cutter that searches keeps no byte
 pub keeps_none : (m : Mode) → m ≡ Mode.Searching → KeepsNone m
 keeps_none m e = rw e tt

@@ -1,4 +1,4 @@
--- The accesses of a reading have registers of five bits and words of 32.
+-- The accesses of a reading have registers of five bits, words of 32 and counts of 27.
 use Rattle.std.proofs.Common.{ℕ, ◌+◌, ◌^◌, ◌<◌, ◌==◌, ◌||◌, Bool, true, false, if◌then◌else◌, List, [], ◌∷◌, Option, None, Some, length, arith}
 use Rattle.std.specs.List.{flat_map, AllByRecursion}
 use Rattle.x7_words.specs.Word.{AreWords}

@@ -1,4 +1,4 @@
--- Bytes after a gap in which no sync word begins are read as they are alone, and alike after two gaps of a length.
+-- Bytes after a gap in which no sync word begins are read as they are alone, and alike after two gaps of one length.
 use Rattle.std.proofs.Common.{◌≡◌, ◌+◌, ◌-◌, ◌<◌, ◌≤◌, inl, inr, ℕ, List, [], ◌++◌, drop, take, length, length-append, append-nil, refl, ap, sym, subst, ◌∙◌, take-append-drop, length-take-le, arith}
 use Rattle.std.proofs.Math.Seq.{take-append-add, take-length}
 use Rattle.std.proofs.lemmas.Bool.{cases_lt}
@@ -13,7 +13,7 @@ use Rattle.x7_packets.specs.Reading.{Searching, is_synced}
 use Rattle.x7_packets.proofs.AppendedLemmas.{ComesAfter, ends_appended, history_appended, nothing_read}
 use Rattle.x7_packets.proofs.SeamLemmas.{none_before_prefix, none_in_gap}
 
--- fewer bytes than a gap has ask nothing
+-- the first bytes of a gap, or all of them, ask nothing
 pub prefix_asks_nothing : (gap more : List ℕ) (k : ℕ) → k ≤ length gap → AreBytes gap → NoneBegins gap more → (reading_of (take k gap) ≡ record { sessions = []; place = Searching (take k gap) }) × (history_of (take k gap) ≡ [])
 prefix_asks_nothing gap more k l f n = nothing_read (take k gap) (all_take (λ x. x < 256) k gap f) (none_in_gap gap more k l n)
 
@@ -30,7 +30,7 @@ module _ (gap more : List ℕ) (f : AreBytes (gap ++ more)) (n : NoneBegins gap 
   pub synced_passed : is_synced (reading_of (gap ++ more)).place ≡ is_synced (reading_of more).place
   synced_passed = ends_appended gap more f stands
 
--- ---- two gaps of a length
+-- ---- two gaps of one length
 
 alike_after : (one other more : List ℕ) → AreGaps one other more → AreAlike (one ++ more) (other ++ more)
 alike_after one other more g = record {
@@ -39,7 +39,7 @@ alike_after one other more g = record {
   synced = synced_passed one more g.fits.0 g.none.0 ∙ sym (synced_passed other more g.fits.1 g.none.1);
 }
 
--- of fewer bytes than the gaps have
+-- the first k bytes of two gaps of k bytes or more are alike
 alike_within : (one other more : List ℕ) (k : ℕ) → AreGaps one other more → k ≤ length one → AreAlike (take k one) (take k other)
 alike_within one other more k g l =
     let m : k ≤ length other = omega (arith, l, g.count) in
@@ -60,7 +60,7 @@ fewer one other more n g = record { count = g.count; fits = (bytes one g.fits.0,
     before : (gap : List ℕ) → NoneBegins gap more → NoneBegins gap (take n more)
     before gap m = none_before_prefix gap (take n more) (drop n more) (subst (NoneBegins gap) (sym (take-append-drop n more)) m)
 
--- each prefix of both is alike
+-- two gaps of one length, each with the same bytes after it, have prefixes that are alike
 pub alike_prefixes : (one other more : List ℕ) (k : ℕ) → AreGaps one other more → AreAlike (take k (one ++ more)) (take k (other ++ more))
 alike_prefixes one other more k g = elim (cases_lt k (length one)) [
   | inl few ↦

@@ -29,7 +29,7 @@ step_enters place step.Filler h = inl refl
 step_enters place step.Nop h = inl refl
 step_enters place (step.Open register n) h = inl refl
 
--- so does a word, which ends four bytes on
+-- a word enters one access at most, which ends four bytes on
 word_enters : (m place : ℕ) (s : ℕ × Step) (old new : History) → new ≡ entered_all m (s ∷ []) old → m + 4 ≡ place → OneMore place old new
 word_enters m place s old new e k = subst (λ (x : ℕ). OneMore x old new) k (subst (λ (t : History). OneMore (m + 4) old t) (sym e) (step_enters (m + 4) s.1 old))
 
@@ -86,7 +86,7 @@ byte_enters bytes x f =
     let more : reading_of (bytes ++ x ∷ []) ≡ with_byte r x = fold-append with_byte (record { sessions = []; place = Searching [] }) bytes (x ∷ []) in
     subst (λ (t : Reading). OneMore (length bytes + 1) (history_of bytes) (history t.sessions t.place)) (sym more) (place_enters bytes r.sessions r.place x is)
 
--- what each byte keeps, further bytes keep
+-- what each further byte keeps true, all further bytes keep true
 bytes_keep : (P : List ℕ → Type 0) → ((bytes : List ℕ) (x : ℕ) → AreBytes (bytes ++ x ∷ []) → P bytes → P (bytes ++ x ∷ [])) → (bytes more : List ℕ) → AreBytes (bytes ++ more) → P bytes → P (bytes ++ more)
 bytes_keep P keeps bytes [] f p = subst P (sym (append-nil bytes)) p
 bytes_keep P keeps bytes (x ∷ more) f p =
@@ -113,7 +113,7 @@ later_more n h bytes x f p =
     ] in
     (omega (arith, p.0), later)
 
--- the history of further bytes has newer accesses in prefix, which end in those bytes
+-- the history with further bytes is that of the first bytes, with newer accesses before it that end in the further ones
 pub newer_of : (bytes more : List ℕ) → AreBytes (bytes ++ more) → IsLater (length bytes) (history_of bytes) (bytes ++ more)
 newer_of bytes more f =
     let all : (length bytes ≤ length (bytes ++ more)) × IsLater (length bytes) (history_of bytes) (bytes ++ more) =

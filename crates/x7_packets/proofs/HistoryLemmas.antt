@@ -17,7 +17,7 @@ use Rattle.x7_packets.specs.History.{Read, Write, History, entry, entered, enter
 use Rattle.x7_packets.proofs.ByHandLemmas.{reading_is}
 use Rattle.x7_packets.proofs.PacketLemmas.{words_stepped}
 
--- an access is entered in prefix of what there is
+-- the access of a step is entered before what there is
 entered_prefix : (place : ℕ) (s : Step) (h : History) → entered place s h ≡ entered place s [] ++ h
 entered_prefix place (step.Payload register w) h = refl
 entered_prefix place (step.Read register n) h = elim (n == 0) as (λ b. (if b then h else entry (Read register n) place ∷ h) ≡ (if b then [] else entry (Read register n) place ∷ []) ++ h) [ true ↦ refl | false ↦ refl ]
@@ -26,7 +26,7 @@ entered_prefix place step.Filler h = refl
 entered_prefix place step.Nop h = refl
 entered_prefix place (step.Open register n) h = refl
 
--- the accesses of words are entered in prefix of what there is
+-- the accesses of words are entered before what there is
 pub all_before : (n : ℕ) (ss : List (ℕ × Step)) (h : History) → entered_all n ss h ≡ entered_all n ss [] ++ h
 all_before n [] h = refl
 all_before n (s ∷ ss) h =
@@ -39,7 +39,7 @@ pub entered_all_append : (n : ℕ) (ss ts : List (ℕ × Step)) (h : History) �
 entered_all_append n [] ts h = ap (λ (x : ℕ). entered_all x ts h) (omega arith)
 entered_all_append n (s ∷ ss) ts h = entered_all_append (n + 4) ss ts (entered (n + 4) s.1 h) ∙ ap (λ (x : ℕ). entered_all x ts (entered_all (n + 4) ss (entered (n + 4) s.1 h))) (omega arith)
 
--- the accesses of words after others stand in prefix of theirs
+-- the accesses of later words stand before those of earlier words
 pub words_after : (n : ℕ) (ss ts : List (ℕ × Step)) (h : History) → entered_all n (ss ++ ts) h ≡ entered_all (n + 4 * length ss) ts [] ++ (entered_all n ss [] ++ h)
 words_after n ss ts h =
     entered_all_append n ss ts h
@@ -133,7 +133,7 @@ pub words_end : (gap tail : List ℕ) (packets : List Packet) (more : List (ℕ 
     → (next_word new_sessions new ≡ next_word sessions (Synced gap packets tail) + 4 * length more) × (tail_of new ≡ [])
 words_end gap tail packets more sessions new_sessions new l = next_by_end gap tail packets more sessions new_sessions new l (ended l.all) refl
 
--- both for a reading that goes on
+-- a reading that goes on by words enters their accesses
 pub words_on : (more : List (ℕ × Step)) (sessions : List EndedSession) (place : Place) (new : Reading) → GoesOnAt more sessions place new → history_in new ≡ entered_all (next_word sessions place) more (history sessions place)
 words_on more sessions (Searching gap) new l = absurd l
 words_on more sessions (Synced gap packets tail) new l = words_enter gap tail packets more sessions new.sessions new.place l
@@ -156,7 +156,7 @@ cut_enters old new bytes more sessions place run n s w e =
     ∙ ap (λ (k : ℕ). entered_all k (run_steps run) (history sessions place)) same
     ∙ ap (entered_all n (run_steps run)) (history_is bytes sessions place s.reading)
 
--- what each write of a register keeps, a run of them keeps
+-- what each further write of a register keeps true, several writes of it keep true
 pub kept_all : (P : History → Type 0) (register : ℕ) → ((h : History) (w place : ℕ) → P h → P (entry (Write register w) place ∷ h)) → (n : ℕ) (ws : List ℕ) (h : History) → P h → P (entered_all n (payload_steps register ws) h)
 kept_all P register keeps n [] h p = p
 kept_all P register keeps n (w ∷ ws) h p = kept_all P register keeps (n + 4) ws (entry (Write register w) (n + 4) ∷ h) (keeps h w (n + 4) p)

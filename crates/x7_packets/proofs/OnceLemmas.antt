@@ -9,7 +9,7 @@ use Rattle.x7_packets.specs.ByHand.{Reading, before_last_four, is_sync, last_fou
 use Rattle.x7_packets.specs.History.{Entry, History, entry, history_of, history_in}
 use Rattle.x7_packets.proofs.GrowthLemmas.{byte_enters}
 
--- the bytes of no whole word after these bytes
+-- how many bytes of no whole word a reading ends with
 abbrev left_of : Reading → ℕ
 left_of r = length (tail_of r.place)
 
@@ -41,7 +41,7 @@ byte_steps bytes x =
     let more : reading_of (bytes ++ x ∷ []) ≡ with_byte (reading_of bytes) x = fold-append with_byte (record { sessions = []; place = Searching [] }) bytes (x ∷ []) in
     subst (CutsNext (reading_of bytes)) (sym more) (place_steps (reading_of bytes).sessions (reading_of bytes).place x)
 
--- this many bytes entered nothing yet, or one access, after which fewer bytes are kept
+-- the last i of these bytes entered nothing, or one access, and then fewer than i bytes are kept
 abbrev Once : History → List ℕ → ℕ → Type 0
 Once h bytes i = (history_of bytes ≡ h) ⊎ ((e : Entry) × (history_of bytes ≡ e ∷ h) × (left_of (reading_of bytes) + 1 ≤ i))
 

@@ -1,9 +1,9 @@
 -- Lemmas on specs/Packet: lists of packets with one word more, and that words have one list of packets.
 use Rattle.std.proofs.Common.{◌≡◌, ℕ, List, [], ◌∷◌, ◌++◌, Option, None, false, length, map, refl, ap, sym, ◌∙◌, subst, arith, length-append}
-use Rattle.std.proofs.lemmas.List.{append_cancel_left}
+use Rattle.std.proofs.lemmas.List.{append_cancel_left, map-append}
 use Rattle.std.proofs.lemmas.Grind.{common_steps}
 use Rattle.std.specs.List.{flat_map}
-use Rattle.x7_words.proofs.ListLemmas.{flat_map_last, same_prefix, map_append}
+use Rattle.x7_words.proofs.ListLemmas.{flat_map_last, same_prefix}
 use Rattle.x7_packets.specs.declared.header.Step.{Step}
 use Rattle.x7_packets.specs.declared.header.Step.TheVariants.{Payload}
 use Rattle.x7_packets.specs.Packet.{Packet, HavePackets, EachPacket, IsPacket, IsWhole, OnlyLastMayEnd, NoneEnds, latest_of, latest_after, count_of, register_named_by, words, payload_steps, stepped, meaning, ends_session, ended, last_ends}
@@ -64,14 +64,14 @@ words_of_payload register (w ∷ ws) = ap (λ t. w ∷ t) (words_of_payload regi
 pub words_stepped : (ps : List Packet) → map (λ (s : ℕ × Step). s.0) (flat_map stepped ps) ≡ flat_map words ps
 words_stepped [] = refl
 words_stepped (p ∷ ps) =
-    map_append (λ (s : ℕ × Step). s.0) (stepped p) (flat_map stepped ps)
+    map-append (λ (s : ℕ × Step). s.0) (stepped p) (flat_map stepped ps)
     ∙ ap (λ t. p.head ∷ t ++ map (λ (s : ℕ × Step). s.0) (flat_map stepped ps)) (words_of_payload (register_named_by p.step) p.payload)
     ∙ ap (λ t. words p ++ t) (words_stepped ps)
 
 -- the words of packets that grew
 pub words_grown : (ps qs : List Packet) (more : List (ℕ × Step)) → flat_map stepped qs ≡ flat_map stepped ps ++ more → flat_map words qs ≡ flat_map words ps ++ map (λ (s : ℕ × Step). s.0) more
 words_grown ps qs more e =
-    sym (words_stepped qs) ∙ ap (map (λ (s : ℕ × Step). s.0)) e ∙ map_append (λ (s : ℕ × Step). s.0) (flat_map stepped ps) more
+    sym (words_stepped qs) ∙ ap (map (λ (s : ℕ × Step). s.0)) e ∙ map-append (λ (s : ℕ × Step). s.0) (flat_map stepped ps) more
     ∙ ap (λ t. t ++ map (λ (s : ℕ × Step). s.0) more) (words_stepped ps)
 
 same_fields : (p q : Packet) → p.head ≡ q.head → p.step ≡ q.step → p.payload ≡ q.payload → p ≡ q
@@ -80,7 +80,7 @@ same_fields p q a b c =
     ∙ ap (λ (x : Step). record { head = q.head; step = x; payload = p.payload }) b
     ∙ ap (λ (x : List ℕ). record { head = q.head; step = q.step; payload = x }) c
 
--- of two packets that begin the same words, with payloads as long
+-- two packets that begin the same words and have payloads of one length are the same
 pub same_packet : (l : Option ℕ) (p q : Packet) (cs ds : List ℕ) → IsPacket l p → IsPacket l q → length p.payload ≡ length q.payload → words p ++ cs ≡ words q ++ ds → p ≡ q
 same_packet l p q cs ds i j len e =
     let head : p.head ≡ q.head = cc in
@@ -92,7 +92,7 @@ same_count l p q cs ds i j e =
     let head : p.head ≡ q.head = cc in
     ap count_of (i.means ∙ ap (meaning l) head ∙ sym j.means)
 
--- a whole packet with words after it begins no words of which a last packet is all
+-- words that are those of one packet are not those of a whole packet and of further words
 shorter : (l : Option ℕ) (p q : Packet) (d : ℕ) (ds : List ℕ) → IsPacket l p → IsPacket l q → IsWhole q → words p ++ [] ≡ words q ++ d ∷ ds → ⊥
 shorter l p q d ds i j w e =
     let c : count_of p.step ≡ count_of q.step = same_count l p q _ _ i j e in

@@ -9,7 +9,7 @@ use Rattle.memchr.specs.Lanes.{HasLanes}
 use Rattle.x7_packets.specs.SyncWord.{sync_bytes}
 use Rattle.x7_packets.proofs.SearchLemmas.{occurs_by_bytes}
 
--- the lane of four tests
+-- the lane of four tests: 255 where all of them hold, else 0
 abbrev lane : Bool → Bool → Bool → Bool → ℕ
 lane p q r s = bit_and (bit_and (cond p 255 0) (cond q 255 0)) (bit_and (cond r 255 0) (cond s 255 0))
 
@@ -78,7 +78,7 @@ sync_seen bytes v at k s l o =
     subst (λ (x : ℕ). 128 ≤ x) (sym (s.each k l))
     (all_top _ _ _ _ (eq-eqb _ _ first) (at_byte bytes at k 1 0x99 (o.reads 1 (omega arith))) (at_byte bytes at k 2 0x55 (o.reads 2 (omega arith))) (at_byte bytes at k 3 0x66 (o.reads 3 (omega arith))))
 
--- the lane of the first and the last byte
+-- where the sync word stands, the lane of its first and its last byte is 128 or more
 pub ends_seen : (bytes l0 l3 e0 e3 v : List ℕ) (at k : ℕ) → HasLanes l0 (λ k. get_or bytes (at + k) 0) → HasLanes l3 (λ k. get_or bytes (at + 3 + k) 0)
     → HasLanes e0 (λ k. cond (get_or l0 k 0 == 0xAA) 255 0) → HasLanes e3 (λ k. cond (get_or l3 k 0 == 0x66) 255 0) → HasLanes v (λ k. bit_and (get_or e0 k 0) (get_or e3 k 0))
     → k < 32 → OccursAt bytes sync_bytes (at + k) → 128 ≤ get_or v k 0
@@ -117,7 +117,7 @@ first_set bytes at bits bit some all set below =
       here.1,
     )
 
--- no place from one to another, and then none to a third
+-- nowhere from one place up to another, and nowhere from there up to a third, is nowhere from the first to the third
 pub nowhere_then : {P : ℕ → Type 0} (i j k : ℕ) → Nowhere P i j → Nowhere P j k → Nowhere P i k
 nowhere_then i j k a b m low high = elim (cases_lt m j) [
   | inl l ↦ a m low l

@@ -18,22 +18,22 @@ seam gap prefix (x ∷ y ∷ z ∷ u ∷ more) rest back n g e =
     let same : x ∷ y ∷ z ∷ u ∷ more ≡ sync_bytes ++ more = cc in
     n.none prefix more (g ∙ ap (λ t. prefix ++ t) same ∙ sym (append_assoc prefix sync_bytes more))
 
--- none begins in a gap that a dummy word follows
+-- no sync word begins in a gap that a dummy word follows
 pub none_before_dummy : (gap more : List ℕ) → HasNoSync gap → BeginsWithDummy more → NoneBegins gap more
 none_before_dummy gap more n d prefix back e = elim (prefixes_of gap prefix more (sync_bytes ++ back) e) [
   | inl l ↦ omega (arith, ap length l.prefix, length-append gap l.more)
   | inr l ↦ absurd (seam gap prefix l.more d.0 back n l.prefix (l.back ∙ ap (λ t. l.more ++ t) d.1))
 ]
 
--- ---- a gap in which none begins
+-- ---- a gap in which no sync word begins
 
--- a sync word stands in the bytes after it
+-- after a gap in which no sync word begins, a sync word stands in the bytes after the gap
 stands_after : (gap more prefix back : List ℕ) → NoneBegins gap more → gap ++ more ≡ prefix ++ (sync_bytes ++ back) → (x : List ℕ) × (prefix ≡ gap ++ x) × (more ≡ x ++ (sync_bytes ++ back))
 stands_after gap more prefix back n e =
     let f : (m : List ℕ) × (prefix ≡ gap ++ m) = shorter_prefix gap prefix more (sync_bytes ++ back) (n prefix back e) e in
     (f.0, f.1, append_cancel_left gap more (f.0 ++ (sync_bytes ++ back)) (e ∙ ap (λ (p : List ℕ). p ++ (sync_bytes ++ back)) f.1 ∙ append_assoc gap f.0 (sync_bytes ++ back)))
 
--- none begins in it before fewer bytes
+-- a gap in which no sync word begins before bytes has none that begins before a prefix of them
 pub none_before_prefix : (gap more rest : List ℕ) → NoneBegins gap (more ++ rest) → NoneBegins gap more
 none_before_prefix gap more rest n prefix back e =
     let longer : (prefix ++ (sync_bytes ++ back)) ++ rest ≡ prefix ++ (sync_bytes ++ (back ++ rest)) = simp append_assoc in
@@ -55,7 +55,7 @@ first_after gap more rest n m = record {
       m.first r.0 back (r.2 ∙ sym (append_assoc r.0 sync_bytes back));
 }
 
--- none stands in its first bytes
+-- no sync word stands in the first bytes of a gap in which none begins
 pub none_in_gap : (gap more : List ℕ) (k : ℕ) → k ≤ length gap → NoneBegins gap more → HasNoSync (take k gap)
 none_in_gap gap more k l n = record {
   none = λ prefix back e.
@@ -81,7 +81,7 @@ no_first [] (x ∷ prefix) back l e = absurd (omega (arith, ap length e, length-
 no_first (g ∷ gap) [] back l e = absurd (let head : g ≡ 0xAA = cc in let no : (0xAA == 0xAA) ≡ false = rw head at l.0 in cc)
 no_first (g ∷ gap) (x ∷ prefix) back l e = no_first gap prefix back l.1 (let rest : gap ++ sync_bytes ≡ prefix ++ (sync_bytes ++ back) = cc in rest)
 
--- nor do they, with the sync word after them, have another
+-- in bytes without the sync word's first byte and the sync word after them, the sync word stands only at the end
 pub first_without : (gap : List ℕ) → LacksFirst gap → IsBeforeSync gap
 first_without gap l = record { first = λ prefix back e. no_first gap prefix back l (e ∙ append_assoc prefix sync_bytes back) }
 

@@ -9,15 +9,15 @@ use Rattle.x7_packets.specs.SyncWord.{EndsWithSync, HasNoSync, IsBeforeSync, syn
 use Rattle.x7_packets.specs.Matching.{IsClear, IsFirstSync, IsSearchOutcome, LastThree, MatcherStandsFor}
 use Rattle.x7_packets.proofs.SyncLemmas.{ends_so, first_here, none_yet, took_one}
 
--- bytes that begin with some and the sync word have the sync word there
+-- bytes that begin with a prefix and then the sync word have the sync word at the prefix's length
 occurs : (bytes prefix back : List ℕ) → bytes ≡ prefix ++ (sync_bytes ++ back) → OccursAt bytes sync_bytes (length prefix)
 occurs bytes prefix back e =
     OccursAt-from_part bytes sync_bytes (length prefix)
     (omega (arith, ap length e, length-append prefix (sync_bytes ++ back), length-append sync_bytes back))
     (ap (λ t. take 4 (drop (length prefix) t)) e ∙ ap (take 4) (drop_at prefix (sync_bytes ++ back) (length prefix) refl))
 
--- a gap ends in a prefix of the sync word, and the piece goes on with the rest: the
--- piece's first three bytes are enough to see it
+-- a gap ends in a prefix of the sync word, and the piece goes on with the rest: the piece's first three bytes are
+-- enough to see the sync word
 in_the_seam : (gap bytes prefix more back : List ℕ) → HasNoSync (gap ++ take 3 bytes) → gap ≡ prefix ++ more → sync_bytes ++ back ≡ more ++ bytes → 0 < length more → ⊥
 in_the_seam gap bytes prefix more back n e f s =
     let long : length sync_bytes ≤ length (more ++ take 3 bytes) = omega (arith, ap length f, length-append more (take 3 bytes), length-append more bytes, length-append sync_bytes back, length-take 3 bytes) in

@@ -8,7 +8,7 @@ use Rattle.x7_words.specs.Word.{words_of_bytes}
 use Rattle.x7_packets.specs.SyncWord.{sync_bytes}
 use Rattle.x7_packets.specs.Packet.{Packet, ended, payload_steps}
 use Rattle.x7_packets.specs.Reading.{Place, Searching, Synced, EndedSession, IsPlace, IsReading, tail_of}
-use Rattle.x7_packets.specs.Cutter.{CutAdds, AtPlace, CompletesNone, CompletesNoneAt, CutterState, CutterStandsFor, CutsRun, ComesNearer, IsLent, IsNeed, IsRun, SkipsAll, LongerSession, ChangesMode, AfterRun, TakesAsOneRun, between, calls_left, run_bytes}
+use Rattle.x7_packets.specs.Cutter.{CutAdds, AtPlace, CompletesNone, CompletesNoneAt, CutterState, CutterStandsFor, CutsRun, ComesNearer, IsLent, IsNeed, IsRun, SkipsAll, LongerSession, ChangesMode, AfterRun, TakesAsOneRun, between, calls_left, run_bytes, syncs_to_give}
 use Rattle.x7_packets.specs.declared.header.Step.{Step}
 use Rattle.x7_packets.specs.declared.cutter.Cut.{Cut}
 use Rattle.x7_packets.specs.declared.cutter.Cut.TheVariants as cut
@@ -72,7 +72,7 @@ adds_bare (cut.Body register bytes) t sessions (Synced gap packets tail) ns n ne
 
 -- ---- a run that is cut, and the same run as it is lent
 
--- the run tells what was cut
+-- the run `r` is the run `c` that was cut: it has the same bytes and adds the same
 record Same (c : Cut) (r : Run) : Type 0 where
   bytes : bytes_of_run r ≡ run_bytes c
   adds : (sessions new_sessions : List EndedSession) (place new : Place) → CutAdds c sessions place new_sessions new → RunAdds r sessions place new_sessions new
@@ -144,7 +144,7 @@ same_lent (FoundRun.Body register) c r bytes kept o n left i l h x y =
 same_lent FoundRun.Tail c r bytes kept o n left i l h x y = absurd i
 same_lent FoundRun.End c r bytes kept o n left i l h x y = absurd i
 
--- a run that is found is no want of bytes
+-- a run that was found is not `Need`
 found_needs_none : (f : FoundRun) (c : Cut) → IsFoundRun f c → IsNeed c → ⊥
 found_needs_none FoundRun.Skip c i n = let h : IsNeed (cut.Skip i.0) = subst IsNeed i.1 n in h
 found_needs_none FoundRun.Sync c i n = let h : IsNeed cut.Sync = subst IsNeed i n in h
@@ -173,7 +173,7 @@ cuts_whole c n rest count r g nd j i l k a =
       adds = λ bytes sessions place s. subst (λ (m : ℕ). AfterRun c n (bytes ++ take m rest) sessions place r) from (a bytes sessions place s);
     }
 
--- bytes taken of those from one place to another
+-- bytes that were taken of those from one place up to another end there at the latest
 pub within_piece : (items piece : List ℕ) (at end n : ℕ) → piece ≡ items → at ≤ end → n ≤ length (between piece at end) → at + n ≤ end
 within_piece items piece at end n e h l = omega (arith, h, l, length-take (end - at) (drop at piece))
 
@@ -188,7 +188,7 @@ taken_of items at end n h =
     let count : at + n - at ≡ n = omega arith in
     ap (λ k. take k (drop at items)) count ∙ sym (take-take n (end - at) (drop at items) (omega (arith, h)))
 
--- where no byte is kept before and after it, a run's bytes are those that were taken
+-- where no byte is kept after it, the bytes that a run lends are those that were taken
 lends : (old new : CutterState) (left taken : List ℕ) (count : ℕ) (c : Cut) (sessions new_sessions : List EndedSession) (place new_place : Place) → IsLent old count c → CutAdds c sessions place new_sessions new_place
     → old.kept ≡ tail_of place → new.kept ≡ [] → old.kept ++ taken ≡ run_bytes c ++ new.kept → Lends c taken
 lends old new left taken count (cut.Skip b) sessions ns (Searching gap) np l a k none j = sym (append-nil b.now) ∙ ap (λ t. b.now ++ t) (sym none) ∙ sym j ∙ ap (λ t. t ++ taken) k
@@ -208,7 +208,7 @@ same_due_turns (cut.Head w step) old now new place s t = (λ e. t.0 (s.0 e), t.1
 same_due_turns (cut.Word register w) old now new place s t = (λ e. t.0 (s.0 e), t.1)
 same_due_turns (cut.Body register bytes) old now new place s t = (λ e. t.0 (s.0 e), t.1)
 
--- the cutter's place with what it keeps after bytes more of no whole word
+-- after a call that needs more bytes, the place is the one before, with the bytes that the cutter now keeps
 need_place : (c : Cut) (sessions new_sessions : List EndedSession) (place new : Place) (kept new_kept : List ℕ) → IsNeed c → CutAdds c sessions (with_tail kept place) new_sessions new → new_kept ≡ tail_of new → (new_sessions ≡ sessions) × (new ≡ with_tail new_kept place)
 need_place cut.Need sessions ns (Searching gap) new kept nk n a k = (a.0, a.1)
 need_place cut.Need sessions ns (Synced gap packets tail) new kept nk n a k = (a.0, a.2 ∙ ap (Synced gap packets) (sym (k ∙ ap tail_of a.2)))
@@ -324,7 +324,7 @@ runs old new bytes given r s on last p =
 -- ---- one read more
 
 -- a call that needs more bytes took all that were left
-need_goes : (c : Cut) (a b d : ℕ) → IsNeed c → ComesNearer c a b d → a ≡ 0
+pub need_goes : (c : Cut) (a b d : ℕ) → IsNeed c → ComesNearer c a b d → a ≡ 0
 need_goes cut.Need a b d n g = g
 need_goes (cut.Skip bytes) a b d n g = absurd n
 need_goes cut.Sync a b d n g = absurd n
@@ -352,7 +352,7 @@ fills old bytes given piece none on p = record {
   count = ap (λ t. t + length piece) p.count ∙ sym (length-append bytes piece);
 }
 
--- no more reads than these are left
+-- at most nine reads are left until a word is whole
 pub turns_most : (kept left : List ℕ) → turns_left kept left ≤ 9
 turns_most kept [] = omega arith
 turns_most kept (b ∷ left) = omega arith
@@ -377,7 +377,7 @@ turns_go old new s piece some =
 same_sync_found : (old now new : Mode) → SameSyncFound old now → (now ≡ Mode.SyncFound → ⊥) → (new ≡ Mode.SyncFound → ⊥) → SameSyncFound old new
 same_sync_found old now new s n m = (λ e. absurd (n (s.0 e)), λ e. absurd (m e))
 
--- after a call that needs more bytes, and a read
+-- a reader that took bytes took a piece more after a call that needs more bytes, and a read
 pub reads_on : (first old new : PacketsState) (more piece : List ℕ) (s : CutsNext old new false) → old.is_done ≡ false → TookBytes first old more → TookBytes first (filled new piece) (more ++ piece)
 reads_on first old new more piece s on r = record {
   count = ap (λ t. t + length piece) (s.taken ∙ r.count) ∙ omega (arith, length-append more piece);
@@ -413,7 +413,7 @@ next_same given old now new r s n = record {
 not_last : (r : Run) → is_last r ≡ false → is_last r ≡ true → ⊥
 not_last r e f = let h : false ≡ true = sym e ∙ f in cc
 
--- a run that tells nothing of the end; whether it is one shows in its kind alone
+-- a run that the cutter gave is neither the tail nor the end
 kind_goes_on : (f : FoundRun) (c : Cut) (r : Run) (bytes kept : List ℕ) → IsFoundRun f c → IsRunOf f bytes kept r → is_last r ≡ false
 kind_goes_on FoundRun.Skip c r bytes kept i l = ap is_last l.1
 kind_goes_on FoundRun.Sync c r bytes kept i l = ap is_last l
@@ -451,7 +451,7 @@ short_tail : (kept : List ℕ) (place : Place) → IsPlace (with_tail kept place
 short_tail kept (Searching gap) p k = omega (arith, ap length k)
 short_tail kept (Synced gap packets tail) p k = p.3
 
--- the reader stands for its bytes, all given, once it is done
+-- once it gave the tail, the reader stands for its bytes, all of them given
 ends_tail : (p : PacketsState) (bytes given : List ℕ) (lent : Bor (List ℕ)) → p.is_done ≡ false → p.left ≡ [] → 0 < length p.cutter.kept → lent.now ≡ p.cutter.kept → (p.cutter.mode ≡ Mode.SyncFound → ⊥) → PacketsStandFor p bytes given
     → PacketsStandFor (record p { found = FoundRun.Tail; is_done = true }) bytes (given ++ lent.now) × IsNext given p.cutter.mode (run.Tail lent) p.cutter.mode × (given ++ lent.now ≡ bytes)
 ends_tail p bytes given lent on none some e due s =
@@ -487,7 +487,7 @@ ends_tail p bytes given lent on none some e due s =
       sym all,
     )
 
--- the end, of a reader that has no byte more to tell
+-- once it gave the end, a reader without a byte more to give stands for its bytes, all of them given
 ends_none : (p : PacketsState) (bytes given : List ℕ) → p.left ≡ [] → not_given p ≡ [] → (p.cutter.mode ≡ Mode.SyncFound → ⊥) → (s : PacketsStandFor p bytes given) → tail_of s.place ≡ p.cutter.kept
     → PacketsStandFor (record p { found = FoundRun.End; is_done = true }) bytes (given ++ []) × IsNext given p.cutter.mode run.End p.cutter.mode × (given ++ [] ≡ bytes)
 ends_none p bytes given none nothing due s own =
@@ -519,7 +519,7 @@ ends_none p bytes given none nothing due s own =
       sym all,
     )
 
--- what a reader is when it was given that the input ended
+-- a reader after the input ended, which gives the tail or the end as its last run
 record Ends (old new : PacketsState) (r : Run) : Type 0 where
   pub last : is_last r ≡ true
   pub done : new.is_done ≡ true
@@ -534,7 +534,7 @@ tail_ends p lent on none some e = record { last = refl; done = refl; failed = re
 none_ends : (p : PacketsState) → p.left ≡ [] → not_given p ≡ [] → ((bytes given : List ℕ) (s : PacketsStandFor p bytes given) → tail_of s.place ≡ p.cutter.kept) → Ends p (record p { found = FoundRun.End; is_done = true }) run.End
 none_ends p none nothing own = record { last = refl; done = refl; failed = refl; taken = refl; stands = λ bytes given due s. ends_none p bytes given none nothing due s (own bytes given s) }
 
--- the end after bytes of no whole word, or after none
+-- the input ended: the tail where the cutter keeps bytes of no whole word, else the end
 finishes : (p new : PacketsState) (r : Run) (kept : List ℕ) → p.cutter.kept ≡ kept → p.is_done ≡ false → p.left ≡ []
     → (p.cutter.kept ≢ [] → new ≡ record p { found = FoundRun.Tail; is_done = true }) → (p.cutter.kept ≡ [] → new ≡ record p { found = FoundRun.End; is_done = true }) → IsLastFound new r → Ends p new r
 finishes p new r [] k on none tail end last =
@@ -546,7 +546,7 @@ finishes p new r (x ∷ xs) k on none tail end last =
     let at : (lent : Bor (List ℕ)) × (r ≡ run.Tail lent) × (lent.now ≡ p.cutter.kept) = subst (λ (x : PacketsState). IsLastFound x r) is last in
     rw (is, at.1) (tail_ends p at.0 on none (omega (arith, ap length k)) at.2)
 
--- after a call that needs more bytes, and a read that gave none
+-- after a call that needs more bytes, and a read that gave none, the reader gives the tail or the end
 pub tells_end : (first old now new : PacketsState) (more : List ℕ) (r : Run) (s : CutsNext old now false) → old.is_done ≡ false → old.has_failed ≡ false → TookBytes first old more
     → (now.cutter.kept ≢ [] → new ≡ record (filled now []) { found = FoundRun.Tail; is_done = true }) → (now.cutter.kept ≡ [] → new ≡ record (filled now []) { found = FoundRun.End; is_done = true })
     → IsLastFound new r → ReadsAndGives first new more r × (is_last r ≡ true)
@@ -602,7 +602,7 @@ gives_again p rest r off good end at =
     let same : record p { found = FoundRun.End } ≡ record p { found = FoundRun.End; is_done = true } = ap (λ (d : Bool). record p { found = FoundRun.End; is_done = d }) off in
     rw (same, at) (record { more = []; taken = sym (preceded_nil rest); tells = again p off good; end = λ _. end })
 
--- a read that gave none, and then the end
+-- a read that gave no byte, and then the tail or the end
 pub gives_end : (first old now mid new : PacketsState) (more piece : List ℕ) (rest rest_mid rest_now : Option (List ℕ)) (r : Run) (s : CutsNext old now false) → old.is_done ≡ false → old.has_failed ≡ false → TookBytes first old more
     → rest ≡ preceded more rest_mid → rest_mid ≡ preceded piece rest_now → mid ≡ filled now piece → piece ≡ [] → AtEnd rest_now
     → (mid.cutter.kept ≢ [] → new ≡ record mid { found = FoundRun.Tail; is_done = true }) → (mid.cutter.kept ≡ [] → new ≡ record mid { found = FoundRun.End; is_done = true })
@@ -635,12 +635,12 @@ gives_up first old now new more s on reads e = rw e (record {
   failed = refl;
 })
 
--- how many reads are left after one more
+-- the count of bytes taken stays within the limit for all reads that are left, also after one more
 pub room_on : (old now new : PacketsState) (s : CutsNext old now false) (piece : List ℕ) (limit : ℕ) → new ≡ filled now piece → 0 < length piece → length piece ≤ piece_size
     → old.taken + 65536 * turns_left old.cutter.kept old.left ≤ limit → new.taken + 65536 * turns_left new.cutter.kept new.left ≤ limit
 room_on old now new s piece limit e some most room = rw e (omega (arith, s.taken, most, room, turns_go old now s piece some))
 
--- after a piece that the input gave, fewer turns are left
+-- after a piece of some bytes fewer reads are left until a word is whole
 pub turns_fewer : (old now new : PacketsState) (s : CutsNext old now false) (piece : List ℕ) → new ≡ filled now piece → 0 < length piece → turns_left new.cutter.kept new.left < turns_left old.cutter.kept old.left
 turns_fewer old now new s piece e some = rw e (turns_go old now s piece some)
 
@@ -676,3 +676,9 @@ searches c s = by_mode c.mode s.at
     by_mode Mode.Searching a = refl
     by_mode Mode.SyncFound a = absurd a
     by_mode Mode.Synced a = absurd a
+
+-- at most one sync word is still to be given
+pub one_sync : (mode : Mode) → syncs_to_give mode ≤ 1
+one_sync Mode.Searching = omega arith
+one_sync Mode.SyncFound = omega arith
+one_sync Mode.Synced = omega arith

@@ -4,13 +4,14 @@ use Rattle.std.proofs.lemmas.Bool.{cases_eq}
 use Rattle.std.proofs.lemmas.Bool.Decides.{nat_tests}
 use Rattle.std.specs.List.{flat_map}
 use Rattle.x7_words.specs.Word.{AreWords}
-use Rattle.x7_words.proofs.ListLemmas.{flat_map_last, map_append, all_append}
+use Rattle.x7_words.proofs.ListLemmas.{flat_map_last, all_append}
 use Rattle.x7_packets.specs.declared.header.Step.{Step}
 use Rattle.x7_packets.specs.declared.header.Step.TheVariants.{Filler, Nop, Open, Payload, Read, Bad}
 use Rattle.x7_packets.specs.Packet.{Packet, IsPacket, IsWhole, NoneEnds, latest_of, latest_after, count_of, register_named_by, words, payload_steps, stepped, meaning, ends_session, last_ends}
 use Rattle.x7_packets.specs.Machine.{MachineState, MachineStandsFor, AtHeader, InPayload, HasTakenWords, is_end, ends_by}
 use Rattle.x7_packets.proofs.PacketLemmas.{whole_more, each_more, latest_more, none_more, only_more, header_ends, last_ends_more, ended_more}
 use Rattle.x7_packets.specs.ByHand.{with_payload_word}
+use Rattle.std.proofs.lemmas.List.{map-append}
 
 -- a header whose packet is whole at once
 pub header_whole : (m n : MachineState) (ps : List Packet) (w : ℕ) (s : Step) → w < 2 ^ 32 → AtHeader m ps → s ≡ meaning m.latest w → count_of s ≡ 0 → n.latest ≡ latest_after m.latest s → n.due ≡ 0 → HasTakenWords ps ((w, s) ∷ []) n
@@ -45,7 +46,7 @@ header_opens m n ps w register count f a e z l d r =
 pub stepped_more : (prefix : List Packet) (p : Packet) (w : ℕ) → flat_map stepped (prefix ++ with_payload_word p w ∷ []) ≡ flat_map stepped (prefix ++ p ∷ []) ++ (w, Payload (register_named_by p.step) w) ∷ []
 stepped_more prefix p w =
     flat_map_last stepped prefix (with_payload_word p w)
-    ∙ ap (λ t. flat_map stepped prefix ++ (p.head, p.step) ∷ t) (map_append (λ x. (x, Payload (register_named_by p.step) x)) p.payload (w ∷ []))
+    ∙ ap (λ t. flat_map stepped prefix ++ (p.head, p.step) ∷ t) (map-append (λ x. (x, Payload (register_named_by p.step) x)) p.payload (w ∷ []))
     ∙ sym (append_assoc (flat_map stepped prefix) (stepped p) ((w, Payload (register_named_by p.step) w) ∷ []))
     ∙ ap (λ t. t ++ (w, Payload (register_named_by p.step) w) ∷ []) (sym (flat_map_last stepped prefix p))
 

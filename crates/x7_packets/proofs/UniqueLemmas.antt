@@ -3,7 +3,7 @@ use Rattle.std.proofs.Common.{◌≡◌, ℕ, ◌<◌, true, false, List, [], �
 use Rattle.std.specs.List.{flat_map, AllByRecursion}
 use Rattle.std.proofs.lemmas.List.{append_cancel_right}
 use Rattle.x7_words.specs.Word.{AreWords, bytes_of_word}
-use Rattle.x7_words.proofs.ListLemmas.{IsFront, prefixes_of, all_append}
+use Rattle.x7_words.proofs.ListLemmas.{IsFront, prefixes_of, all_append, cons_prefix}
 use Rattle.x7_packets.specs.SyncWord.{sync_bytes, IsBeforeSync}
 use Rattle.x7_packets.specs.Packet.{Packet, EachPacket, words, ended, latest_after}
 use Rattle.x7_packets.specs.Reading.{Place, Searching, Synced, EndedSession, IsReading, IsEndedSession, IsPlace, session_bytes, place_bytes, packet_bytes}
@@ -44,9 +44,6 @@ record WordsFront (ws vs cs ds : List ℕ) : Type 0 where
   prefix : vs ≡ ws ++ more
   back : cs ≡ flat_map bytes_of_word more ++ ds
 
-cons_more : (w v : ℕ) (ws vs more : List ℕ) → w ≡ v → vs ≡ ws ++ more → v ∷ vs ≡ w ∷ (ws ++ more)
-cons_more w v ws vs more h t = cc
-
 words_prefixes : (ws vs cs ds : List ℕ) → AreWords ws → AreWords vs → flat_map bytes_of_word ws ++ cs ≡ flat_map bytes_of_word vs ++ ds → WordsFront ws vs cs ds ⊎ WordsFront vs ws ds cs
 words_prefixes [] vs cs ds f g e = inl (record { more = vs; prefix = refl; back = e })
 words_prefixes (w ∷ ws) [] cs ds f g e = inr (record { more = w ∷ ws; prefix = refl; back = sym e })
@@ -55,8 +52,8 @@ words_prefixes (w ∷ ws) (v ∷ vs) cs ds f g e =
     let head : w ≡ v = bytes_of_word_injective w v f.0 g.0 same in
     let tail : flat_map bytes_of_word ws ++ cs ≡ flat_map bytes_of_word vs ++ ds = cc in
     elim (words_prefixes ws vs cs ds f.1 g.1 tail) [
-      | inl l ↦ inl (record { more = l.more; prefix = cons_more w v ws vs l.more head l.prefix; back = l.back })
-      | inr l ↦ inr (record { more = l.more; prefix = cons_more v w vs ws l.more (sym head) l.prefix; back = l.back })
+      | inl l ↦ inl (record { more = l.more; prefix = cons_prefix w v ws vs l.more head l.prefix; back = l.back })
+      | inr l ↦ inr (record { more = l.more; prefix = cons_prefix v w vs ws l.more (sym head) l.prefix; back = l.back })
     ]
 
 -- the words of packets are words
@@ -69,7 +66,7 @@ record SamePackets (ps qs : List Packet) (cs ds : List ℕ) : Type 0 where
   packets : ps ≡ qs
   rest : cs ≡ ds
 
--- where the second's words go on after those of a session that ended
+-- after the words of packets that ended a session no words go on, so packets that begin with these words are the same
 no_more : (ps qs : List Packet) (cs ds : List ℕ) → EachPacket None ps → ended ps ≡ true → EachPacket None qs → WordsFront (flat_map words ps) (flat_map words qs) cs ds → SamePackets ps qs cs ds
 no_more ps qs cs ds a d b l =
     let none : l.more ≡ [] = after_end None ps qs l.more a d b (sym l.prefix) in

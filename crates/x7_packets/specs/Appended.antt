@@ -1,5 +1,5 @@
--- Streams one after another (UG470, packet types; that a dummy word parts them is this project's choice): what is read
--- of both is what is read of each, and so is what they ask.
+-- Streams one after another: the reading and the history of both, by those of each (UG470, packet types; that a dummy
+-- word parts them is this project's choice).
 use Rattle.std.specs.Prelude.{◌≡◌, ℕ, ◌+◌, ◌==◌, ◌⊎◌, List, [], ◌∷◌, ◌++◌, length, None, false}
 use Rattle.std.specs.List.{AllByRecursion}
 use Rattle.x7_packets.specs.Reading.{Place, Searching, Synced, EndedSession, is_synced}
@@ -25,8 +25,8 @@ abbrev pub gap_of : Place → List ℕ
 gap_of (Searching gap) = gap
 gap_of (Synced gap packets tail) = []
 
--- the bytes `more` may follow bytes that end at this place: these end searching, and no sync word begins in them and
--- ends in `more`, since no gap is open or `more` begins with a dummy word
+-- the bytes `more` may follow bytes that end at this place: the bytes before end searching, and either they end with no
+-- open gap or `more` begins with a dummy word, so that no sync word begins before `more` and ends in it
 pub record MayFollow (place : Place) (more : List ℕ) : Type 0 where
   pub searching : is_synced place ≡ false
   pub apart : (gap_of place ≡ []) ⊎ BeginsWithDummy more

@@ -26,22 +26,24 @@ longest_short_write = 4 + 4 * most_short_words
 abbrev pub longest_gap_and_sync : ℕ
 longest_gap_and_sync = 32
 
--- how many bytes must be left of a piece for a short gap to be taken at once: all that a look for its sync word sees
+-- how many bytes must be left of a piece for a short gap to be taken at once: as many as a search for the sync word at
+-- 32 places reaches over
 abbrev pub short_gap_room : ℕ
 short_gap_room = places_reach
 
--- the bytes begin with a write of one word, its header's reserved bits 0
+-- the bytes begin with a type 1 write of one word, its header's reserved bits 0
 pub record BeginsWrite (bytes : List ℕ) (register w : ℕ) : Type 0 where
   pub range : register < reg_number_count
   pub fits : w < 2 ^ 32
   pub whole : 8 ≤ length bytes
   pub are : take 8 bytes ≡ bytes_of_word (type1_write_header register 1) ++ bytes_of_word w
 
--- a machine between the header of a type 1 write and its words
+-- a machine between the header of a type 1 write of `count` words and these words
 abbrev pub in_write : ℕ → ℕ → MachineState
 in_write register count = record { due = count; register = register; latest = Some register }
 
--- the bytes begin with a write of one word, and the new cutter is the old one after the header and then the word
+-- the bytes begin with a write of one word, and the new cutter is the old one after the header and then the word, and
+-- keeps no byte
 pub record WritesOne (old new : CutterState) (rest : List ℕ) (register w : ℕ) : Type 0 where
   pub middle : CutterState
   pub begins : BeginsWrite rest register w
@@ -49,8 +51,8 @@ pub record WritesOne (old new : CutterState) (rest : List ℕ) (register w : ℕ
   pub word : TakesAsOneRun middle new (bytes_of_word w) (Word register w)
   pub none_kept : new.kept ≡ []
 
--- the bytes begin with a short write to a register other than CMD, of one word at least, and the new cutter is the old
--- one after the header and then the words
+-- the bytes, as many as the longest short write has at least, begin with a short write to a register other than CMD, of
+-- one word at least; the new cutter is the old one after the header and then the words, and keeps no byte
 pub record WritesShort (old new : CutterState) (rest : List ℕ) (register count : ℕ) : Type 0 where
   pub middle : CutterState
   pub range : register < reg_number_count
@@ -63,8 +65,8 @@ pub record WritesShort (old new : CutterState) (rest : List ℕ) (register count
   pub words : (run : Bor (List ℕ)) → run.now ≡ take (4 * count) (drop 4 rest) → TakesAsOneRun middle new run.now (Body register run)
   pub none_kept : new.kept ≡ []
 
--- the bytes begin with a gap and the sync word after it, and the new cutter is the old one after the bytes of both as
--- one run, and then the sync word
+-- the bytes, `short_gap_room` at least, begin with `count` bytes of a gap and the sync word, 32 bytes at most together;
+-- the new cutter is the old one after these bytes as one run, and then the sync word, and keeps no byte
 pub record EndsGap (old new : CutterState) (rest : List ℕ) (count : ℕ) : Type 0 where
   pub middle : CutterState
   pub near : count + 4 ≤ longest_gap_and_sync

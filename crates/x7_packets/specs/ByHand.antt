@@ -7,7 +7,7 @@ use Rattle.x7_packets.specs.SyncWord.{sync_bytes}
 use Rattle.x7_packets.specs.Packet.{Packet, meaning, count_of, latest_after, ended}
 use Rattle.x7_packets.specs.Reading.{Place, Searching, Synced, EndedSession}
 
--- a header word with its meaning, where the nearest type 1 read or write named this register
+-- a header word with its meaning, where the nearest type 1 read or write, if there was one, named this register
 abbrev pub header_packet : Option ℕ → ℕ → Packet
 header_packet latest w = record { head = w; step = meaning latest w; payload = [] }
 
@@ -15,7 +15,7 @@ header_packet latest w = record { head = w; step = meaning latest w; payload = [
 abbrev pub with_payload_word : Packet → ℕ → Packet
 with_payload_word p w = record { head = p.head; step = p.step; payload = p.payload ++ w ∷ [] }
 
--- packets with one word more, where the nearest type 1 read or write before them named this register
+-- packets with one word more, where the nearest type 1 read or write before them, if there was one, named this register
 abbrev pub with_word_after : Option ℕ → List Packet → ℕ → List Packet
 with_word_after latest [] w = header_packet latest w ∷ []
 with_word_after latest (p ∷ []) w =
@@ -39,11 +39,11 @@ AreOfOneSession ws = (prefix suffix : List ℕ) (w : ℕ) → ws ≡ prefix ++ w
 abbrev pub is_sync : List ℕ → Bool
 is_sync bytes = bytes_eq bytes sync_bytes
 
--- the bytes without the last four
+-- the bytes without the last four; none where there are fewer
 abbrev pub before_last_four : List ℕ → List ℕ
 before_last_four bytes = take (length bytes - 4) bytes
 
--- the last four bytes
+-- the last four bytes, or all where there are fewer
 abbrev pub last_four : List ℕ → List ℕ
 last_four bytes = drop (length bytes - 4) bytes
 
@@ -52,19 +52,21 @@ pub record Reading : Type 0 where
   pub sessions : List EndedSession
   pub place : Place
 
--- the reading of bytes after ended sessions, which have no sync word or end with the first one
+-- the reading of ended sessions and of bytes after them, in which no sync word stands or which end with the first one
 abbrev pub searched : List EndedSession → List ℕ → Reading
 searched sessions bytes = record { sessions = sessions; place = if is_sync (last_four bytes) then Synced (before_last_four bytes) [] [] else Searching bytes }
 
--- a session of packets after ended sessions and a gap: where the packets end the session, an empty gap follows
-abbrev pub closed : List EndedSession → List ℕ → List Packet → Reading
-closed sessions gap packets =
+-- the reading with a session of these packets after ended sessions and a gap: where the packets end the session, it is
+-- one of the ended ones, and an empty gap follows
+abbrev pub with_session : List EndedSession → List ℕ → List Packet → Reading
+with_session sessions gap packets =
     if ended packets then record { sessions = sessions ++ record { gap = gap; packets = packets } ∷ []; place = Searching [] } else
     record { sessions = sessions; place = Synced gap packets [] }
 
--- a session with one byte more: its tail grows to a word, which goes to the packets
+-- a session with one byte more: after a tail of three bytes it completes a word, which goes to the packets; else it
+-- joins the tail
 abbrev pub with_session_byte : List EndedSession → List ℕ → List Packet → List ℕ → ℕ → Reading
-with_session_byte sessions gap packets (a ∷ b ∷ c ∷ []) d = closed sessions gap (packets_with_word packets (word_of_bytes (a ∷ b ∷ c ∷ d ∷ [])))
+with_session_byte sessions gap packets (a ∷ b ∷ c ∷ []) d = with_session sessions gap (packets_with_word packets (word_of_bytes (a ∷ b ∷ c ∷ d ∷ [])))
 with_session_byte sessions gap packets tail byte = record { sessions = sessions; place = Synced gap packets (tail ++ byte ∷ []) }
 
 -- ended sessions and a place with one byte more

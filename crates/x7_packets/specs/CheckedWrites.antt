@@ -25,7 +25,7 @@ abbrev pub with_write : Access → List RegisterWrite → List RegisterWrite
 with_write (Write r w) writes = if r == number_of Lout then writes else write_to r w ∷ writes
 with_write _ writes = writes
 
--- the writes since the last clearing access, the newest first
+-- the writes since the last clearing access, or all where there is none, the newest first; those to LOUT are left out
 abbrev pub checked_writes : History → List RegisterWrite
 checked_writes [] = []
 checked_writes (e ∷ h) = if clears h e.access then [] else with_write e.access (checked_writes h)

@@ -1,5 +1,5 @@
--- What a cutter stands for: the reading of the bytes that it took, and what each run adds to the reading (this project's
--- choice).
+-- What a cutter stands for: the reading of the bytes that it took, and what each run adds to the reading (this
+-- project's choice).
 use Rattle.std.specs.Prelude.{◌≡◌, ℕ, ◌+◌, ◌*◌, ◌-◌, ◌/◌, ◌<◌, ◌≤◌, ◌==◌, List, [], ◌∷◌, ◌++◌, length, min, true, false, ◌⊎◌, take, drop, ◌↔◌, if◌then◌else◌}
 use Rattle.std.specs.List.{flat_map}
 use Rattle.x7_words.specs.Word.{bytes_of_word, words_of_bytes}
@@ -24,8 +24,9 @@ pub record CutterState : Type 0 where
   pub machine : MachineState
   pub kept : List ℕ
 
--- the cutter stands at this place, and its matcher, its machine and the bytes that it keeps stand for what the place
--- has
+-- the cutter stands at this place, and its machine stands for the place's packets: in a gap there are none, and the
+-- matcher stands for the gap; just after a sync word there are none, and no tail; in a session the tail is the bytes
+-- that the cutter keeps
 abbrev pub AtPlace : CutterState → Mode → Place → Type 0
 AtPlace c Mode.Searching (Searching gap) = MatcherStandsFor c.matcher gap × MachineStandsFor c.machine []
 AtPlace c Mode.SyncFound (Synced gap packets tail) = (packets ≡ []) × (tail ≡ []) × MachineStandsFor c.machine []
@@ -39,11 +40,11 @@ pub record CutterStandsFor (c : CutterState) (bytes : List ℕ) (sessions : List
   pub reading : IsReading bytes sessions place
   pub at : AtPlace c c.mode place
 
--- the bytes of a piece from one place to another
+-- the bytes of a piece from byte `from`, from 0, up to byte `to`, that one not included
 abbrev pub between : List ℕ → ℕ → ℕ → List ℕ
 between piece from to = take (to - from) (drop from piece)
 
--- the bytes of a run
+-- the bytes of a run; none for the sync word, whose bytes came with those of the gap
 abbrev pub run_bytes : Cut → List ℕ
 run_bytes Need = []
 run_bytes (Skip bytes) = bytes.now
@@ -104,7 +105,7 @@ ChangesMode (Word register w) old new place = IsNotSyncFound old × IsNotSyncFou
 ChangesMode (Body register bytes) old new place = IsNotSyncFound old × IsNotSyncFound new
 
 -- what holds of a run by itself, whatever the reading: a header's step is no payload, a register has a number below 32,
--- and lent payload bytes are whole words, one where the register is CMD
+-- lent payload bytes are one or more whole words, one where the register is CMD, and a gap's bytes are one or more
 abbrev pub IsRun : Cut → Type 0
 IsRun (Head w (Payload register x)) = ⊥
 IsRun (Word register w) = register < reg_number_count
@@ -121,12 +122,13 @@ IsLent c bytes_left (Body register bytes) = (c.kept ≡ [])
     × (length bytes.now ≡ 4 * min (min c.machine.due (bytes_left / 4)) (if register == number_of Cmd then 1 else bytes_left / 4))
 IsLent c bytes_left _ = Unit {0}
 
--- a gap's bytes are lent all, or up to the end of the sync word, which is then due to be given
+-- of a gap all bytes are lent that are left of the piece (`bytes_left`), or those up to the end of the sync word, which
+-- is then due to be given
 abbrev pub SkipsAll : CutterState → ℕ → Cut → Type 0
 SkipsAll new bytes_left (Skip bytes) = (new.mode ≡ Mode.SyncFound) ⊎ (length bytes.now ≡ bytes_left)
 SkipsAll new bytes_left _ = Unit {0}
 
--- where a cutter stands here and keeps these bytes, a piece of which this many are left completes no run
+-- where a cutter stands here and keeps these bytes, a piece of which this many bytes are left completes no run
 abbrev pub CompletesNoneAt : Mode → List ℕ → ℕ → Type 0
 CompletesNoneAt Mode.Searching kept bytes_left = bytes_left ≡ 0
 CompletesNoneAt Mode.SyncFound kept bytes_left = ⊥
@@ -141,7 +143,7 @@ abbrev pub IsNeed : Cut → Type 0
 IsNeed Need = Unit {0}
 IsNeed _ = ⊥
 
--- a cutter that stands here keeps no byte: only in a session does it keep some
+-- a cutter that stands here keeps no byte: only in a session may it keep some
 abbrev pub KeepsNone : Mode → Type 0
 KeepsNone Mode.Searching = Unit {0}
 KeepsNone Mode.SyncFound = Unit {0}
@@ -163,7 +165,8 @@ abbrev pub syncs_to_give : Mode → ℕ
 syncs_to_give Mode.SyncFound = 1
 syncs_to_give _ = 0
 
--- the run ended with a whole word of a session: no sync word is to be given after it, and no byte is kept
+-- after the run no sync word is to be given and no byte is kept, as after a whole word of a session; and what holds of
+-- a run by itself (`IsRun`) holds of it
 pub record EndsWithWord (new : CutterState) (cut : Cut) : Type 0 where
   pub given : syncs_to_give new.mode ≡ 0
   pub none_kept : new.kept ≡ []

@@ -1,4 +1,5 @@
--- A history whose last session DESYNC ended (UG470, command register).
+-- Histories without an access, or whose newest access is DESYNC written to CMD: those of bytes that end searching, and
+-- of a session without accesses after them (UG470, command register).
 use Rattle.std.specs.Prelude.{◌≡◌, ◌⊎◌, Bool, true, false, [], ◌∷◌}
 use Rattle.x7_packets.specs.History.{Access, Write, Read, Bad, History}
 use Rattle.x7_packets.specs.Packet.{ends_session}

@@ -1,5 +1,5 @@
--- A slot of a flash's first sector: a switch word, and packets that lead a device on (UG470, MultiBoot and
--- fallback; that the first word switches a slot is this project's choice).
+-- A slot of a flash's first sector: a switch word, which opens the slot where it is the sync word, and packets that
+-- lead a device to the update's stream (UG470, MultiBoot and fallback; the switch word is this project's choice).
 use Rattle.std.specs.Prelude.{ℕ, List, ◌++◌}
 use Rattle.std.specs.List.{flat_map}
 pub use Rattle.x7_words.specs.Flash.{sector_size}

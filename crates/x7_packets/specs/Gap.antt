@@ -1,5 +1,4 @@
--- Bytes after a gap in which no sync word begins (UG470, sync word): they are read as they are alone, at places moved by
--- the gap.
+-- Gaps in which no sync word begins, with bytes after them, and lists of bytes that ask the same (UG470, sync word).
 use Rattle.std.specs.Prelude.{◌≡◌, ◌≤◌, ℕ, List, ◌++◌, length}
 use Rattle.x7_words.specs.Word.{AreBytes}
 use Rattle.x7_packets.specs.ByHand.{reading_of}

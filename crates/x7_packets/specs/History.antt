@@ -33,7 +33,8 @@ History = List Entry
 abbrev pub entry : Access → ℕ → Entry
 entry access place = record { access = access; place = place }
 
--- a history with the access of a step, whose word ends at this place; a read of no words is none
+-- a history with the access of a step, if it has one, the word of which ends at this place; a read of no words is no
+-- access
 abbrev pub entered : ℕ → Step → History → History
 entered place (step.Payload register w) h = entry (Write register w) place ∷ h
 entered place (step.Read register count) h = if count == 0 then h else entry (Read register count) place ∷ h
@@ -42,18 +43,18 @@ entered place step.Filler h = h
 entered place step.Nop h = h
 entered place (step.Open register count) h = h
 
--- a history with the accesses of words, each with its step, the first of which begins at this place
+-- a history with the accesses of words, each with its step, the first of which begins after `place` bytes
 abbrev pub entered_all : ℕ → List (ℕ × Step) → History → History
 entered_all place [] h = h
 entered_all place (s ∷ more) h = entered_all (place + 4) more (entered (place + 4) s.1 h)
 
--- a history with the accesses of ended sessions, the first of which begins with its gap at this place
+-- a history with the accesses of ended sessions, the first of which begins with its gap after `place` bytes
 abbrev pub entered_sessions : ℕ → List EndedSession → History → History
 entered_sessions place [] h = h
 entered_sessions place (s ∷ sessions) h =
     entered_sessions (place + length (session_bytes s)) sessions (entered_all (place + length s.gap + 4) (flat_map stepped s.packets) h)
 
--- a history with the accesses of the place after the ended sessions, whose gap begins at this place
+-- a history with the accesses of what stands after the ended sessions (a `Place`), whose gap begins after `place` bytes
 abbrev pub entered_place : ℕ → Place → History → History
 entered_place place (Searching gap) h = h
 entered_place place (Synced gap packets tail) h = entered_all (place + length gap + 4) (flat_map stepped packets) h
@@ -66,7 +67,8 @@ history sessions place = entered_place (length (flat_map session_bytes sessions)
 abbrev pub history_of : List ℕ → History
 history_of bytes = history (reading_of bytes).sessions (reading_of bytes).place
 
--- the place where the next word begins: the number of bytes without those of no whole word at the end
+-- the place where the next word begins: in a gap the number of all bytes; in a session the number of bytes without
+-- those of a word that isn't whole
 abbrev pub next_word : List EndedSession → Place → ℕ
 next_word sessions (Searching gap) = length (flat_map session_bytes sessions) + length gap
 next_word sessions (Synced gap packets tail) = length (flat_map session_bytes sessions) + length gap + 4 + 4 * length (flat_map stepped packets)
@@ -102,33 +104,33 @@ abbrev pub last_word : ℕ → ℕ → History → ℕ
 last_word register kept [] = kept
 last_word register kept (e ∷ h) = written register e.access (last_word register kept h)
 
--- the command that CMD holds: the low five bits of its last word, NULL where it was never written
+-- the code of the command that CMD holds: the low five bits of its last word, NULL's where it was never written
 abbrev pub command_held : History → ℕ
 command_held h = command_code_of (last_word (number_of Cmd) (code_of Null) h)
 
--- the command that an access executes where CMD holds `held`: a write to CMD its own, a write to FAR
--- again `held`, save DESYNC and IPROG
+-- the code of the command that an access executes where CMD holds the code `held`: a write to CMD its own, a write to
+-- FAR again `held`, save DESYNC and IPROG; none for any other access
 abbrev pub executed_by : ℕ → Access → Option ℕ
 executed_by held (Write register w) =
     if register == number_of Cmd then Some (command_code_of w) else
     if register == number_of Far && not (held == code_of Desync || held == code_of Iprog) then Some held else None
 executed_by held _ = None
 
--- the command executed is `command`
+-- the code of the command executed is `command`
 abbrev pub is_command : ℕ → Option ℕ → Bool
 is_command command None = false
 is_command command (Some c) = c == command
 
--- an access after this history executes this command
+-- an access after this history executes the command of this code
 abbrev pub executes : ℕ → History → Access → Bool
 executes command h access = is_command command (executed_by (command_held h) access)
 
--- commands with one more before them, if one was executed
+-- codes of commands, with one more before them, if one was executed
 abbrev pub with_command : Option ℕ → List ℕ → List ℕ
 with_command None commands = commands
 with_command (Some c) commands = c ∷ commands
 
--- all commands that were executed, the newest first
+-- the codes of all commands that were executed, the newest first
 abbrev pub executed : History → List ℕ
 executed [] = []
 executed (e ∷ h) = with_command (executed_by (command_held h) e.access) (executed h)
@@ -159,6 +161,6 @@ abbrev pub AllAfter : ℕ → ℕ → History → Type 0
 AllAfter n m [] = Unit {0}
 AllAfter n m (e ∷ h) = (n < e.place) × (e.place ≤ m) × AllAfter n m h
 
--- more bytes enter newer accesses, each with a place among them
+-- more bytes enter newer accesses, each of which ends among these bytes
 abbrev pub EntersNewer : List ℕ → List ℕ → Type 0
 EntersNewer bytes more = (newer : History) × (history_of (bytes ++ more) ≡ newer ++ history_of bytes) × AllAfter (length bytes) (length (bytes ++ more)) newer

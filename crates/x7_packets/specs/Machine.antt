@@ -7,7 +7,7 @@ use Rattle.x7_packets.specs.declared.header.Step.TheVariants.{Open, Payload}
 use Rattle.x7_packets.specs.Packet.{Packet, EachPacket, IsPacket, IsWhole, latest_after, latest_of, words, stepped, meaning, NoneEnds, ends_session, ended}
 
 -- a machine: how many payload words are due, of which register (its number, which says nothing where none is due), and
--- the register that the nearest type 1 read or write named
+-- the register that the nearest type 1 read or write named, if there was one
 pub record MachineState : Type 0 where
   pub due : ℕ
   pub register : ℕ
@@ -54,7 +54,8 @@ ends_by [] = false
 ends_by (s ∷ []) = is_end s.1
 ends_by (s ∷ t ∷ more) = ends_by (t ∷ more)
 
--- what the machine `m` has after more words, each with its step: its packets are those before and just these words
+-- what the machine `m` has after more words, each with its step: its packets are those before and just these words, and
+-- where the last of these ends the session it stands for no packet
 pub record HasTakenWords (ps : List Packet) (more : List (ℕ × Step)) (m : MachineState) : Type 0 where
   pub packets : List Packet
   pub each : EachPacket None packets

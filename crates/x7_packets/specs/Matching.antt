@@ -3,7 +3,7 @@ use Rattle.std.specs.Prelude.{◌≡◌, ℕ, ◌<◌, List, [], ◌∷◌, ◌+
 use Rattle.memchr.specs.Find.{OccursAt}
 use Rattle.x7_packets.specs.SyncWord.{HasNoSync, IsBeforeSync, sync_bytes}
 
--- the last three bytes, the oldest first
+-- the last three bytes that a matcher took, the oldest first
 pub record LastThree : Type 0 where
   pub first : ℕ
   pub second : ℕ
@@ -19,8 +19,8 @@ pub record MatcherStandsFor (m : LastThree) (bytes : List ℕ) : Type 0 where
   pub before : List ℕ
   pub last : 0 ∷ 0 ∷ 0 ∷ bytes ≡ before ++ m.first ∷ m.second ∷ m.third ∷ []
 
--- the outcome of a search through bytes after a gap: no sync word ends in them, and the matcher took them all, or the
--- first one ends after the first n of them
+-- the outcome of a search through bytes after a gap: no sync word stands in the gap and these bytes, and the matcher
+-- took them all, or the first one ends after the first n of the bytes
 abbrev pub IsSearchOutcome : List ℕ → List ℕ → Option ℕ → LastThree → Type 0
 IsSearchOutcome gap bytes None m = HasNoSync (gap ++ bytes) × MatcherStandsFor m (gap ++ bytes)
 IsSearchOutcome gap bytes (Some n) m = (prefix : List ℕ) × (gap ++ take n bytes ≡ prefix ++ sync_bytes) × IsBeforeSync prefix
@@ -29,7 +29,7 @@ IsSearchOutcome gap bytes (Some n) m = (prefix : List ℕ) × (gap ++ take n byt
 abbrev pub places_reach : ℕ
 places_reach = 35
 
--- the sync word stands at this place of the bytes, and at none before it
+-- the sync word begins at byte `at` of the bytes, from 0, and at none before it
 pub record IsFirstSync (bytes : List ℕ) (at : ℕ) : Type 0 where
   pub here : OccursAt bytes sync_bytes at
   pub first : (k : ℕ) → k < at → OccursAt bytes sync_bytes k → ⊥

@@ -1,4 +1,4 @@
--- No-ops in a row (UG470, packet types). They enter no access, and leave a cutter as it is.
+-- No-ops in a row, and a cutter that stays as it is through bytes that enter no access (UG470, packet types).
 use Rattle.std.specs.Prelude.{◌≡◌, ℕ, List, replicate}
 use Rattle.std.specs.List.{flat_map}
 use Rattle.x7_words.specs.Word.{bytes_of_word}

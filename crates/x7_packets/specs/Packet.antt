@@ -31,14 +31,15 @@ type1_count_of word = word % type1_count_bound
 abbrev pub type2_count_of : ℕ → ℕ
 type2_count_of word = word % type2_count_bound
 
--- what a word in a header's place means as a type 2 header, where the nearest type 1 read or write named this register
+-- what a word in a header's place means as a type 2 header, where the nearest type 1 read or write named this register;
+-- no header, where there was none
 abbrev pub type2_meaning : Option ℕ → ℕ → Step
 type2_meaning None w = Bad w
 type2_meaning (Some register) w =
     if header_kind_of w == type2_write_kind then Open register (type2_count_of w) else
     if header_kind_of w == type2_read_kind then Read register (type2_count_of w) else Bad w
 
--- what a word in a header's place means, where the nearest type 1 read or write named this register
+-- what a word in a header's place means, where the nearest type 1 read or write, if there was one, named this register
 abbrev pub meaning : Option ℕ → ℕ → Step
 meaning latest w =
     if w == sync_word || w == dummy_word || packet_type_of w == 0 then Filler else
@@ -76,13 +77,15 @@ payload_steps register ws = map (λ w. (w, Payload register w)) ws
 abbrev pub stepped : Packet → List (ℕ × Step)
 stepped p = (p.head, p.step) ∷ payload_steps (register_named_by p.step) p.payload
 
--- the register of the nearest type 1 read or write after a header; a type 2 header names it again
+-- the register that the nearest type 1 read or write named, up to and including a header, by its step; `latest` is the
+-- one named before it, which a type 2 header names again
 abbrev pub latest_after : Option ℕ → Step → Option ℕ
 latest_after latest (Open register count) = Some register
 latest_after latest (Read register count) = Some register
 latest_after latest _ = latest
 
--- the register of the nearest type 1 read or write after packets
+-- the register that the nearest type 1 read or write named, up to the end of packets; `latest` is the one named before
+-- them
 abbrev pub latest_of : Option ℕ → List Packet → Option ℕ
 latest_of latest [] = latest
 latest_of latest (p ∷ ps) = latest_of (latest_after latest p.step) ps
@@ -102,8 +105,8 @@ OnlyLastMayEnd register [] = Unit {0}
 OnlyLastMayEnd register (w ∷ []) = Unit {0}
 OnlyLastMayEnd register (w ∷ x ∷ ws) = (ends_session register w ≡ false) × OnlyLastMayEnd register (x ∷ ws)
 
--- a packet: the header means its step, the payload is no longer than the header says, and only its last word may end
--- the session
+-- a packet of 32-bit words: the header means its step, the payload is no longer than the header says, and only its last
+-- word may end the session
 pub record IsPacket (latest : Option ℕ) (p : Packet) : Type 0 where
   pub fits : AreWords (words p)
   pub means : p.step ≡ meaning latest p.head

@@ -40,19 +40,19 @@ type2_count_bound = 2 ^ 27
 abbrev pub no_op_kind : ℕ
 no_op_kind = 4
 
--- the packet type and the opcode of a type 1 read as one number
+-- the packet type and the opcode of a type 1 read as one number, bits 31:27
 abbrev pub type1_read_kind : ℕ
 type1_read_kind = 5
 
--- the packet type and the opcode of a type 1 write as one number
+-- the packet type and the opcode of a type 1 write as one number, bits 31:27
 abbrev pub type1_write_kind : ℕ
 type1_write_kind = 6
 
--- the packet type and the opcode of a type 2 read as one number
+-- the packet type and the opcode of a type 2 read as one number, bits 31:27
 abbrev pub type2_read_kind : ℕ
 type2_read_kind = 9
 
--- the packet type and the opcode of a type 2 write as one number
+-- the packet type and the opcode of a type 2 write as one number, bits 31:27
 abbrev pub type2_write_kind : ℕ
 type2_write_kind = 10
 

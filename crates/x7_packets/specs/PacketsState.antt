@@ -20,5 +20,5 @@ pub record PacketsState : Type 0 where
   pub is_done : Bool
   -- whether a read failed
   pub has_failed : Bool
-  -- how many bytes were read
+  -- how many bytes were read of the input, also those that the cutter has not taken
   pub taken : ℕ

@@ -1,4 +1,5 @@
--- The runs of a stream, as they come one after another (this project's choice).
+-- The runs of a stream (bytes of a gap, a sync word, a header, payload words, the tail, the end), as they come one
+-- after another (this project's choice).
 use Rattle.std.specs.Prelude.{◌≡◌, ℕ, ◌<◌, List, [], ◌++◌, length, Bool, true, false}
 use Rattle.x7_packets.specs.Reading.{Place, Searching, Synced, EndedSession, IsReading}
 use Rattle.x7_packets.specs.Cutter.{CutAdds, IsRun, ChangesMode, run_bytes}
@@ -29,14 +30,16 @@ is_last (run.Tail bytes) = true
 is_last run.End = true
 is_last r = false
 
--- what a run adds to the reading of the bytes given before it: the tail adds bytes of no whole word, the end nothing
+-- what a run adds to the reading of the bytes given before it: the tail adds bytes of no whole word, the end nothing,
+-- any other run what its cut adds (`CutAdds`)
 abbrev pub RunAdds : Run → List EndedSession → Place → List EndedSession → Place → Type 0
 RunAdds (run.Tail bytes) sessions (Searching gap) new_sessions new = ⊥
 RunAdds (run.Tail bytes) sessions (Synced gap packets tail) new_sessions new = (new_sessions ≡ sessions) × (tail ≡ []) × (new ≡ Synced gap packets bytes.now)
 RunAdds run.End sessions place new_sessions new = (new_sessions ≡ sessions) × (new ≡ place)
 RunAdds r sessions place new_sessions new = CutAdds (cut_of r) sessions place new_sessions new
 
--- what holds of a run by itself, whatever the reading: the tail has one to three bytes
+-- what holds of a run by itself, whatever the reading: the tail has one to three bytes, and of any other run holds what
+-- holds of a cutter's (`IsRun`)
 abbrev pub FitsRun : Run → Type 0
 FitsRun (run.Tail bytes) = (0 < length bytes.now) × (length bytes.now < 4)
 FitsRun r = IsRun (cut_of r)

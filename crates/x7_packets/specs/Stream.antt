@@ -26,8 +26,8 @@ with_tail tail (Synced gap packets old) = Synced gap packets tail
 abbrev pub not_given : PacketsState → List ℕ
 not_given p = if p.is_done then [] else p.cutter.kept
 
--- The reader stands for these bytes: those that its runs gave, those that its cutter keeps, and those in the buffer that
--- the cutter hasn't taken.
+-- The reader stands for these bytes: those that its runs gave (`given`), those that its cutter keeps and no run gave,
+-- and those in the buffer that the cutter hasn't taken.
 pub record PacketsStandFor (p : PacketsState) (bytes given : List ℕ) : Type 0 where
   pub sessions : List EndedSession
   pub place : Place
@@ -93,7 +93,7 @@ pub record ReadsPiece (old new : PacketsState) (rest rest_now : Option (List ℕ
   pub some : gave_bytes ≡ true → 0 < length piece
   pub end : gave_bytes ≡ false → (piece ≡ []) × AtEnd rest_now
 
--- a sync word was found that is still to be given, in both or in neither
+-- of two modes of a cutter: in both, or in neither, a sync word was found that is still to be given
 abbrev pub SameSyncFound : Mode → Mode → Type 0
 SameSyncFound old new = (old ≡ Mode.SyncFound) ↔ (new ≡ Mode.SyncFound)
 
@@ -103,8 +103,10 @@ pub record TookBytes (old new : PacketsState) (more : List ℕ) : Type 0 where
   pub stands : (bytes given : List ℕ) → PacketsStandFor old bytes given
       → PacketsStandFor new (bytes ++ more) given × SameSyncFound old.cutter.mode new.cutter.mode
 
--- The run was cut of all bytes in the buffer: its bytes and those left after it are the ones that were kept and left
--- before, after what was read; payload words and a gap's bytes among them are lent at once.
+-- Once more bytes were read (`at`), those that the cutter keeps and those left in the buffer are the run's bytes and
+-- then those left after it. Of a payload all its whole words in the buffer are lent at once (one of CMD) where the
+-- cutter keeps no byte, and else one word comes by itself. Of a gap all bytes in the buffer are lent, or those up to
+-- the end of the sync word.
 pub record LendsRun (old new : PacketsState) (more : List ℕ) (r : Run) : Type 0 where
   pub at : PacketsState
   pub reads : TookBytes old at more
@@ -129,15 +131,15 @@ pub record GivesRun (old new : PacketsState) (rest rest_now : Option (List ℕ))
   pub tells : ReadsAndGives old new more r
   pub end : is_last r ≡ true → AtEnd rest_now
 
--- a call may come: the input is selected unless an earlier call failed, it is at its end once the tail or the end was
--- given, and the count of bytes taken can still grow
+-- a call may come: the input is selected unless an earlier call failed, its rest, if it is known, is empty once the
+-- tail or the end was given, and the count of bytes taken can still grow
 pub record MayCall (p : PacketsState) (input : InputsState) : Type 0 where
   pub selected : p.has_failed ≡ false → input.selected ≡ true
   pub end : p.is_done ≡ true → AtEnd input.rest
   pub count : p.taken ≤ taken_bytes_limit
 
--- what holds of the inputs and of a call's result: an input is still selected after a run, and the call fails only
--- where a read failed in it or an earlier call failed; after an earlier failure it always fails
+-- what holds of the inputs and of a call's result: every name keeps its bytes, an input is still selected after a run,
+-- and the call fails only where a read failed in it or an earlier call failed; after an earlier failure it always fails
 pub record IsCallResult {T : Type 0} (p : PacketsState) (old new : InputsState) (result : Result T Failed) : Type 0 where
   pub failed : OnErr result ((p.has_failed ≡ true) ⊎ InputsFail old new)
   pub selected : OnOk result (new.selected ≡ true)
@@ -155,6 +157,6 @@ abbrev pub EndsCall : PacketsState → PacketsState → Option (List ℕ) → Op
 EndsCall old new rest rest_now (Ok r) = GivesRun old new rest rest_now r
 EndsCall old new rest rest_now (Err e) = GivesUp old new
 
--- the reader becomes, when the run that it lends is given back, one after a call with this result
+-- once the run that it lends is given back, the reader is one after a call with this result
 abbrev pub EndsNextCall : MutBor PacketsState → Option (List ℕ) → Option (List ℕ) → Result Run Failed → Fml
 EndsNextCall p rest rest_now result = Rests the_row p (λ new. EndsCall p.now new rest rest_now result)

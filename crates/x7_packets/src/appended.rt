@@ -1,4 +1,5 @@
-//! Laws of streams one after another, and of packets one after another.
+//! Laws of streams one after another, of gaps before streams, and of packets one after another. The functions do
+//! nothing: their contracts are the laws.
 ghost use Rattle.std.specs.Prelude.{◌≡◌, ◌==◌, ℕ, List, [], ◌∷◌, ◌++◌, false, length, take, None};
 ghost use Rattle.std.specs.List.{AllByRecursion};
 ghost use Rattle.x7_words.specs.Word.{AreBytes};
@@ -11,9 +12,10 @@ ghost use Rattle.x7_packets.specs.Reading.{Searching, is_synced, tail_of};
 ghost use Rattle.x7_packets.specs.SyncWord.{HasNoSync, sync_bytes};
 ghost use Rattle.x7_packets.specs.Machine.{AllWhole};
 
-/// After bytes that end searching, the later bytes are read as they are alone, where no gap is open or they begin with a
-/// dummy word. The reading of both is one after the other, and so is their history, the later places moved, also of each
-/// prefix of the later bytes. Both end in a session, and with a tail, as the later ones do.
+/// Of bytes that end searching, and later bytes after them, where no gap is open or the later ones begin with a dummy
+/// word: the later bytes are read as they are alone. The reading of all is that of the first and then that of the later
+/// ones; so is the history, with the later places moved, also of each prefix of the later bytes. All end in a session
+/// exactly where the later ones do, and with the tail that these have.
 pub fn streams_append()
     ensures reading { (bytes more : List ℕ) → AreBytes (bytes ++ more) → MayFollow (reading_of bytes).place more
         → reading_of (bytes ++ more) ≡ after (reading_of bytes) (reading_of more) }
@@ -35,7 +37,8 @@ pub fn gaps_ask_nothing()
 {}
 
 /// Bytes after a gap in which no sync word begins are read as they are alone: they ask the same, at places moved by the
-/// gap, and end in a session or not. So after two such gaps of a length the bytes, and each prefix, are alike.
+/// gap's length, and end in a session exactly where they do alone. So two such gaps of one length, each with the same
+/// bytes after it, are alike, and so are their prefixes of each length.
 pub fn gaps_are_passed()
     ensures history { (gap more : List ℕ) → AreBytes (gap ++ more) → NoneBegins gap more → history_of (gap ++ more) ≡ moved (length gap) (history_of more) }
     ensures synced { (gap more : List ℕ) → AreBytes (gap ++ more) → NoneBegins gap more
@@ -43,8 +46,8 @@ pub fn gaps_are_passed()
     ensures alike { (one other more : List ℕ) (k : ℕ) → AreGaps one other more → AreAlike (take k (one ++ more)) (take k (other ++ more)) }
 {}
 
-/// Words that end in no open payload, and then those of a packet that may come next: the packets are one more, and end
-/// in no open payload where that packet is whole.
+/// Of words that end in no open payload, and then those of a packet that may come next: the packets are one more, and
+/// end in no open payload where that packet is whole.
 pub fn packets_append()
     ensures packets { (ws : List ℕ) (packets : List Packet) (packet : Packet) → HavePackets ws packets → AllWhole None packets → MayComeNext packets packet
         → HavePackets (ws ++ words packet) (packets ++ packet ∷ []) }

@@ -1,4 +1,5 @@
-//! A stream cut into runs (gaps, sync words, header words and payloads), in whatever pieces it comes.
+//! A stream cut into runs (gaps, sync words, header words and payloads), in whatever pieces it comes (this project's
+//! choice).
 ghost use Rattle.std.specs.Prelude.{◌≡◌, ℕ, List, [], ◌++◌, ◌≤◌, ◌<◌, ◌+◌, ◌-◌, ◌*◌, ◌/◌, ◌^◌, ◌↔◌, IfNone, IfSome, IsTrue, take, length, if◌then◌else◌};
 ghost use Rattle.x7_words.specs.Word.{bytes_of_word};
 ghost use Rattle.x7_regs.specs.Register.{number_of};
@@ -32,7 +33,7 @@ pub(crate) enum Stage {
     Synced,
 }
 
-/// A run of a stream.
+/// What a call of a cutter gives: a run of a stream, or that more bytes are needed. A register stands by its number.
 #[derive(Clone, Copy)]
 pub enum Cut<'p> {
     /// The piece is used up; up to three bytes of a word may be kept.
@@ -82,7 +83,8 @@ const MOST_SHORT_WORDS: u32 = 16;
 /// of a piece for a short write to be taken at once.
 const LONGEST_SHORT_WRITE: usize = 4 + 4 * MOST_SHORT_WORDS as usize;
 
-/// The register and the word of the write of one word that begins these bytes, its header's reserved bits 0.
+/// The register and the word of the type 1 write of one word that begins these bytes, its header's reserved bits 0;
+/// `None` where no such write does, which no clause says.
 #[inline(always)]
 fn first_write(bytes: &[u8]) -> Option<(u8, u32)>
     ensures { IfSome result (λ write. BeginsWrite bytes.now write.0 write.1) }
@@ -171,8 +173,9 @@ impl Cutter {
         }
     }
 
-    /// How many of the words that come next are no-ops of a session, one after the other; there may be more. To take
-    /// each of them, as a word in a header's place, leaves the cutter as it is, and no access is entered.
+    /// How many of the words that come next in a session are the no-op 20000000, one after the other; more no-ops may
+    /// follow these. To take each of them, as a word in a header's place, leaves the cutter as it is, and no access is
+    /// entered.
     #[inline(always)]
     pub fn nop_count(&self, rest: &[u8]) -> usize
         ensures within { 4 * result ≤ length rest.now }
@@ -187,8 +190,8 @@ impl Cutter {
         count_equal(rest, NO_OP)
     }
 
-    /// Takes the packet that comes next, where it lies whole in `rest` and is a write of one word, its header's
-    /// reserved bits 0. Gives its register and its word.
+    /// Takes the packet that comes next, where it lies whole in `rest` and is a type 1 write of one word, its header's
+    /// reserved bits 0. Gives its register and its word, or `None`, which leaves the cutter as it is.
     #[inline(always)]
     pub fn take_write(&mut self, rest: &[u8]) -> Option<(u8, u32)>
         ensures writes { IfSome result (λ write. WritesOne self.old self.new rest.now write.0 write.1) }
@@ -209,9 +212,10 @@ impl Cutter {
         Some((register, w))
     }
 
-    /// Takes the packet that comes next, where it is a type 1 write of one to sixteen words to a register other than CMD,
-    /// its header's reserved bits 0, and `rest` is long enough for sixteen words. Gives its register and how many words
-    /// it has.
+    /// Takes the packet that comes next, where the cutter is at a header and the packet is a type 1 write of one to
+    /// sixteen words to a register other than CMD, its header's reserved bits 0, and `rest` has at least 68 bytes,
+    /// those of a header and sixteen words. Gives the packet's register and how many words it has, or `None`, which
+    /// leaves the cutter as it is.
     #[inline(always)]
     pub fn take_short_write(&mut self, rest: &[u8]) -> Option<(u8, usize)>
         ensures writes { IfSome result (λ write. WritesShort self.old self.new rest.now write.0 write.1) }
@@ -239,9 +243,10 @@ impl Cutter {
         Some((register, count as usize))
     }
 
-    /// Takes what is left of a gap and the sync word after it, where the sync word stands whole in the first 35 bytes of
-    /// `rest`, and `rest` has at least `PLACES_REACH` bytes. Answers how many of the bytes are the gap's. After `None` a
-    /// sync word may stand there still.
+    /// Takes what is left of a gap and the sync word after it, where the sync word stands whole in the first 32 bytes
+    /// of `rest`, `rest` has at least 35 bytes, and the gap's last three bytes taken, each that isn't there counted as
+    /// 0, are 0. Answers how many of the bytes are the gap's. `None` leaves the cutter as it is; a sync word may stand
+    /// there still.
     #[inline(always)]
     pub fn take_gap(&mut self, rest: &[u8]) -> Option<usize>
         ensures ends_gap { IfSome result (λ count. EndsGap self.old self.new rest.now count) }
@@ -260,7 +265,8 @@ impl Cutter {
         Some(count)
     }
 
-    /// Whether the next byte stands in a gap, of which no byte that may begin a sync word was taken last.
+    /// True only where the next byte stands in a gap whose last three bytes taken, each that isn't there counted as 0,
+    /// are 0: so a sync word that comes begins after them.
     #[inline(always)]
     fn is_in_clear_gap(&self) -> bool
         ensures mode { IsTrue result → self.now.mode ≡ Mode.Searching }
@@ -272,7 +278,7 @@ impl Cutter {
         self.matcher.is_clear()
     }
 
-    /// Whether the next byte begins a word in a header's place.
+    /// True only where the next byte begins a word in a header's place, and no sync word is still to be given.
     #[inline(always)]
     fn is_at_header(&self) -> bool
         ensures mode { IsTrue result → self.now.mode ≡ Mode.Synced }
@@ -314,7 +320,7 @@ impl Cutter {
         }
     }
 
-    /// Takes bytes of a gap, up to and including a sync word.
+    /// Takes bytes of a gap, up to and including the sync word, or all where none ends in them.
     #[inline(never)]
     fn skip<'p>(&mut self, rest: &'p [u8], at: &mut usize) -> Cut<'p>
         requires searching { self.old.mode ≡ Mode.Searching }
@@ -335,7 +341,7 @@ impl Cutter {
         Cut::Skip(&rest[..count])
     }
 
-    /// Takes words of a session.
+    /// Takes what comes next of a session: payload words that lie in `rest`, one word, or bytes that complete none.
     #[inline(always)]
     fn take<'p>(&mut self, rest: &'p [u8], at: &mut usize) -> Cut<'p>
         requires synced { self.old.mode ≡ Mode.Synced }

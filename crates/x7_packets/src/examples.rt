@@ -53,7 +53,8 @@ pub fn examples_of_ends()
 {}
 
 /// What a stream asks of the registers: each access at its place, the newest first; the commands that it executes,
-/// where a write to FAR executes RCRC again, and DESYNC not; and the writes that no RCRC has cleared since.
+/// where a write to FAR executes RCRC again, and DESYNC not; and the writes that the running check is over, those since
+/// the last RCRC, where one to LOUT is left out.
 pub fn examples_of_the_history()
     ensures accesses { history_of (synced (0x30008001 ∷ 7 ∷ 0x30002001 ∷ 0 ∷ [])) ≡ write_at 1 0 20 ∷ write_at 4 7 12 ∷ [] }
     ensures commands { executed (history_of (synced (0x30008001 ∷ 7 ∷ 0x30002001 ∷ 0 ∷ []))) ≡ 7 ∷ 7 ∷ [] }

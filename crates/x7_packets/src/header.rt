@@ -28,8 +28,8 @@ pub enum Step {
     Bad(u32),
 }
 
-/// What a word in a header's place means, where the nearest type 1 read or write named the register `latest`. The sync
-/// word, the dummy word and words of packet type 0 have no effect (this project's choice).
+/// What a word in a header's place means, where the nearest type 1 read or write, if there was one, named the register
+/// `latest`. The sync word, the dummy word and words of packet type 0 have no effect (this project's choice).
 pub(crate) fn meaning(latest: Option<u8>, word: u32) -> Step
     ensures { result ≡ meaning latest word }
 {
@@ -59,7 +59,7 @@ pub fn is_cmd(register: u8) -> bool
     register == Reg::Cmd.number()
 }
 
-/// Whether a word written to the register ends the session: DESYNC written to CMD.
+/// Whether a word written to the register ends the session: DESYNC written to CMD, by its low five bits.
 pub(crate) fn ends_session(register: u8, word: u32) -> bool
     ensures { result ≡ ends_session register word }
 {
@@ -69,7 +69,7 @@ pub(crate) fn ends_session(register: u8, word: u32) -> bool
 impl Step {
     ghost use Rattle.x7_packets.specs.Machine.{is_end};
 
-    /// Whether the step's word ends the session.
+    /// Whether the step's word ends the session: a payload word of CMD whose low five bits are DESYNC's code.
     pub fn is_end(self) -> bool
         ensures { result ≡ is_end self }
     {

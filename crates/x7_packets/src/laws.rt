@@ -1,5 +1,5 @@
 //! Laws of readings and histories: bytes have one reading, which is found by hand, and their history grows with each
-//! run and byte.
+//! run and byte. The functions do nothing: their contracts are the laws.
 ghost use Rattle.std.specs.Prelude.{◌≡◌, ℕ, ◌+◌, ◌*◌, ◌≤◌, ◌⊎◌, List, [], ◌∷◌, ◌++◌, false, length};
 ghost use Rattle.x7_words.specs.Word.{AreBytes, AreWords};
 ghost use Rattle.x7_packets.specs.ByHand.{AreOfOneSession, Reading, packets_of, reading_of};
@@ -21,7 +21,7 @@ pub fn one_reading()
     ensures { (bytes : List ℕ) (ss ts : List EndedSession) (p q : Place) → IsReading bytes ss p → IsReading bytes ts q → (ss ≡ ts) × (p ≡ q) }
 {}
 
-/// Words have packets exactly where none follows a word that ends the session, and they are those found by hand.
+/// Words have packets exactly where no word follows one that ends the session; the packets are those found by hand.
 pub fn packets_are_found()
     ensures found { (ws : List ℕ) → AreWords ws → AreOfOneSession ws → HavePackets ws (packets_of ws) }
     ensures unique { (ws : List ℕ) (ps : List Packet) → HavePackets ws ps → AreOfOneSession ws × (ps ≡ packets_of ws) }
@@ -34,9 +34,10 @@ pub fn reading_is_found()
         → (ss ≡ (reading_of bytes).sessions) × (p ≡ (reading_of bytes).place) }
 {}
 
-/// What further words of a session, or a run of a cutter, enter into the history: the access of each, at its place. The
-/// next word then begins four bytes on for each of these words, and no tail is left. All bytes are those up to the place of the next word
-/// and the tail, and the history of a reading is that of its bytes.
+/// Further words of a session, or a run of a cutter, enter into the history the access of each word that has one, at
+/// its place. After further words of a session the next word begins four bytes on for each of them, and no tail is
+/// left. The place of the next word and the length of the tail are together the number of all bytes, and the history of
+/// a reading is that of its bytes.
 pub fn words_enter()
     ensures words { (old new : Reading) (more : List (ℕ × Step)) → GoesOnBy more old new → history_in new ≡ entered_all (next_in old) more (history_in old) }
     ensures next { (old new : Reading) (more : List (ℕ × Step)) → GoesOnBy more old new → next_in new ≡ next_in old + 4 * length more }
@@ -71,9 +72,9 @@ pub fn accesses_fit()
     ensures { (bytes : List ℕ) (sessions : List EndedSession) (place : Place) → IsReading bytes sessions place → AllFit (history sessions place) }
 {}
 
-/// A byte more enters one access at most into the history of bytes, which ends with that byte. Further bytes enter newer
-/// accesses alone, so the accesses that end within the first bytes are those of these bytes; and each access of bytes
-/// ends within them.
+/// A byte more enters one access at most into the history of bytes, and the access ends with that byte. Further bytes
+/// enter newer accesses alone, so the accesses that end within the first bytes are those of these bytes. The accesses
+/// of bytes end within them, at places that fall strictly from the newest on.
 pub fn histories_grow()
     ensures access { (bytes : List ℕ) (x : ℕ) → AreBytes (bytes ++ x ∷ [])
         → EntersNone bytes (x ∷ []) ⊎ ((access : Access) × EntersOne bytes (x ∷ []) (entry access (length bytes + 1))) }
@@ -83,13 +84,14 @@ pub fn histories_grow()
     ensures placed { (bytes : List ℕ) → AreBytes bytes → Placed (length bytes) (history_of bytes) }
 {}
 
-/// Up to four bytes more enter one access at most.
+/// Up to four bytes more enter one access at most into the history of bytes.
 pub fn four_bytes_enter_one()
     ensures { (bytes more : List ℕ) → AreBytes (bytes ++ more) → length more ≤ 4
         → EntersNone bytes more ⊎ ((e : Entry) × EntersOne bytes more e) }
 {}
 
-/// Where bytes end searching, DESYNC is the newest access of their history, or there is none.
+/// Where bytes end searching, DESYNC written to CMD is the newest access of their history, or the history has no
+/// access.
 pub fn searching_after_desync()
     ensures { (bytes : List ℕ) → AreBytes bytes → is_synced (reading_of bytes).place ≡ false → HasEnded (history_of bytes) }
 {}

@@ -85,8 +85,8 @@ impl Machine {
         self.due == 0
     }
 
-    /// How many payload words of the open packet may be taken at once, at most `most`:
-    /// one of CMD, since it may end the session.
+    /// How many payload words of the open packet may be taken at once, at most `most`: of CMD at most one, since it may
+    /// end the session; 0 where no packet is open.
     #[inline(always)]
     pub(crate) fn payload_words(&self, most: usize) -> usize
         ensures { result ≡ min (min self.now.due most) (if self.now.register == number_of Cmd then 1 else most) }
@@ -95,7 +95,8 @@ impl Machine {
         words.min(if is_cmd(self.register) { 1 } else { most })
     }
 
-    /// Takes payload words of the open packet at once, and says whether the last one ends the session.
+    /// Takes the bytes of payload words of the open packet at once, of CMD those of one word, and says whether the last
+    /// word ends the session.
     #[inline(always)]
     pub(crate) fn take_payload(&mut self, body: &[u8]) -> bool
         requires whole { length body.now ≡ 4 * (length body.now / 4) }
@@ -115,7 +116,7 @@ impl Machine {
         false
     }
 
-    /// Takes the header and the word of a write of one word at once, and says whether the word ends the session.
+    /// Takes the header and the word of a type 1 write of one word at once, and says whether the word ends the session.
     #[inline(always)]
     pub(crate) fn take_write_of_one(&mut self, register: u8, word: u32) -> bool
         requires at_header { self.old.due ≡ 0 }
@@ -134,7 +135,7 @@ impl Machine {
         false
     }
 
-    /// Takes the header and all words of a type 1 write to a register other than CMD at once, however many they are.
+    /// Takes the header and all words of a type 1 write of one or more words to a register other than CMD at once.
     #[inline(always)]
     pub(crate) fn take_write_to_other(&mut self, register: u8)
         requires at_header { self.old.due ≡ 0 }
@@ -149,7 +150,7 @@ impl Machine {
         self.latest = Some(register);
     }
 
-    /// The register whose payload words are due.
+    /// The number of the register whose payload words are due; it says nothing where none is due.
     pub(crate) fn register(&self) -> u8
         ensures value { result ≡ self.now.register }
         ensures most { result < reg_number_count }

@@ -1,4 +1,4 @@
-//! A slot of a flash's first sector (UG470, MultiBoot and fallback).
+//! A slot of a flash's first sector (UG470, MultiBoot and fallback; the switch word is this project's choice).
 ghost use Rattle.std.specs.Prelude.{◌≡◌};
 ghost use Rattle.x7_packets.specs.FlashSlot.{flash_slot};
 
@@ -12,8 +12,9 @@ pub const FLASH_SLOT_SIZE: u64 = 32;
 /// How many slots of a flash fill its first sector.
 pub const FLASH_SLOT_COUNT: u64 = 2048;
 
-/// The slot with this switch word and this start address. A device that finds it by its switch word, the sync word,
-/// goes to the start address by IPROG; a fallback ignores IPROG, and comes to its DESYNC.
+/// The bytes of the slot with this switch word and this start address, the word of WBSTAR, each with its highest byte
+/// first. Where the switch word is the sync word, a device goes to the start address by IPROG; one in fallback ignores
+/// IPROG, and comes to the slot's DESYNC.
 pub fn flash_slot(switch: [u8; 4], start: [u8; 4]) -> [u8; 32]
     ensures { result ≡ flash_slot switch start }
 {

@@ -16,7 +16,7 @@ use x7_words::{Failed, Inputs, NoMemory};
 /// How many bytes are read at once at most, as many as the buffer has.
 const PIECE_SIZE: usize = 65_536;
 
-/// A run of a stream.
+/// A run of a stream as a reader of packets gives it. A register stands by its number.
 #[derive(Clone, Copy)]
 pub enum Run<'b> {
     /// One or more bytes taken while searching, the sync word's bytes included.
@@ -79,8 +79,8 @@ fn buffer_of(alloc: Global, first: &[u8]) -> Result<Vec<u8>, NoMemory>
 pub struct Packets {
     cutter: Cutter,
     buffer: Vec<u8>,
-    // In the buffer the last run's bytes stand from `start` to `at`, and from there to `end` those that the cutter hasn't
-    // taken.
+    // In the buffer the last run's bytes stand from `start` to `at`, and from there to `end` those that the cutter
+    // hasn't taken.
     start: usize,
     at: usize,
     end: usize,
@@ -107,7 +107,8 @@ impl Packets {
     ghost use Rattle.std.specs.Borrow.{sem};
     ghost use Rattle.x7_packets.specs.Stream.{EndsNextCall};
 
-    /// The packets of these bytes and then of what an input gives.
+    /// The packets of these bytes, at most 65,536, and then of what an input gives; `NoMemory` where there is no memory
+    /// for the buffer.
     pub fn new(alloc: Global, first: &[u8]) -> Result<Packets, NoMemory>
         requires { length first.now ≤ piece_size }
         ensures stands { IfOk result (λ p. PacketsStandFor p first.now []) }
@@ -130,7 +131,8 @@ impl Packets {
         })
     }
 
-    /// How many bytes were taken, the first ones included, also after a failed read.
+    /// How many bytes were read, the first ones included, also those that the cutter hasn't taken, and also after a
+    /// failed read.
     pub fn taken(&self) -> u64
         ensures value { result ≡ self.now.taken }
         ensures count { (bytes given : List ℕ) → PacketsStandFor self.now bytes given → result ≡ length bytes }
@@ -139,7 +141,7 @@ impl Packets {
     }
 
     /// Gives the next run. The call reads where it must, and no more once the tail or the end was given; the end is
-    /// then given again. After a failed read each call fails.
+    /// then given again. A call in which a read fails is `Failed`, and so is each call after it.
     pub fn next_run<'b, I: Inputs>(&'b mut self, inputs: &mut I) -> Result<Run<'b>, Failed>
         requires selected { self.old.has_failed ≡ false → (I.state inputs.old).selected ≡ true }
         requires end { self.old.is_done ≡ true → AtEnd (I.state inputs.old).rest }
@@ -155,7 +157,8 @@ impl Packets {
         Ok(self.run())
     }
 
-    /// Finds the next run: reads and cuts until one was cut, or the tail or the end is next.
+    /// Finds the next run: reads and cuts until one was cut, or the tail or the end is next. `Failed` where a read
+    /// fails or has failed.
     fn advance<I: Inputs>(&mut self, inputs: &mut I) -> Result<(), Failed>
         requires { MayCall self.old (I.state inputs.old) }
         ensures gives_run { OnOk result ((r : Run) → IsLastFound self.new r
@@ -221,7 +224,7 @@ impl Packets {
         }
     }
 
-    /// Reads a piece once more, and says whether the input gave some bytes.
+    /// Reads a piece once more, and says whether the input gave some bytes; `Failed` where the read fails.
     fn fill<I: Inputs>(&mut self, inputs: &mut I) -> Result<bool, Failed>
         requires selected { (I.state inputs.old).selected ≡ true }
         requires none_left { self.old.left ≡ [] }

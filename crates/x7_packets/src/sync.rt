@@ -68,7 +68,8 @@ impl Matcher {
         }
     }
 
-    /// True only where the last three bytes are 0, as those of a new matcher: so a sync word that comes begins after them.
+    /// True only where the last three bytes are 0, as those of a new matcher: so a sync word that comes begins after
+    /// them.
     #[inline(always)]
     pub(crate) fn is_clear(&self) -> bool
         ensures { IsTrue result → IsClear self.now }
@@ -100,8 +101,8 @@ impl Matcher {
         found
     }
 
-    /// How many bytes there are up to and with the first sync word's last byte; the matcher is then of no use until it is
-    /// made anew. Or none, where no sync word ends in the bytes, and the matcher took them all.
+    /// How many bytes there are up to and with the first sync word's last byte; the matcher is then of no use until it
+    /// is made anew. `None` where no sync word ends in the bytes, and the matcher took them all.
     pub(crate) fn search(&mut self, bytes: &[u8]) -> Option<usize>
         ensures within { IfSome result (λ n. (0 < n) × (n ≤ length bytes.now)) }
         ensures found { (gap : List ℕ) → MatcherStandsFor self.old gap → HasNoSync gap → IsSearchOutcome gap bytes.now result self.new }
@@ -124,7 +125,7 @@ impl Matcher {
     }
 
     /// Takes bytes, one by one, up to and including the first sync word's last byte, and says how many; or takes them
-    /// all, where no sync word ends in them.
+    /// all, and gives `None`, where no sync word ends in them.
     fn search_bytewise(&mut self, bytes: &[u8]) -> Option<usize>
         ensures within { IfSome result (λ n. (0 < n) × (n ≤ length bytes.now)) }
         ensures found { (gap : List ℕ) → MatcherStandsFor self.old gap → HasNoSync gap → IsSearchOutcome gap bytes.now result self.new }

@@ -1,7 +1,6 @@
 -- A part file of white space and comments alone: it has an empty table, and so no name.
 use Rattle.std.proofs.Common.{◌≡◌, ◌∙◌, ℕ, List, None, Some, ap, refl, sym}
-use Rattle.std.specs.Prelude.{IsUtf8, Result, Ok, Err, IsErr, IsErrAnd, IsErrOf}
-use Rattle.std.proofs.lemmas.Bool.{false≢true}
+use Rattle.std.specs.Prelude.{IsUtf8, Ok, IsErrOf}
 use Rattle.std.proofs.lemmas.Option.{none-some, same_Some}
 use Rattle.std.proofs.lemmas.Result.{IfErr-at_err}
 use Rattle.toml.specs.Data.{Members, no_members}
@@ -21,11 +20,6 @@ blank_parsed text read same h e = none-some no_members (sym e ∙ ap parse_docum
 
 pub unnamed : (text : List ℕ) (t : Members) → HasNoKey text → IsUtf8 text × (parse_document text ≡ Some t) → under key.Name t ≡ None
 unnamed text t h is = rw (same_Some t no_members (sym is.1 ∙ blank_table text h.1)) refl
-
--- a call that hands a fault on answers that fault
-pub handed_same : {T U : Type 0} (r : Result T PartFault) (fault due : PartFault) → IsErr r × IsErrAnd r (λ e. e ≡ fault) → IsErrOf {T = U} (Err fault) due → IsErrOf r due
-handed_same (Ok x) fault due h e = absurd (false≢true h.0)
-handed_same (Err found) fault due h e = ap Err (h.1 ∙ IfErr-at_err (λ y. fault ≡ y) e refl)
 
 -- what was given is no fault
 pub not_given : {T : Type 0} (x : T) (due : PartFault) → IsErrOf (Ok x) due → ⊥

@@ -113,7 +113,7 @@ address_at cs t i j d h k =
     let len : length (count_from c.first c.count) ≡ c.count = length_count_from c.first c.count in
     rw e (get_or-flat_map addresses_of_column cs i j d 0 h (omega arith) ∙ get_or_count_from c.first c.count j 0 k)
 
--- the addresses end after the last column's
+-- a column's addresses end no later than all addresses
 pub ends : (r s l : ℕ) (cs : List Column) → IsTable r s l cs → (i : ℕ) (d : Column) → i < length cs →
     (get_or cs i d).rank + (get_or cs i d).count ≤ r + length (column_addresses cs)
 unfolding column_addresses
@@ -141,7 +141,7 @@ lies_nowhere (c ∷ cs) x h in' =
       | inr later ↦ lies_nowhere cs x (λ i d low. h (suc i) d (omega arith)) later
     ]
 
--- from the columns that begin at or before x: it lies in the last of them or nowhere
+-- where the last of the columns that begin at or before x ends at or before x, no column has x
 pub past_column : (cs : List Column) (x n : ℕ) → IsTable 0 0 0 cs → n ≤ length cs →
     ((k : ℕ) (d : Column) → n ≤ k → k < length cs → x < (get_or cs k d).first) →
     ((k : ℕ) (d : Column) → k + 1 ≡ n → (get_or cs k d).first + (get_or cs k d).count ≤ x) →
@@ -157,7 +157,7 @@ past_column cs x n t le after last in' =
       | inr later ↦ let z : x < (get_or cs i d).first = after i d later h in omega arith
     ]) in'
 
--- one past the last column the addresses end
+-- the addresses end with those of the last column
 pub ends_last : (r s l : ℕ) (cs : List Column) → IsTable r s l cs → (i : ℕ) (d : Column) → i + 1 ≡ length cs →
     r + length (column_addresses cs) ≡ (get_or cs i d).rank + (get_or cs i d).count
 unfolding column_addresses
@@ -279,7 +279,7 @@ slot_pad cs t i p d h low past high =
     let z : c.place + (p - c.place) ≡ p = omega arith in
     sym (ap (λ x. get_or (column_slots cs) x End) (sym z) ∙ slot_in cs t i (p - c.place) d h high ∙ pad_in c (p - c.place) past high)
 
--- the frame of a slot, by its rank
+-- the slot of a column's frame has the frame at the address of that rank
 pub slot_rank : (cs : List Column) → IsTable 0 0 0 cs → (i p : ℕ) (d : Column) → i < length cs →
     (get_or cs i d).place ≤ p → p - (get_or cs i d).place < (get_or cs i d).count →
     ((get_or cs i d).rank + (p - (get_or cs i d).place) < length (column_addresses cs))
@@ -290,7 +290,7 @@ slot_rank cs t i p d h low high =
     address_at cs t i (p - (get_or cs i d).place) d h high in
     (omega arith, sym (slot_frame cs t i p d h low high) ∙ ap (λ (x : ℕ). Frame x) (sym a))
 
--- the columns after the last that begins so far, by its place and the default that code reads
+-- what stands for a column where a list has none at a place
 abbrev pub nothing : Column
 nothing = record { first = 0; count = 0; pad_count = 0; rank = 0; place = 0 }
 
@@ -365,7 +365,7 @@ missing_slot cs r n t le some before after last =
     rw same (omega arith)) in
     sym (get_or_past (column_slots cs) r End past)
 
--- a slot after a column's place that is none of its frames is past them
+-- a slot at or after a column's place that has none of the column's frames is past these
 pub past_frames : (place count n : ℕ) → place ≤ n → ((place ≤ n) × (n < place + count) → ⊥) → count ≤ n - place
 past_frames place count n low out =
     elim (cases_lt n (place + count)) [
@@ -373,7 +373,7 @@ past_frames place count n low out =
       | inr past ↦ omega arith
     ]
 
--- no frame stands after the last column's
+-- no frame stands at slot r where the last of the columns that begin at or before r has its frames before r
 pub no_frame : (cs : List Column) (r n far : ℕ) → IsTable 0 0 0 cs → n ≤ length cs → (n ≡ 0 → ⊥) →
     ((k : ℕ) (d : Column) → k < n → (get_or cs k d).place ≤ r) →
     ((k : ℕ) (d : Column) → n ≤ k → k < length cs → r < (get_or cs k d).place) →
@@ -485,7 +485,7 @@ slots_from_is cs t i far d h low high =
     (sym (length-drop ((get_or cs i d).place + (far - (get_or cs i d).first) - 0) (column_slots cs)
     ∙ ap (λ x. length (column_slots cs) - x) (let e : (get_or cs i d).place + (far - (get_or cs i d).first) - 0 ≡ (get_or cs i d).place + (far - (get_or cs i d).first) = omega arith in e)))
 
--- the slots end after the last column's
+-- a column's slots end no later than all slots
 pub slot_ends : (r s l : ℕ) (cs : List Column) → IsTable r s l cs → (i : ℕ) (d : Column) → i < length cs →
     (get_or cs i d).place + (get_or cs i d).count + (get_or cs i d).pad_count ≤ s + length (column_slots cs)
 unfolding column_slots

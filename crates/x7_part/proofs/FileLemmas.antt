@@ -17,7 +17,7 @@ use Rattle.x7_part.specs.Limits.{most_columns, most_minors}
 use Rattle.x7_part.proofs.LoopLemmas.{row_made}
 use Rattle.x7_part.proofs.RangeLemmas.{in_range, nones}
 
--- the items from one on
+-- the items from item i on: item i, and those after it
 pub items_more : (vs : List Value) (i : ℕ) (v : Value) → i < length vs → v ≡ get_or vs i v →
     items_view (drop i vs) ≡ item (view v) (items_view (drop (i + 1) vs))
 items_more vs i v h same = items_view-drop vs i v h ∙ rw (← same) refl
@@ -40,12 +40,12 @@ no_table_first (datetime x) ds e = refl
 no_table_first (array items) ds e = refl
 no_table_first (table m) ds e = absurd (cc)
 
--- the tables among the items from one on, where that one is a table
+-- the tables among the items from item i on, where item i is a table
 pub table_more : (vs : List Value) (i : ℕ) (v : Value) (t : Members) → i < length vs → v ≡ get_or vs i v → Some t ≡ as_table (view v) →
     tables (items_view (drop i vs)) ≡ t ∷ tables (items_view (drop (i + 1) vs))
 table_more vs i v t h same is = ap tables (items_more vs i v h same) ∙ table_first (view v) (items_view (drop (i + 1) vs)) t is
 
--- the tables among the items from one on, where that one is none
+-- the tables among the items from item i on, where item i is no table
 pub no_table : (vs : List Value) (i : ℕ) (v : Value) → i < length vs → v ≡ get_or vs i v → None ≡ as_table (view v) →
     tables (items_view (drop (i + 1) vs)) ≡ tables (items_view (drop i vs))
 no_table vs i v h same is = sym (ap tables (items_more vs i v h same) ∙ no_table_first (view v) (items_view (drop (i + 1) vs)) is)
@@ -118,13 +118,13 @@ not_five (a ∷ b ∷ c ∷ d ∷ e ∷ []) h = absurd (h refl)
 
 -- ---- numbers of minors
 
--- a number more was taken
+-- the numbers of minors that were taken and those to come, once one more is taken
 pub minors_more : (vs : List Value) (i : ℕ) (v : Value) (before made : List ℕ) → i < length vs → v ≡ get_or vs i v → made ≡ before ++ natural (whole (view v)) ∷ [] →
     made ++ map natural (wholes (items_view (drop (i + 1) vs))) ≡ before ++ map natural (wholes (items_view (drop i vs)))
 minors_more vs i v before made h is e =
     row_made natural (whole (view v)) (wholes (items_view (drop (i + 1) vs))) (wholes (items_view (drop i vs))) before made (ap wholes (items_more vs i v h is)) e
 
--- each of the numbers is in range
+-- each number of minors is in its range
 pub minor_within : (vs : List Value) (i : ℕ) (v : Value) → are_in 1 most_minors (wholes (items_view vs)) ≡ true → i < length vs → v ≡ get_or vs i v → natural (whole (view v)) ≤ most_minors
 minor_within [] i v all h same = absurd (omega arith)
 minor_within (u ∷ vs) zero v all h same =

@@ -43,7 +43,7 @@ same_from widths r s w a c e = by (order_of widths r s w a c)
     by (row_before k) = absurd (omega (arith, k, e, some))
     by (row_after k) = absurd (omega (arith, k, e, some))
 
--- how many rows have the address
+-- whether a row has the address, and how many rows have it
 at : FieldWidths → ℕ → RowData → ℕ
 at widths a r = cond (eqb (row_address widths r) a) 1 0
 
@@ -148,7 +148,7 @@ apart_none : (widths : FieldWidths) → Apart widths []
 unfolding Apart many
 apart_none widths a = omega arith
 
--- what a sort of rows with no two the same gives
+-- rows in range of which no two are the same, once sorted, stand in number order
 pub ordered : (widths : FieldWidths) (rows sorted : List RowData) → AreWidths widths → All IsRow rows → same_row_fault [] rows ≡ None → IsPermutation rows sorted → IsNonDecreasingBy (row_address widths) sorted → AreRows widths 0 sorted
 ordered widths rows sorted w all e p order =
     in_order widths 0 sorted w (All-permutation IsRow rows sorted p all) order

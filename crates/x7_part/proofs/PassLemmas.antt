@@ -78,7 +78,7 @@ made t types others ranges apart frames =
       slots = rw (n, l) fits.1;
     }
 
--- where no check finds a fault, the part is one
+-- where no check finds a fault in a table, what is made of the table is a part
 pub made_is : (t : Members) → first_fault t ≡ None → IsPart (part_from t)
 unfolding first_fault
 made_is t e =
@@ -147,7 +147,7 @@ few_rows t before =
     let count : length (rows_in_file t) ≡ length (row_tables t) = length-map (row_tables t) row_of in
     omega arith
 
--- what the checks of rows find is the first fault of the table
+-- where types, keys and ranges passed, what the checks of rows find is the first fault of the table
 pub rest_is : (t : Members) → Passed t → first_fault t ≡ first_of (same_row_fault [] (rows_in_file t) ∷ frames_fault (part_with t (rows_in_file t)) ∷ [])
 unfolding first_fault range_fault
 rest_is t h = rw (← h.types, ← h.others, ← h.before, h.each) refl

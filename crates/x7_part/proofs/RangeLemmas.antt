@@ -18,7 +18,7 @@ use Rattle.toml.specs.Data.{Data, Members, no_items, as_array}
 use Rattle.x7_part.specs.PartChecks.{unless, first_of, rows_fault, next_row_number, is_in, is_length_in, are_printed, is_name, is_idcode, is_start_unit, are_in, are_minors, are_widths, are_widths_in_range, is_up_to, ranges_fault, row_range_fault, top_range_fault}
 use Rattle.x7_part.proofs.OrderLemmas.{unless_none, first_none}
 
--- where no check finds a fault, none of them does
+-- where checks have no first fault, none of them finds one
 pub nones : (checks : List (Option PartFault)) → first_of checks ≡ None → AllByRecursion (λ o. o ≡ None) checks
 nones [] e = tt
 nones (o ∷ checks) e = let p = first_none o checks e in (p.0, nones checks p.1)
@@ -107,7 +107,7 @@ minors_in (z ∷ zs) h =
     let p = and_parts (is_in 1 most_minors z) (are_in 1 most_minors zs) h in
     All-cons (λ n. (1 ≤ n) × (n ≤ most_minors)) (natural z) (map natural zs) (in_range 1 most_minors z p.0) (minors_in zs p.1)
 
--- the numbers of minors of a row
+-- the numbers of minors of a row are in range
 pub record Minors (minors : List ℕ) : Type 0 where
   pub some : 1 ≤ length minors
   pub columns : length minors ≤ most_columns

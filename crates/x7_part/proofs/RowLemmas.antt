@@ -67,7 +67,8 @@ lower _ _ _ l' _ h (column r s l c cs er es le pos top rest) = column r s l' c c
 moved : (r s l r' s' l' : ℕ) (cs : List Column) → r ≡ r' → s ≡ s' → l' ≤ l → IsTable r s l cs → IsTable r' s' l' cs
 moved r s l r' s' l' cs er es h t = rw (← er, ← es) (lower r s l l' cs h t)
 
--- a row's columns, and a table after them; `width` is that of all the row's columns from this one on
+-- a row's columns from its i-th on, from 0, with a table after them are a table, where the columns end at or before
+-- `top`, from which the table after them begins
 row_table : (pitch base i rank slot least top : ℕ) (minors : List ℕ) (rest : List Column) → 128 ≤ pitch → 0 < length minors →
     least ≤ base + i * pitch → base + (i + length minors) * pitch ≤ top → top ≤ 2 ^ 32 → All (λ n. (1 ≤ n) × (n ≤ most_minors)) minors →
     IsTable (rank + length (row_addresses pitch base i minors)) (slot + length (row_addresses pitch base i minors) + pads_after_row) top rest →
@@ -150,7 +151,7 @@ addresses_rise _ _ _ _ (column r s l c cs er es le pos top rest) =
     rises_lower l c.first (column_addresses (c ∷ cs)) le
     (count_rises c.first c.count (column_addresses cs) (addresses_rise (r + c.count) (s + c.count + c.pad_count) (c.first + c.count) cs rest))
 
--- in a list that rises the element at a place has as many smaller ones as come before it
+-- in a list that rises, as many elements are smaller than the one at a place as stand before it
 count_cons : (x y : ℕ) (ys : List ℕ) →
     count_by (λ z. nat_lt z x) (y ∷ ys) ≡ (if nat_lt y x then 1 else 0) + count_by (λ z. nat_lt z x) ys
 count_cons x y ys = sum_by-cons (λ z. if nat_lt z x then 1 else 0) y ys

@@ -59,7 +59,7 @@ later : (a far : ℕ) (fars : List ℕ) → (a ≡ far → ⊥) → Contains (a 
 later a far fars n (zero, low, e) = absurd (n e)
 later a far fars n (suc k, low, e) = (k, omega arith, e)
 
--- and begin with it
+-- the slots from an address on begin with its frame
 from_first : (far : ℕ) (places : List Slot) → Contains (addresses_among places) far → get_or (from_address far places) 0 End ≡ Frame far
 from_first far [] (k, low, e) = absurd (omega arith)
 from_first far (Frame a ∷ places) has =
@@ -80,7 +80,7 @@ slots_number part = slots_count part.field_widths part.rows
 from_head : (places : List Slot) (a : ℕ) (rest : List Slot) → places ≡ Frame a ∷ rest → from_address a places ≡ places
 from_head places a rest e = rw (e, eq-eqb a a refl) refl
 
--- rows in sequence
+-- the slots of rows: those of the rows before a row, the slots of the row, and those of the rows after it
 pub slots_rows : (far : FieldWidths) (rows before after : List RowData) (r : RowData) → rows ≡ before ++ r ∷ after →
     slots far rows ≡ slots far before ++ (map Frame (addresses_of far r) ++ (Pad ∷ Pad ∷ slots far after))
 unfolding slots
@@ -112,7 +112,7 @@ slots_all part is =
 
 -- ---- the slot after an address
 
--- a number stands at one place alone
+-- a number stands at one place alone in a list that rises
 same_place : (l : ℕ) (xs : List ℕ) (i j : ℕ) → Rises l xs → i < length xs → j < length xs → get_or xs i 0 ≡ get_or xs j 0 → i ≡ j
 same_place l [] i j rises h k e = absurd (omega arith)
 same_place l (x ∷ xs) zero zero (rise _ _ _ le more) h k e = refl
@@ -127,7 +127,7 @@ rises_after l (x ∷ xs) ys (rise _ _ _ le more) = rises_after (x + 1) xs ys mor
 pad_is_no_frame : (far : ℕ) → Pad ≡ Frame far → ⊥
 pad_is_no_frame far e = cc
 
--- inside the frames of a row, and at their end
+-- right after a frame stands the next frame of its row, or a pad where it is the row's last
 inside : (l x k : ℕ) (xs : List ℕ) (rest : List Slot) → Rises l xs → k + 1 < length xs → get_or xs k 0 ≡ x →
     get_or (from_address x (map Frame xs ++ rest)) 1 End ≡ Frame (get_or xs (k + 1) 0)
 inside l x k [] rest rises h e = absurd (omega arith)
@@ -159,7 +159,7 @@ rises_prefix l (x ∷ xs) ys (rise _ _ _ le more) = rise l x xs le (rises_prefix
 frame_is : (a b : ℕ) → Frame a ≡ Frame b → a ≡ b
 frame_is a b e = cc
 
--- rows of which one has both
+-- rows of which one has both addresses
 InOne : FieldWidths → List RowData → ℕ → ℕ → Type 0
 InOne far rows x y = (r : RowData) × Contains rows r × Contains (addresses_of far r) x × Contains (addresses_of far r) y
 
@@ -188,7 +188,7 @@ module _ (far : FieldWidths) (r : RowData) (rows : List RowData) (l x y : ℕ) (
       let s = same_place l (A ++ B) i (length A + j) rises (omega (arith, h, long)) (omega (arith, k, long)) (left i h ∙ sym d ∙ e ∙ sym (sym c ∙ f) ∙ sym (right j)) in
       omega (arith, s, h)
 
-  -- x in this row
+  -- where x is an address of the first row
   here_next : Contains A x → get_or (from_address x (map Frame A ++ (Pad ∷ Pad ∷ slots far rows))) 1 End ≡ Frame y → IsFollowedBy (A ++ B) x y × InOne far (r ∷ rows) x y
   unfolding InOne
   here_next (k, h, e) s =
@@ -213,7 +213,7 @@ module _ (far : FieldWidths) (r : RowData) (rows : List RowData) (l x y : ℕ) (
       ∙ ap (λ (q : ℕ). Frame q) (ap (λ q. get_or A q 0) (let q : k + 1 ≡ m = omega (arith, m_is, i_is) in q) ∙ there)
   here_frame has follows (s, (suc j, jl, je), ax, ay) = absurd (not_both has (row_holds far rows s x (j, omega arith, je) ax))
 
-  -- x in a later row
+  -- where x is an address of a later row
   later_follows : Contains B x → IsFollowedBy (A ++ B) x y → IsFollowedBy B x y
   later_follows (p, h, e) (i, low, f, g) =
       let at : get_or B p 0 ≡ x = sym (get_or_default B p x 0 h) ∙ e in

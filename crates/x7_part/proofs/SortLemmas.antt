@@ -12,12 +12,12 @@ use Rattle.x7_part.specs.Part.{FieldWidths, RowData}
 use Rattle.x7_part.specs.Row.{sorted_rows, put_in}
 use Rattle.x7_part.proofs.WidthLemmas.{some_weight}
 
--- one of the rows
+-- a row is one of the rows
 In : RowData → List RowData → Type 0
 In r [] = ⊥
 In r (s ∷ rows) = (r ≡ s) ⊎ In r rows
 
--- how many rows have the address
+-- whether a row has the address, and how many rows have it
 at : FieldWidths → ℕ → RowData → ℕ
 at widths a r = if nat_eq (row_address widths r) a then 1 else 0
 
@@ -98,7 +98,7 @@ from_least widths least [] h = tt
 from_least widths least (r ∷ rows) (row f l s more k in_range rest) =
     (k, each (λ t. row_address widths r + 2 ^ row_low widths ≤ row_address widths t) (λ t. least ≤ row_address widths t) (λ t j. omega (arith, j, k)) rows (from_least widths (row_address widths r + 2 ^ row_low widths) rows rest))
 
--- a row of a list has an address that all of them have
+-- what holds of the addresses of all rows holds of the address of each of them
 address_of : (widths : FieldWidths) (P : ℕ → Type 0) (r : RowData) (rows : List RowData) → In r rows → AllByRecursion (λ s. P (row_address widths s)) rows → P (row_address widths r)
 unfolding In
 address_of widths P r [] h all = absurd h
@@ -154,7 +154,7 @@ unfolding many
 many_is widths a [] = refl
 many_is widths a (r ∷ rows) = ap (λ n. at widths a r + n) (many_is widths a rows) ∙ sym (sum_by-cons (at widths a) r rows)
 
--- the rows of a part are those of its file, put in order
+-- rows in number order are what `sorted_rows` makes of the same rows in any order
 pub sorted_is : (widths : FieldWidths) (rows sorted : List RowData) (least : ℕ) → IsPermutation rows sorted → AreRows widths least sorted → sorted_rows widths rows ≡ sorted
 sorted_is widths rows sorted least same strict =
     same_rows widths (sorted_rows widths rows) sorted least strict (ordered_rises widths rows)

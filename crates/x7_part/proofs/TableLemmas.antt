@@ -34,7 +34,7 @@ table_cons widths rank slot n r rows e =
     let k : rank + length (addresses_of widths r) ≡ rank + n = let l = row_length (2 ^ column_low widths) (row_address widths r) 0 r.minors in omega arith in
     rw (s, k) refl
 
--- one row more
+-- the table of rows of which some are done, once one row more is done
 pub table_more : (widths : FieldWidths) (done new all : List Column) (rank slot i n m pitch base : ℕ) (minors : List ℕ) (rows : List RowData) (r : RowData) → i < length rows →
     r ≡ get_or rows i r → pitch ≡ 2 ^ column_low widths → base ≡ row_address widths r → minors ≡ r.minors → n ≡ sum r.minors → m ≡ n →
     new ≡ done ++ row_columns pitch base 0 rank slot minors → done ++ table_of widths rank slot (drop i rows) ≡ all →

@@ -27,7 +27,7 @@ columns_fit widths n w h =
 
 -- ---- the weights of the fields
 
--- the half weighs what all rows weigh, 32 of them at least
+-- row n, from 0 to 31, ends no higher than the weight of the half
 row_end : (widths : FieldWidths) (n : ℕ) → AreWidths widths → n ≤ 31 → n * 2 ^ row_low widths + 2 ^ row_low widths ≤ 2 ^ half_low widths
 row_end widths n w h =
     let most : n + 1 ≤ 2 ^ widths.row = (let c = two_to 5 widths.row w.row.0 in omega arith) in
@@ -36,7 +36,7 @@ row_end widths n w h =
     let next = column_end n 1 (2 ^ row_low widths) in
     omega arith
 
--- a block type weighs twice that
+-- a block type weighs twice what the half weighs
 block_half : (widths : FieldWidths) → AreWidths widths → 2 ^ block_low widths ≡ 2 * 2 ^ half_low widths
 block_half widths w =
     let split : 2 ^ block_low widths ≡ 2 ^ half_low widths * 2 ^ widths.half = pow-add 2 (half_low widths) widths.half in
@@ -61,7 +61,7 @@ row_within widths r w is =
     let split : 2 ^ address_width widths ≡ 2 ^ block_low widths * 2 ^ widths.block = pow-add 2 (block_low widths) widths.block in
     omega arith
 
--- and stay below the end
+-- a row's addresses stay below 2^32
 pub row_top : (widths : FieldWidths) (r : RowData) → AreWidths widths → IsRow r → row_address widths r + 2 ^ row_low widths ≤ 2 ^ 32
 row_top widths r w is =
     let within : row_address widths r + 2 ^ row_low widths ≤ 2 ^ address_width widths = row_within widths r w is in
@@ -70,14 +70,14 @@ row_top widths r w is =
 
 -- ---- two rows
 
--- n is below m, so each step of a weight lies between them
+-- where n is below m, n times a weight and once more is at most m times the weight
 step : (n m weight : ℕ) → n < m → n * weight + weight ≤ m * weight
 step n m weight h =
     let times : (n + 1) * weight ≤ m * weight = mul-le-mul_right weight (omega arith) in
     let next = column_end n 1 weight in
     omega arith
 
--- no two rows are the same, and one lies before the other
+-- two rows are of one block type, half and row number, or all addresses of one lie before those of the other
 pub data Order (widths : FieldWidths) (r s : RowData) : Type 0 where
   rows_same : r.block ≡ s.block → r.half ≡ s.half → r.row ≡ s.row → Order widths r s
   row_before : row_address widths r + 2 ^ row_low widths ≤ row_address widths s → Order widths r s
@@ -182,7 +182,7 @@ row_fits widths r w is =
     let some = some_weight widths in
     record { block = omega arith; half = omega arith; row = omega arith; two = omega arith; all = omega arith }
 
--- a row's columns end before 2 ^ 32
+-- a row's columns end at or before 2^32
 pub base_fits : (widths : FieldWidths) (r s : RowData) (base pitch : ℕ) (minors : List ℕ) → AreWidths widths → IsRow r → r ≡ s → base ≡ row_address widths s →
     pitch ≡ 2 ^ column_low widths → minors ≡ s.minors → base + length minors * pitch ≤ 2 ^ 32
 base_fits widths r s base pitch minors w is same at wide items =

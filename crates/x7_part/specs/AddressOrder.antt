@@ -9,8 +9,8 @@ abbrev pub count_from : ℕ → ℕ → List ℕ
 count_from first zero = []
 count_from first (suc n) = first ∷ count_from (first + 1) n
 
--- the addresses of the row at `base` from a column on, of which are given the numbers of minors; the next column stands
--- `pitch` further
+-- the addresses of the row at `base`, from the column of this number, from 0, on; the list has the numbers of minors of
+-- that column and of those after it, and one column more adds `pitch`
 abbrev pub row_addresses : ℕ → ℕ → ℕ → List ℕ → List ℕ
 row_addresses pitch base column [] = []
 row_addresses pitch base column (n ∷ minors) = count_from (base + column * pitch) n ++ row_addresses pitch base (column + 1) minors
@@ -19,7 +19,7 @@ row_addresses pitch base column (n ∷ minors) = count_from (base + column * pit
 abbrev pub addresses_of : FieldWidths → RowData → List ℕ
 addresses_of widths r = row_addresses (2 ^ column_low widths) (row_address widths r) 0 r.minors
 
--- the addresses of rows that stand in number order
+-- the addresses of rows, one row after the other
 unfoldable pub addresses : FieldWidths → List RowData → List ℕ
 addresses widths rows = flat_map (addresses_of widths) rows
 
@@ -32,7 +32,7 @@ pub data Rises : ℕ → List ℕ → Type 0 where
   risen : (least : ℕ) → Rises least []
   rise : (least x : ℕ) (xs : List ℕ) → least ≤ x → Rises (x + 1) xs → Rises least (x ∷ xs)
 
--- of a list of addresses that rise, the number from 0, or rank, of an address
+-- an address has this rank in a list: its number there, from 0; in a list that rises as many are smaller
 abbrev pub HasRank : List ℕ → ℕ → ℕ → Type 0
 HasRank addresses far rank = (rank < length addresses) × (slice_index addresses rank ≡ far)
 

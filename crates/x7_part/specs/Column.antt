@@ -22,7 +22,7 @@ slots_of c = map Frame (addresses_of_column c) ++ replicate c.pad_count Pad
 abbrev pub IsInColumn : Column → ℕ → Type 0
 IsInColumn c address = (c.first ≤ address) × (address < c.first + c.count)
 
--- the slot of this number is a frame of the column
+-- the slot of this number, from 0, is a frame of the column
 abbrev pub HasFrameAt : Column → ℕ → Type 0
 HasFrameAt c slot_number = (c.place ≤ slot_number) × (slot_number < c.place + c.count)
 
@@ -35,7 +35,7 @@ unfoldable pub column_slots : List Column → List Slot
 column_slots columns = flat_map slots_of columns
 
 -- the columns stand in order after `rank` addresses and `place` slots, each with the numbers of addresses and of slots
--- before it; the first one begins at `least` or above
+-- before it, and with one address at least, all below 2^32; the first one begins at `least` or above
 pub data IsTable : ℕ → ℕ → ℕ → List Column → Type 0 where
   no_column : (rank place least : ℕ) → IsTable rank place least []
   column : (rank place least : ℕ) (c : Column) (columns : List Column) → c.rank ≡ rank → c.place ≡ place → least ≤ c.first →
@@ -48,7 +48,7 @@ pub record AreColumns (columns : List Column) : Type 0 where
   pub addresses : length (column_addresses columns) < 2 ^ 32
   pub slots : length (column_slots columns) < 2 ^ 63
 
--- the columns of a part: their addresses and slots are the part's
+-- the columns of a part, whose numbers are in range: their addresses and slots are the part's
 pub record AreColumnsOf (part : PartData) (columns : List Column) : Type 0 where
   pub is_part : IsPart part
   pub are_columns : AreColumns columns
@@ -56,8 +56,8 @@ pub record AreColumnsOf (part : PartData) (columns : List Column) : Type 0 where
   pub slots : column_slots columns ≡ slots_in part
 
 module _ (pitch base : ℕ) where
-  -- the columns of the row at `base`, from its `i`th on, after `rank` addresses and `place` slots; the next column
-  -- begins `pitch` further, and the row's pads stand after its last column
+  -- the columns of the row at `base`, from column i, from 0, on, after `rank` addresses and `place` slots; the next
+  -- column begins `pitch` further, and the row's pads stand after its last column
   abbrev pub row_columns : ℕ → ℕ → ℕ → List ℕ → List Column
   row_columns i rank place [] = []
   row_columns i rank place (n ∷ []) = record { first = base + i * pitch; count = n; pad_count = pads_after_row; rank = rank; place = place } ∷ []

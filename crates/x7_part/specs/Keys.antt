@@ -28,7 +28,7 @@ name_of key.Other = codes "other"
 abbrev pub top : PartKey → Which
 top k = record { row = None; key = k }
 
--- the place of a key in row n
+-- the place of a key in row n, from 1
 abbrev pub in_row : ℕ → PartKey → Which
 in_row n k = record { row = Some n; key = k }
 

@@ -9,7 +9,7 @@ greatest_idcode = 4294967295
 abbrev pub greatest_mode : ℕ
 greatest_mode = 7
 
--- the greatest number of the bus width, which STAT shows in two bits (UG470, status register)
+-- the greatest code of the bus width, which STAT shows in two bits (UG470, status register)
 abbrev pub greatest_bus_width : ℕ
 greatest_bus_width = 3
 
@@ -107,7 +107,7 @@ usual_start_unit = 1
 abbrev pub large_start_unit : ℕ
 large_start_unit = 256
 
--- the most ticks that startup waits for lock or for match: the last number of 16 bits
+-- the most ticks that startup waits for the clocks to lock or for the impedance to match: the last number of 16 bits
 abbrev pub most_wait_ticks : ℕ
 most_wait_ticks = 65535
 

@@ -21,14 +21,14 @@ pub record FieldWidths : Type 0 where
 abbrev pub usual_widths : FieldWidths
 usual_widths = record { minor = 7; column = 10; row = 5; half = 1; block = 3 }
 
--- all that a part file says, its rows in number order
+-- all that a part file says; the rows of a part stand in number order (`IsPart`), those of a file in any
 pub record PartData : Type 0 where
   pub name : List ℕ
   pub idcode : ℕ
-  -- the mode pins and the bus width, as STAT shows them
+  -- the mode pins and the code of the bus width, as STAT shows them
   pub mode : ℕ
   pub bus_width : ℕ
-  -- the ticks that startup waits for the clocks to lock, and for the impedance to match
+  -- the ticks, of four bytes each, that startup waits for the clocks to lock, and for the impedance to match
   pub lock : ℕ
   pub matched : ℕ
   -- how many words a frame has

@@ -72,11 +72,11 @@ allows rule (Some d) = if rule.is_list then is_list_of rule.holds d else is_kind
 abbrev pub key_fault : Option ℕ → PartKey → PartFault
 key_fault row k = Key (record { row = row; key = k })
 
--- the first key of a table that is missing or has a value of another type
+-- the first of `keys` that a table lacks, though it is required, or under which a value of another type stands
 abbrev pub types_fault : Option ℕ → List KeyRule → Members → Option PartFault
 types_fault row keys t = first_of (map (λ rule. unless (allows rule (under rule.key t)) (key_fault row rule.key)) keys)
 
--- an unknown key of a table
+-- a table, the top one or that of row n, has an unknown key
 abbrev pub names_fault : Option ℕ → List KeyRule → Members → Option PartFault
 names_fault row keys t = unless (has_only keys t) (key_fault row key.Other)
 
@@ -89,11 +89,11 @@ check_fault Names = names_fault
 abbrev pub tables_fault : Check → Members → Option PartFault
 tables_fault check t = first_of (check_fault check None top_keys t ∷ rows_fault (λ n. check_fault check (Some n) row_keys) 1 (row_tables t) ∷ [])
 
--- the first key of a part file that is missing or has a value of another type
+-- the first key of a part file that is required and missing, or has a value of another type
 unfoldable pub type_fault : Members → Option PartFault
 type_fault t = tables_fault Types t
 
--- the first unknown key of a part file
+-- the first table of a part file, at the top and then row by row, that has an unknown key
 unfoldable pub other_fault : Members → Option PartFault
 other_fault t = tables_fault Names t
 
@@ -103,11 +103,11 @@ other_fault t = tables_fault Names t
 abbrev pub ranges_fault : Option ℕ → List RangeTest → Option PartFault
 ranges_fault row tests = first_of (map (λ test. unless test.passes (Range (record { row = row; key = test.key }))) tests)
 
--- a number is in a range
+-- a number is at least `low` and at most `high`
 unfoldable pub is_in : ℕ → ℕ → ℤ → Bool
 is_in low high z = int_le (pos low) z && int_le z (pos high)
 
--- a length is in a range
+-- a length is at least `low` and at most `high`
 abbrev pub is_length_in : ℕ → ℕ → ℕ → Bool
 is_length_in low high n = nat_le low n && nat_le n high
 
@@ -141,7 +141,7 @@ are_widths _ = false
 unfoldable pub are_widths_in_range : Members → Bool
 are_widths_in_range t = not (is_some (under key.Far t)) || are_widths (wholes (items_under key.Far t))
 
--- each number is in a range
+-- each number is at least `low` and at most `high`
 abbrev pub are_in : ℕ → ℕ → List ℤ → Bool
 are_in low high [] = true
 are_in low high (z ∷ zs) = is_in low high z && are_in low high zs
@@ -150,11 +150,11 @@ are_in low high (z ∷ zs) = is_in low high z && are_in low high zs
 abbrev pub are_minors : List ℤ → Bool
 are_minors zs = is_length_in 1 most_columns (length zs) && are_in 1 most_minors zs
 
--- the number under a key, 0 where there is none, is at most `high`
+-- the number under a key, 0 where there is none, is from 0 to `high`
 abbrev pub is_up_to : ℕ → PartKey → Members → Bool
 is_up_to high k t = is_in 0 high (number_or 0 k t)
 
--- the first value of a row that is out of range
+-- the first value of row n that is out of range
 abbrev pub row_range_fault : ℕ → Members → Option PartFault
 row_range_fault n t = first_of (
     unless (is_up_to greatest_block key.Block t) (Range (in_row n key.Block))

@@ -11,7 +11,8 @@ use Rattle.x7_part.specs.Values.{settings_in, part_with, rows_in_file}
 use Rattle.x7_part.specs.PartChecks.{first_of, type_fault, other_fault, range_fault}
 use Rattle.x7_part.specs.Row.{same_row_fault, frames_fault, sorted_rows}
 
--- the first fault of a part file's table: types, unknown keys, ranges, the same row twice, too many frames
+-- the first fault of a part file's table: types, unknown keys, ranges, the same row twice, too many frames or words of
+-- frames and pads
 unfoldable pub first_fault : Members → Option PartFault
 first_fault t = first_of (type_fault t ∷ other_fault t ∷ range_fault t ∷ same_row_fault [] (rows_in_file t) ∷ frames_fault (part_with t (rows_in_file t)) ∷ [])
 
@@ -19,7 +20,7 @@ first_fault t = first_of (type_fault t ∷ other_fault t ∷ range_fault t ∷ s
 unfoldable pub part_from : Members → PartData
 part_from t = part_with t (sorted_rows (settings_in t).field_widths (rows_in_file t))
 
--- the part of a table in which the checks found this fault or none
+-- the part of a table in which the checks found no fault, else the fault that they found
 abbrev pub part_unless : Members → Option PartFault → Result PartData PartFault
 part_unless table None = Ok (part_from table)
 part_unless table (Some fault) = Err fault
@@ -29,7 +30,7 @@ abbrev pub part_of_table : Option Members → Result PartData PartFault
 part_of_table None = Err Toml
 part_of_table (Some table) = part_unless table (first_fault table)
 
--- a text of white space and comments alone
+-- a text in UTF-8 of white space and comments alone
 abbrev pub HasNoKey : List ℕ → Type 0
 HasNoKey text = IsUtf8 text × IsBlank text
 

@@ -6,8 +6,8 @@ use Rattle.x7_part.specs.Address.{AreRows, AreWidths}
 use Rattle.x7_part.specs.AddressOrder.{addresses_in}
 use Rattle.x7_part.specs.Slot.{pads_after_row}
 
--- a name of 1 to 64 printed bytes, an odd idcode of 32 bits, numbers in range, and no more rows, frames and words than
--- a part may have
+-- a name of 1 to 64 printed bytes, an odd idcode of 32 bits, numbers in range, one row at least, rows in number order
+-- of which no two are the same, and no more rows, frames and words than a part may have
 pub record IsPart (part : PartData) : Type 0 where
   pub named : 1 ≤ length part.name
   pub short : length part.name ≤ most_name_size

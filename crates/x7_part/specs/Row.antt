@@ -1,4 +1,5 @@
--- The checks of a part file's rows together: none the same as another, and not too many frames (this project's choice).
+-- The rows of a part file together: none the same as another, not too many frames or words, and their order in the part
+-- (this project's choice).
 use Rattle.std.specs.Prelude.{◌≡◌, ◌⊎◌, ◌<◌, ℕ, ◌+◌, ◌*◌, List, [], ◌∷◌, ◌++◌, length, Bool, false, not, ◌&&◌, ◌||◌, ◌==◌, nat_le, nat_lt, if◌then◌else◌, Option, None}
 use Rattle.x7_part.specs.declared.fault.PartFault.{PartFault}
 use Rattle.x7_part.specs.declared.fault.PartFault.TheVariants.{SameRow, TooMany}
@@ -30,7 +31,7 @@ same_row_fault earlier (r ∷ rows) =
 abbrev pub has_few_frames : ℕ → ℕ → ℕ → Bool
 has_few_frames width count row_count = nat_le count most_frames && nat_le (width * (count + pads_after_row * row_count)) most_words
 
--- too many frames, with how many there are
+-- too many frames, or words of frames and pads; the fault has the number of frames
 abbrev pub frames_fault : PartData → Option PartFault
 frames_fault part =
     unless (has_few_frames (frame_words part) (length (addresses_in part)) (length part.rows)) (TooMany (length (addresses_in part)))

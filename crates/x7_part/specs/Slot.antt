@@ -11,7 +11,7 @@ use Rattle.x7_part.specs.declared.slot.Slot.TheVariants.{Frame, Pad, End}
 abbrev pub pads_after_row : ℕ
 pads_after_row = 2
 
--- the addresses of the rows in number order, and two pads (`pads_after_row`) after each row's last
+-- the slots of rows: of each row the frames at its addresses, and two pads (`pads_after_row`) after the last
 unfoldable pub slots : FieldWidths → List RowData → List Slot
 slots widths rows = flat_map (λ r. map Frame (addresses_of widths r) ++ Pad ∷ Pad ∷ []) rows
 
@@ -34,11 +34,11 @@ from_address address (End ∷ later) = from_address address later
 abbrev pub slots_from : PartData → ℕ → List Slot
 slots_from part far = from_address far (slots_in part)
 
--- slot n of the slots from an address on, `End` where there are no more than n
+-- slot n, from 0, of the slots from an address on, `End` where there are no more than n
 abbrev pub slot_after : PartData → ℕ → ℕ → Slot
 slot_after part far n = slice_index_or (slots_from part far) n End
 
--- the slot at a place is the frame at the address of this rank
+-- the slot at this place is the frame at the address of this rank, both from 0
 abbrev pub HasFrameOf : List ℕ → List Slot → ℕ → ℕ → Type 0
 HasFrameOf addresses slots place rank = (rank < length addresses) × (slice_index_or slots place End ≡ Frame (slice_index addresses rank))
 
@@ -49,6 +49,6 @@ addresses_among (Frame address ∷ later) = address ∷ addresses_among later
 addresses_among (Pad ∷ later) = addresses_among later
 addresses_among (End ∷ later) = addresses_among later
 
--- two addresses of one row
+-- both addresses are of one row of the part
 abbrev pub AreInOneRow : PartData → ℕ → ℕ → Type 0
 AreInOneRow part a b = (r : RowData) × Contains part.rows r × Contains (addresses_of part.field_widths r) a × Contains (addresses_of part.field_widths r) b

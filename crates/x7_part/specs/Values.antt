@@ -10,7 +10,7 @@ use Rattle.x7_part.specs.Part.{FieldWidths, RowData, PartData, usual_widths}
 
 -- ---- one value
 
--- the value under a key
+-- the value under a key, none where the table lacks it
 abbrev pub under : PartKey → Members → Option Data
 under k t = get_member (name_of k) t
 

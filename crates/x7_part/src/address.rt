@@ -63,7 +63,7 @@ impl Widths {
         })
     }
 
-    /// What one column more adds to an address.
+    /// What one column more adds to an address. Clause `widths` gives callers what holds of all widths.
     pub(crate) fn column_weight(self) -> u32
         ensures value { result ≡ 2 ^ column_low self }
         ensures widths { AreWidths self }
@@ -85,7 +85,7 @@ impl Widths {
         1 << (self.minor + self.column + self.row)
     }
 
-    /// What one block type more adds to an address.
+    /// What one block type more adds to an address. Clause `widths` gives callers what holds of all widths.
     pub(crate) fn block_weight(self) -> u32
         ensures value { result ≡ 2 ^ block_low self }
         ensures widths { AreWidths self }

@@ -1,10 +1,10 @@
-//! The checks of a part file's keys: the types of their values, and that each key is a known one.
+//! The checks of a part file's keys: that no required one is missing, the types of the values, and that each is known.
 ghost use Rattle.std.specs.Prelude.{◌≡◌};
 ghost use Rattle.std.specs.Result.{result_err};
 ghost use Rattle.toml.specs.View.{view, table_view};
 ghost use Rattle.x7_part.specs.Keys.{is_known, has_only};
 ghost use Rattle.x7_part.specs.Values.{under};
-ghost use Rattle.x7_part.specs.PartChecks.{is_kind, are_kind, is_list_of, allows, types_fault, check_fault, tables_fault};
+ghost use Rattle.x7_part.specs.PartChecks.{is_kind, is_list_of, allows, types_fault, check_fault, tables_fault};
 
 use crate::fault::{PartFault, PartKey, Which};
 use crate::keys::{KeyRule, Kind, ROW_KEYS, TOP_KEYS};
@@ -49,7 +49,8 @@ fn is_allowed(rule: KeyRule, table: &Table) -> bool
     }
 }
 
-/// Refuses the first of the keys that is missing from the table or has a value of another type.
+/// Refuses the first of the keys that the table lacks, though it is required, or that has a value of another type
+/// there.
 fn check_types(row: Option<u32>, keys: &[KeyRule], table: &Table) -> Result<(), PartFault>
     ensures { result_err result ≡ types_fault row keys.now (table_view table.now) }
 {
@@ -87,7 +88,7 @@ fn has_only(keys: &[KeyRule], table: &Table) -> bool
 /// A check of the keys of all tables.
 #[derive(Clone, Copy, Drop)]
 pub(crate) enum Check {
-    /// No key is missing, and each value is of its key's type.
+    /// No required key is missing, and each value is of its key's type.
     Types,
     /// Each key is a known one.
     Names,

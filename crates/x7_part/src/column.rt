@@ -136,8 +136,8 @@ fn slot_at(columns: &[Column], slot_number: u64) -> Slot
     }
 }
 
-/// The rank of the frame at the slot of this number, where the column at `index` has that frame. `None`: it has no such
-/// frame, or there is no column at `index`.
+/// The rank of the frame at the slot of this number, from 0, where the column at `index` has that frame. `None`: the
+/// column has no frame at that slot, or there is no column at `index`.
 fn rank_in(columns: &[Column], index: usize, slot_number: u64) -> Option<u32>
     requires { AreColumns columns.now }
     ensures found { IfSome result (λ r. HasFrameOf (column_addresses columns.now) (column_slots columns.now) slot_number r) }
@@ -159,9 +159,9 @@ fn rank_in(columns: &[Column], index: usize, slot_number: u64) -> Option<u32>
     }
 }
 
-/// The rank of the frame at the slot of this number, none at a pad and past the last slot. `hint` is the index of the
-/// column that is looked at first, and then of the one that begins last at or before the slot; the answer doesn't
-/// depend on it.
+/// The rank of the frame at the slot of this number, from 0, none at a pad and past the last slot. `hint` is the index
+/// of the column that is looked at first, and then of the one that begins last at or before the slot; the answer
+/// doesn't depend on the hint.
 pub(crate) fn rank_at(columns: &[Column], slot_number: u64, hint: &mut usize) -> Option<u32>
     requires { AreColumns columns.now }
     ensures found { IfSome result (λ r. HasFrameOf (column_addresses columns.now) (column_slots columns.now) slot_number r) }
@@ -193,7 +193,7 @@ pub(crate) fn place_of(columns: &[Column], far: u32) -> u64
     column.place + u64::from(far - column.first)
 }
 
-/// Slot n of the slots from an address on, `End` where there are no more than n.
+/// Slot n, from 0, of the slots from an address on, `End` where there are no more than n.
 pub(crate) fn slot_after(columns: &[Column], far: u32, n: u64) -> Slot
     requires columns { AreColumns columns.now }
     requires address { Contains (column_addresses columns.now) far }
@@ -227,7 +227,7 @@ fn slot_count(columns: &[Column]) -> u64
     }
 }
 
-/// The number of slots from an address on.
+/// The number of slots from an address on, pads included.
 pub(crate) fn slots_from(columns: &[Column], far: u32) -> u64
     requires columns { AreColumns columns.now }
     requires address { Contains (column_addresses columns.now) far }

@@ -12,23 +12,23 @@ use thiserror::Error;
 pub enum PartKey {
     /// The part's name.
     Name,
-    /// What its IDCODE register reads as.
+    /// What the part's IDCODE register reads as.
     Idcode,
     /// The mode pins, as STAT shows them.
     Mode,
-    /// The width of the bus, as STAT shows it.
+    /// The code of the bus width, as STAT shows it.
     BusWidth,
-    /// The ticks that startup waits for the clocks to lock.
+    /// The ticks, of four bytes each, that startup waits for the clocks to lock.
     Lock,
-    /// The ticks that startup waits for the impedance to match.
+    /// The ticks, of four bytes each, that startup waits for the impedance to match.
     Match,
     /// The words of a frame.
     FrameWords,
-    /// The widths of the five fields of a frame address.
+    /// The widths in bits of the five fields of a frame address.
     Far,
     /// The bytes of a flash that a step of WBSTAR's start address stands for.
     StartUnit,
-    /// The rows; in a row, its row number.
+    /// The rows; in a row, its number within its half.
     Row,
     /// A row's block type.
     Block,
@@ -82,16 +82,16 @@ impl fmt::Display for Which {
     }
 }
 
-/// Why a part file was refused.
+/// Why a part file gives no part: its first fault, or want of memory.
 #[derive(Clone, Copy, Debug, Drop, Error)]
 pub enum PartFault {
     /// The text is no TOML, or no UTF-8.
     #[error("the text is no TOML")]
     Toml,
-    /// The key is missing, has a value of another type, or is unknown.
+    /// The key is required and missing, has a value of another type, or is unknown.
     #[error("key {0}")]
     Key(Which),
-    /// The key's value is out of range.
+    /// The key's value is out of its range; for the list of rows, its length is.
     #[error("range {0}")]
     Range(Which),
     /// The row of this number, from 1, has the block type, the half and the row of an earlier one.
@@ -101,7 +101,7 @@ pub enum PartFault {
     /// frames.
     #[error("too many frames: {0}")]
     TooMany(u32),
-    /// There was no memory for the part.
+    /// There was no memory, for the part or for the table of its text.
     #[error("no memory")]
     NoMemory,
 }

@@ -17,7 +17,7 @@ ghost use Rattle.x7_part.specs.declared.slot.Slot.TheVariants.{Frame};
 /// The slots of a part in words: the slots from an address are their end that begins with it, and from the first
 /// address all of them. Between the slots of the rows before it and after it a row has its own, which end in two pads,
 /// so there are two slots more for each row than addresses. The slots of frames are the addresses in order, and a frame
-/// stands right after another in one row alone.
+/// stands right after another exactly where it has the next address and both are of one row.
 pub fn slots_follow_the_addresses()
     ensures split { (part : PartData) (far : ℕ) → Contains (addresses_in part) far → (before : List Slot) × (slots_in part ≡ before ++ slots_from part far) }
     ensures first { (part : PartData) (far : ℕ) → Contains (addresses_in part) far → slot_after part far 0 ≡ Frame far }
@@ -30,7 +30,7 @@ pub fn slots_follow_the_addresses()
         (slot_after part far 1 ≡ Frame next) ↔ (IsFollowedBy (addresses_in part) far next × AreInOneRow part far next) }
 {}
 
-/// What a part file gives is a part, and its rows are the rows of the file in another order. The rows of a part rise by
+/// What a part file gives is a part, and its rows are the rows of the file, put in order. The rows of a part rise by
 /// block type, half and row, no two the same. Rows that are sorted are the same rows in the order of their addresses.
 pub fn rows_are_in_order()
     ensures same_rows_as_file { (text : List ℕ) (table : Members) (part : PartData) → parse_document text ≡ Some table → part_in text ≡ Ok part →

@@ -6,7 +6,7 @@ pub(crate) const GREATEST_IDCODE: u32 = 4_294_967_295;
 /// The greatest number of the mode pins.
 pub(crate) const GREATEST_MODE: u32 = 7;
 
-/// The greatest number of the bus width.
+/// The greatest code of the bus width.
 pub(crate) const GREATEST_BUS_WIDTH: u32 = 3;
 
 /// The greatest block type of a row.
@@ -73,7 +73,7 @@ pub(crate) const USUAL_START_UNIT: u32 = 1;
 /// (UG470, warm boot start address).
 pub const LARGE_START_UNIT: u32 = 256;
 
-/// The most ticks that startup waits for lock or for match.
+/// The most ticks that startup waits for the clocks to lock or for the impedance to match.
 pub(crate) const MOST_WAIT_TICKS: u32 = 65_535;
 
 /// The most frames of a part.

@@ -48,7 +48,8 @@ impl Model for Part {
 }
 
 impl Part {
-    /// The part of this name with these settings and rows, none of which stands twice.
+    /// The part of this name with these settings and rows. No two rows are to be the same, and in number order they are
+    /// to make a part, within its limits.
     pub(crate) fn of(
         alloc: Global,
         name: String,
@@ -106,7 +107,7 @@ impl Part {
         self.settings.mode
     }
 
-    /// The bus width, as STAT shows it (UG470, status register).
+    /// The code of the bus width, as STAT shows it (UG470, status register).
     pub fn bus_width(&self) -> u8
         ensures value { result ≡ self.now.bus_width }
         ensures most { result ≤ greatest_bus_width }
@@ -114,14 +115,14 @@ impl Part {
         self.settings.bus_width
     }
 
-    /// The ticks that startup waits for the clocks to lock.
+    /// The ticks, of four bytes each, that startup waits for the clocks to lock.
     pub fn lock(&self) -> u16
         ensures { result ≡ self.now.lock }
     {
         self.settings.lock
     }
 
-    /// The ticks that startup waits for the impedance to match.
+    /// The ticks, of four bytes each, that startup waits for the impedance to match.
     pub fn matched(&self) -> u16
         ensures { result ≡ self.now.matched }
     {
@@ -161,7 +162,8 @@ impl Part {
         &self.columns
     }
 
-    /// How many frames the part has: as many as addresses.
+    /// How many frames the part has: as many as addresses. The call also tells that the part is within its limits
+    /// (`part`), that its slots have at most `most_words` words (`words`), and that its addresses rise (`order`).
     pub fn frames(&self) -> u32
         ensures value { result ≡ length (addresses_in self.now) }
         ensures positive { 0 < result }
@@ -215,7 +217,8 @@ impl Part {
         column::slot_after(self.table(), far, n)
     }
 
-    /// The number of the slot of an address: how many slots are before it.
+    /// The number, from 0, of the slot of an address: how many slots of the part are before it. A part has fewer than
+    /// 2^63 slots, so the number and as many more fit 64 bits.
     pub fn place_of(&self, far: u32) -> u64
         requires address { Contains (addresses_in self.now) far }
         ensures within { result < length (slots_in self.now) }
@@ -234,7 +237,7 @@ impl Part {
         column::rank_at(self.table(), slot_number, hint)
     }
 
-    /// The number of slots from an address on.
+    /// The number of slots from an address on, pads included.
     pub fn slots_from(&self, far: u32) -> u64
         requires address { Contains (addresses_in self.now) far }
         ensures { result ≡ length (slots_from self.now far) }

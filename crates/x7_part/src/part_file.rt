@@ -26,7 +26,7 @@ use crate::values::text;
 use std::alloc::Global;
 use toml::Table;
 
-/// The top table of a TOML text; the fault `Toml` for what is no TOML or no UTF-8.
+/// The top table of a TOML text; the fault `Toml` for what is no TOML or no UTF-8, or want of memory.
 fn table_in(alloc: Global, text: &[u8]) -> Result<Table, PartFault>
     ensures table { IfOk result (λ table. IsUtf8 text.now × (parse_document text.now ≡ Some (table_view table))) }
     ensures fault { IfErr result (λ fault. (fault ≡ PartFault.NoMemory) ⊎ ((fault ≡ PartFault.Toml) × (IsUtf8 text.now → parse_document text.now ≡ None))) }
@@ -49,7 +49,8 @@ fn table_in(alloc: Global, text: &[u8]) -> Result<Table, PartFault>
     }
 }
 
-/// Refuses rows of which one is the same as an earlier one, or that have too many frames of `width` words.
+/// Refuses rows of which one is the same as an earlier one, or that have too many frames of `width` words, or too many
+/// words of these and of the pads.
 fn check_rows(width: u32, rows: &[Row]) -> Result<(), PartFault>
     requires width { width ≤ most_frame_words }
     requires rows { length rows.now ≤ most_rows }
@@ -64,7 +65,7 @@ fn check_rows(width: u32, rows: &[Row]) -> Result<(), PartFault>
     )
 }
 
-/// Whether a part may have `count` frames of `width` words in `row_count` rows.
+/// Whether a part may have `count` frames of `width` words in `row_count` rows, and the words of these and of the pads.
 fn has_few_frames(width: u32, count: u32, row_count: u32) -> bool
     requires width { width ≤ most_frame_words }
     requires rows { row_count ≤ most_rows }
@@ -73,7 +74,7 @@ fn has_few_frames(width: u32, count: u32, row_count: u32) -> bool
     count <= MOST_FRAMES && width * (count + PADS_AFTER_ROW * row_count) <= MOST_WORDS
 }
 
-/// The part of a top table, or its first fault.
+/// The part of a top table, or the first fault of the table, or want of memory.
 fn part_from(alloc: Global, table: &Table) -> Result<Part, PartFault>
     ensures fault { AnswersDue (first_fault (table_view table.now)) result }
     ensures part { IfOk result (λ part. part ≡ part_from (table_view table.now)) }
@@ -89,7 +90,8 @@ fn part_from(alloc: Global, table: &Table) -> Result<Part, PartFault>
     Ok(Part::of(alloc, name, settings, rows)?)
 }
 
-/// The part of a part file, or the first fault of the file.
+/// The part of a part file, or the first fault that the checks find in the file (`part_in`; this project's choice), or
+/// want of memory.
 pub fn part_of(alloc: Global, text: &[u8]) -> Result<Part, PartFault>
     ensures part { IfOk result (λ part. part_in text.now ≡ Ok part) }
     ensures fault { IfErr result (λ fault. (fault ≡ PartFault.NoMemory) ⊎ (part_in text.now ≡ Err fault)) }

@@ -74,7 +74,7 @@ fn are_printed(bytes: &[u8]) -> bool
     true
 }
 
-/// Whether a text can be the name of a part.
+/// Whether a text can be the name of a part: 1 to 64 bytes, each printed and none a blank (21 to 7E).
 #[tactic(auto, unfolding(crate::specs::PartChecks::is_name))]
 pub(crate) fn is_name(text: &str) -> bool
     ensures { result ≡ is_name text.now }
@@ -157,7 +157,7 @@ fn widths_of_fields(
     Widths::of(minor, column, row, half, block)
 }
 
-/// The widths of the fields of an address that items give; none where there aren't five of them, where one is out of its
+/// The widths of the fields of an address that items give; none where there aren't five items, where one is out of its
 /// range, or where they have more than 32 bits together.
 fn widths_given(items: &[Value]) -> Option<Widths>
     ensures exactly_where { is_some result ≡ are_widths (wholes (items_view items.now)) }

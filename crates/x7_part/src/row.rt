@@ -92,7 +92,7 @@ fn minors_of(alloc: Global, items: &[Value]) -> Result<Vec<u8>, AllocError>
     Ok(minors)
 }
 
-/// The row of a row's table, or the first of its values that is out of range. Rows count from 1.
+/// The row of a row's table, or the first of its values that is out of range, or want of memory. Rows count from 1.
 fn row_in(alloc: Global, number: u32, table: &Table) -> Result<Row, PartFault>
     ensures fault { AnswersDue (row_range_fault number (table_view table.now)) result }
     ensures value { IfOk result (λ row. row ≡ row_of (table_view table.now)) }
@@ -113,7 +113,7 @@ fn row_in(alloc: Global, number: u32, table: &Table) -> Result<Row, PartFault>
     })
 }
 
-/// The rows of a top table, which count from 1, or the first value of one that is out of range.
+/// The rows of a top table, which count from 1, or the first value of one that is out of range, or want of memory.
 pub(crate) fn rows_in(alloc: Global, table: &Table) -> Result<Vec<Row>, PartFault>
     ensures fault { AnswersDue (rows_fault row_range_fault 1 (row_tables (table_view table.now))) result }
     ensures value { IfOk result (λ rows. rows.items ≡ rows_in_file (table_view table.now)) }

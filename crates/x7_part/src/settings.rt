@@ -24,9 +24,9 @@ pub(crate) struct PartSettings {
     pub(crate) idcode: u32,
     pub(crate) mode: u8,
     pub(crate) bus_width: u8,
-    /// The ticks that startup waits for the clocks to lock.
+    /// The ticks, of four bytes each, that startup waits for the clocks to lock.
     pub(crate) lock: u16,
-    /// The ticks that startup waits for the impedance to match.
+    /// The ticks, of four bytes each, that startup waits for the impedance to match.
     pub(crate) matched: u16,
     /// The number of words of a frame.
     pub(crate) frame_words: u8,

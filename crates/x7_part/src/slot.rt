@@ -1,9 +1,9 @@
-//! Slots of frame data.
+//! Slots of frame data (UG470, frame data).
 
 /// The number of pads after the last frame of a row (this project's choice).
 pub(crate) const PADS_AFTER_ROW: u32 = 2;
 
-/// A place in write order: of a frame, of a pad frame, or past the last one.
+/// What stands at a place in the order of writing: a frame, a pad frame, or nothing, past the last slot.
 #[derive(Clone, Copy, Drop, PartialEq, Eq)]
 pub enum Slot {
     /// The frame at this address.

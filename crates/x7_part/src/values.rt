@@ -6,14 +6,14 @@ ghost use Rattle.x7_part.specs.Values.{under, text, whole, natural, number_or, i
 use crate::fault::PartKey;
 use toml::{Table, Value};
 
-/// The value under a key.
+/// The value under a key, none where the table lacks it.
 pub(crate) fn value_under(table: &Table, key: PartKey) -> Option<&Value>
     ensures { option_map (λ v. view v.now) result ≡ under key (table_view table.now) }
 {
     table.get(key.name())
 }
 
-/// The text under a key, no text where there is none.
+/// The text under a key, an empty one where no text stands there.
 pub(crate) fn text(table: &Table, key: PartKey) -> &str
     ensures { result.now ≡ text key (table_view table.now) }
 {
@@ -23,7 +23,7 @@ pub(crate) fn text(table: &Table, key: PartKey) -> &str
     }
 }
 
-/// The whole number that a value is, 0 where it is none.
+/// The whole number that a value is, 0 for any other value.
 pub(crate) fn whole(value: &Value) -> i64
     ensures { result ≡ whole (view value.now) }
 {
@@ -54,7 +54,7 @@ pub(crate) fn items_under(table: &Table, key: PartKey) -> &[Value]
     }
 }
 
-/// The whole number under a key, `usual` where it is left out, which lies from 0 to `most`.
+/// The whole number under a key without its sign, `usual` where it is left out: `most` at most.
 pub(crate) fn number_up_to(most: u32, usual: u32, table: &Table, key: PartKey) -> u32
     requires { natural (number_or usual key (table_view table.now)) ≤ most }
     ensures value { result ≡ natural (number_or usual key (table_view table.now)) }

@@ -24,7 +24,7 @@ far_at_some part base slot t = rw t refl
 first_more : (places : List Slot) (i : ℕ) → i < length places → first_address (drop i places) ≡ first_address (get_or places i End ∷ drop (i + 1) places)
 first_more places i h = ap first_address (drop_more places i End h)
 
--- a frame at the slot is found
+-- FAR at or after a slot is the address of the first frame there
 pub found_here : (part : PartData) (base slot place far : ℕ) → has_frame_at part base ≡ true → place < length (slots_from part base) →
     first_address (drop place (slots_from part base)) ≡ first_address (drop slot (slots_from part base)) →
     Frame far ≡ get_or (slots_from part base) place End → far ≡ far_at part base slot
@@ -32,7 +32,7 @@ found_here part base slot place far t h same e =
     let there : first_address (drop place (slots_from part base)) ≡ Some far = first_more (slots_from part base) place h ∙ rw (← e) refl in
     sym (far_at_some part base slot t ∙ ap (λ o. unwrap_or o (last_address part)) (sym same ∙ there))
 
--- past the last slot it is the last address
+-- FAR at or after a slot past the last one is the last address
 pub far_past : (part : PartData) (base slot place : ℕ) → has_frame_at part base ≡ true → length (slots_from part base) ≤ place →
     first_address (drop place (slots_from part base)) ≡ first_address (drop slot (slots_from part base)) → last_address part ≡ far_at part base slot
 far_past part base slot place t h same =
@@ -70,7 +70,8 @@ AddressFrom : List Slot → ℕ → Option ℕ → Type 0
 AddressFrom places n None = HasNoAddress places n
 AddressFrom places n (Some far) = IsFirstAddress places n far
 
--- with a slot before them: from slot m of all on there is what there is from slot n of the others on
+-- slots with one slot before them: from slot m of all on there is the first address that there is from slot n of the
+-- others on
 slot_put_before : (slot : Slot) (places : List Slot) (n m : ℕ) (o : Option ℕ) → m ≤ suc n → ((i : ℕ) → m ≤ suc i → n ≤ i) → (m ≡ 0 → HasNoFrame slot) → AddressFrom places n o → AddressFrom (slot ∷ places) m o
 unfolding AddressFrom
 slot_put_before slot places n m None l back here none = at

@@ -52,7 +52,7 @@ goes_some part start now next old middle new all words rest count before stands 
 
 -- ---- the words of a frame
 
--- what comes of words that begin no frame and complete none
+-- what comes of words that complete no frame: the rest has them more, and the memory stays
 pub record Within (part : PartData) (p : PipelineData) (memory : FrameMap) (command : Command) (base : ℕ) (run : List ℕ) (source : Option (List ℕ)) (given : ℕ) (words : List ℕ) : Type 0 where
   pub stands : StandsFor part (record p { rest = p.rest ++ words }) command base (onto words run) source given
   pub lands : Lands part base run (onto words run) memory memory
@@ -100,7 +100,7 @@ prefix_of (w ∷ v ∷ words) h =
     let f : Front (v ∷ words) = prefix_of (v ∷ words) (omega arith) in
     record { prefix = w ∷ f.prefix; last = f.last; are = ap (λ t. w ∷ t) f.are }
 
--- what comes of a whole frame's words
+-- what comes of words that are all taken: the flow with them, and the frames that land
 pub record Whole (part : PartData) (q : PipelineData) (old new : FrameMap) (command : Command) (base : ℕ) (run : List ℕ) (source : Option (List ℕ)) (given : ℕ) (frame : List ℕ) : Type 0 where
   pub stands : StandsFor part q command base (onto frame run) source given
   pub lands : Lands part base run (onto frame run) old new
@@ -139,13 +139,13 @@ whole part p q old new command base run source given frame s begins wide slot e 
 
 -- ---- frames one after the other
 
--- whatever flow the pipeline stood for, `words` are whole frames that came of it
+-- whatever flow the pipeline stood for, it took all of `words`, which are whole frames
 abbrev pub WritesFrames : PartData → PipelineData → PipelineData → FrameMap → FrameMap → List ℕ → Type 0
 WritesFrames part p q old new words =
     (command : Command) (base : ℕ) (run : List ℕ) (source : Option (List ℕ)) (given : ℕ) → StandsFor part p command base run source given →
     Whole part q old new command base run source given words
 
-onto_more : (first second run : List ℕ) → onto (first ++ second) run ≡ onto second (onto first run)
+pub onto_more : (first second run : List ℕ) → onto (first ++ second) run ≡ onto second (onto first run)
 onto_more [] second run = refl
 onto_more (w ∷ first) second run = onto_more first second (w ∷ run)
 
@@ -161,7 +161,7 @@ went_more part p q r old middle new first second all e before later command base
       passes = ap (λ t. (run_written part base run t).fault) e ∙ ap (λ (x : RunWritten). x.fault) (written_some part base run first second a.passes) ∙ b.passes;
     }
 
--- one word
+-- a word that isn't refused is written
 pub passes_one : (part : PartData) (base w : ℕ) (run : List ℕ) → None ≡ write_fault part base run → (run_written part base run (w ∷ [])).fault ≡ None
 passes_one part base w run e = passes_next part base w run [] e (ap (λ (x : RunWritten). x.fault) (written_end part base (w ∷ run)))
 
@@ -221,7 +221,7 @@ pub goes_through : (part : PartData) (start now : PipelineData) (old new : Frame
     ReachesRun part start now old new all (words_of_bytes (drop at bs)) (at / 4) → length bs ≤ at → ReachesRun part start now old new all [] (at / 4)
 goes_through part start now old new all bs at goes h = rw (ap words_of_bytes (sym (drop_all at bs h))) goes
 
--- the word that is next
+-- the first word of bytes, and the words after it
 pub record Next (bs : List ℕ) : Type 0 where
   pub word : ℕ
   pub later : List ℕ

@@ -32,7 +32,7 @@ use Rattle.x7_pipeline.specs.Flow.{Flow, HoldsFlow}
 use Rattle.x7_pipeline.proofs.RunLemmas.{rest_goes_on, rest_completes, frames_completes, length_run}
 use Rattle.x7_pipeline.proofs.SlotLemmas.{no_slots}
 use Rattle.x7_pipeline.proofs.FarLemmas.{far_at_none, far_at_some, far_stands}
-use Rattle.x7_pipeline.proofs.ReadLemmas.{read_slot_pad, read_slot_frame}
+use Rattle.x7_pipeline.proofs.ReadLemmas.{read_slot_pad, read_slot_frame, commute}
 
 -- ---- a run is its whole frames and a rest
 
@@ -197,9 +197,6 @@ far_begun part base given run r g =
     let at : max (length (frames_of width run)) (given / width) - 1 ≡ 0 = omega arith in
     ap (far_at part base) at ∙ loaded_at part base (has_frame_at part base) refl
 
-commute : (a b n : ℕ) → a * b ≤ n → b * a ≤ n
-commute a b n h = grind (arith, h)
-
 many_frames : (part : PartData) (base given : ℕ) → 0 < frame_words part → readback_end part base ≤ given → 1 + length (slots_from part base) ≤ given / frame_words part
 unfolding readback_end
 many_frames part base given some h =
@@ -341,7 +338,7 @@ far_at_end part base i j true t h k =
     far_at_some part base i t ∙ ap (λ o. unwrap_or o (last_address part)) (none_after (slots_from part base) i h (last_slot part base) ∙ sym (none_after (slots_from part base) j k (last_slot part base)))
     ∙ sym (far_at_some part base j t)
 
--- and would leave FAR as it is
+-- a refused word would leave FAR as it is
 pub refused_far : (part : PartData) (base : ℕ) (run : List ℕ) (word given : ℕ) (fault : RunFault) → write_fault part base run ≡ Some fault → far_of part base (word ∷ run) given ≡ far_of part base run given
 unfolding write_fault far_of
 refused_far part base [] word given fault e =

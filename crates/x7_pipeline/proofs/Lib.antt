@@ -2,7 +2,7 @@ mod FlowLemmas
 pub mod RunLemmas
 pub mod SlotLemmas
 mod FarLemmas
-mod FrameLemmas
+pub mod FrameLemmas
 mod ReadLemmas
 pub mod StateLemmas
 pub mod LawLemmas

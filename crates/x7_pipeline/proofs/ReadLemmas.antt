@@ -26,7 +26,7 @@ pub read_slot_pad : (part : PartData) (base place : ℕ) → place < frame_words
 unfolding read_slot
 read_slot_pad part base place h = ap (λ i. get_or (Pad ∷ slots_from part base) i End) (div-eq_of_lt h)
 
--- before any word it is the pad
+-- before any word of a readback was given, its slot is the pad
 pub first_slot : (part : PartData) (base : ℕ) → 0 < frame_words part → Pad ≡ read_slot part base (given_stored part base 0)
 first_slot part base some = sym (read_slot_pad part base (given_stored part base 0) (omega arith))
 
@@ -75,10 +75,10 @@ no_end (Pad ∷ places) zero n h e = cc
 no_end (Pad ∷ places) (suc i) n h e = no_end places i n (omega arith) e
 no_end (End ∷ places) i n h e = n
 
-commute : (a b n : ℕ) → a * b ≤ n → b * a ≤ n
+pub commute : (a b n : ℕ) → a * b ≤ n → b * a ≤ n
 commute a b n h = grind (arith, h)
 
--- the slots end where the limit is
+-- from the limit on there is no slot
 pub past_limit : (part : PartData) (base place : ℕ) → 0 < frame_words part → readback_end part base ≤ place → read_slot part base place ≡ End
 unfolding read_slot readback_end
 past_limit part base place some h =
@@ -119,11 +119,11 @@ passed part base given n width w = rw w (lesser given n (frame_words part * (1 +
     lesser : (g n limit : ℕ) → min (min g limit + n) limit ≡ min (g + n) limit
     lesser g n limit = omega arith
 
--- at the end the stored count stands still
+-- past the last slot the stored count stands still
 pub stands_still : (part : PartData) (base given : ℕ) → 0 < frame_words part → read_slot part base (given_stored part base given) ≡ End → given_stored part base given ≡ given_stored part base (given + 1)
 stands_still part base given some e = let high = at_end part base (given_stored part base given) some e in omega arith
 
--- and before the end it is the count
+-- before the end the stored count goes up by one for each word
 pub goes_up : (part : PartData) (base given : ℕ) → 0 < frame_words part → (read_slot part base (given_stored part base given) ≡ End → ⊥) → given_stored part base given + 1 ≡ given_stored part base (given + 1)
 goes_up part base given some n =
     elim (cases_lt given (readback_end part base)) [

@@ -94,7 +94,7 @@ taken_back part (Some a) old new o n c = λ far. by far (frame_at part old a) re
       | inr apart ↦ ap (λ (b : Bool). option_or (if b then Some w else None) (frame_at part new far)) (ne_eqb far a apart) ∙ other far apart
     ]
 
--- a copy that isn't refused changes the address where it is foreseen
+-- a copy that isn't refused puts a frame at the address that `next_put` gives
 copy_at : (part : PartData) (p : PipelineData) (m s b : Bool) → is_mfw p.command ≡ m → is_some p.source ≡ s → has_frame_at part p.base ≡ b → (if m && s then (if b then None else Some (Address p.base)) else Some Multi) ≡ None
     → next_put part p ≡ Some p.base
 copy_at part p true true true e f g q = rw (e, f, g) refl
@@ -118,7 +118,7 @@ lands_none part base run longer old new same l = λ far.
     let none : l.added ≡ [] = append_cancel_right l.added [] (written_frames part base run) (sym l.grows ∙ same) in
     l.memory far ∙ ap (λ (ps : List PlanRow). put_over ps old far) none
 
--- where all frames of a run land but those to come, the newest one is put at its slot
+-- where a longer run has written all whole frames of a run, the memory changed at the newest one's slot at most
 lands_newest : (part : PartData) (base : ℕ) (run longer : List ℕ) (frames : List (List ℕ)) (n : ℕ) (old new : FrameMap) → frames_of (frame_words part) run ≡ frames → n ≡ length frames
     → written_frames part base longer ≡ in_slots (slots_from part base) frames → Lands part base run longer old new → ChangesAt (address_at_slot (if n == 0 then Pad else get_or (slots_from part base) (n - 1) End)) old new
 unfolding written_frames in_slots

@@ -48,7 +48,7 @@ pub begins_at : (part : PartData) (p q : PipelineData) (command : Command) (base
 begins_at part p q command base run source given at s e =
     rw e (begins part (record p { base = at; rest = []; newest = None; frame_count = 0; given = 0; slot = Pad }) command at source s.some_words s.width_is s.far_width_is s.command_is refl refl refl refl s.source_is refl refl)
 
--- and under another command, with another source
+-- a run that begins at FAR as read, under another command, with the source that this leaves
 pub begins_under : (part : PartData) (p q : PipelineData) (old new : Command) (base : ℕ) (run : List ℕ) (source : Option (List ℕ)) (given at : ℕ) → StandsFor part p old base run source given →
     q ≡ record p { command = new; base = at; rest = []; newest = None; frame_count = 0; source = source_with p.command new p.newest; given = 0; slot = Pad } →
     at ≡ far_of part base run given → StandsFor part q new (far_of part base run given) [] (source_after part old new run) 0
@@ -131,7 +131,7 @@ at_slot_more (Frame far) words pairs = refl
 at_slot_more Pad words pairs = refl
 at_slot_more End words pairs = refl
 
--- the frames now land but the newest, whatever their number
+-- a longer run that has written all whole frames of a run lands just the newest of them
 lands_by : (part : PartData) (base : ℕ) (run longer : List ℕ) (frames : List (List ℕ)) (old new : FrameMap) → frames_of (frame_words part) run ≡ frames →
     written_frames part base longer ≡ in_slots (slots_from part base) frames → (newest_of frames ≡ None → HaveSameFrames new old) →
     ((frame : List ℕ) → newest_of frames ≡ Some frame → HaveSameFrames new (put_over (at_slot (get_or (slots_from part base) (length frames - 1) End) frame []) old)) → Lands part base run longer old new
@@ -169,25 +169,25 @@ pub put_nothing : (old new : FrameMap) → HaveSameFrames new old → HaveSameFr
 unfolding planned
 put_nothing old new same = same
 
--- a frame at an address
+-- the frame of a slot put at its address
 pub put_frame : (slot : Slot) (far : ℕ) (frame : List ℕ) (old new : FrameMap) → Frame far ≡ slot → ((a : ℕ) → new a ≡ (if a == far then Some frame else old a)) → HaveSameFrames new (put_over (at_slot slot frame []) old)
 unfolding planned
 put_frame slot far frame old new e put = rw (← e) (override_one old new far frame put)
 
--- a slot of no frame
+-- at a slot of no frame nothing is put
 pub put_no_frame : (slot : Slot) (frame : List ℕ) (old new : FrameMap) → ((far : ℕ) → slot ≡ Frame far → ⊥) → HaveSameFrames new old → HaveSameFrames new (put_over (at_slot slot frame []) old)
 put_no_frame (Frame far) frame old new none same = absurd (none far refl)
 put_no_frame Pad frame old new none same = put_nothing old new same
 put_no_frame End frame old new none same = put_nothing old new same
 
--- a copy
+-- a copy puts the source at the base
 pub put_copy : (base at : ℕ) (source : Option (List ℕ)) (frame : List ℕ) (old new : FrameMap) → at ≡ base → source ≡ Some frame → ((a : ℕ) → new a ≡ (if a == at then Some frame else old a)) → HaveSameFrames new (put_over (copied_pairs base source) old)
 unfolding planned
 put_copy base at source frame old new b e put = rw (e, ← b) (override_one old new at frame put)
 
 -- ---- faults
 
--- the first word at what is no address
+-- a base that is no address is refused
 pub address_refused : (part : PartData) (base : ℕ) → has_frame_at part base ≡ false → Some (Address base) ≡ address_fault part base
 unfolding address_fault
 address_refused part base f = rw f refl
@@ -304,7 +304,7 @@ pub drop_none : (part : PartData) (base given count : ℕ) → count ≡ 0 → N
 unfolding drop_fault
 drop_none part base given count z = rw (eq-eqb count 0 z) refl
 
--- what changes by words that were given
+-- words given by a readback change the count and the slot alone
 reads : (part : PartData) (p q : PipelineData) (command : Command) (base : ℕ) (run : List ℕ) (source : Option (List ℕ)) (given more at : ℕ) (slot : Slot) → StandsFor part p command base run source given →
     q ≡ record p { given = at; slot = slot } → at ≡ given_stored part base more → slot ≡ read_slot part base (given_stored part base more) → StandsFor part q command base run source more
 reads part p q command base run source given more at slot s e g t =
@@ -323,7 +323,7 @@ reads part p q command base run source given more at slot s e g t =
       slot_is = t;
     })
 
--- words more were given
+-- n words more were given by a readback
 pub reads_on : (part : PartData) (p q : PipelineData) (n at : ℕ) (command : Command) (base : ℕ) (run : List ℕ) (source : Option (List ℕ)) (given : ℕ) → StandsFor part p command base run source given →
     at ≡ min (p.given + n) (p.width * (1 + length (slots_from part p.base))) → q ≡ record p { given = at; slot = get_or (Pad ∷ slots_from part p.base) (at / p.width) End } → StandsFor part q command base run source (given + n)
 unfolding read_slot
@@ -352,7 +352,7 @@ steps_over part p q command base run source given s n e =
     let g : p.given + 1 ≡ given_stored part base (given + 1) = ap (λ x. x + 1) s.given_is ∙ goes_up part base given (wide part p command base run source given s) (λ end. n (s.slot_is ∙ end)) in
     reads part p q command base run source given (given + 1) (p.given + 1) _ s e g (rw (s.base_is, s.width_is, g) refl)
 
--- the count of a part stays small
+-- a part's count of words given stays below 2^64
 pub few_given : (part : PartData) (p : PipelineData) (command : Command) (base : ℕ) (run : List ℕ) (source : Option (List ℕ)) (given : ℕ) → StandsFor part p command base run source given → IsPart part → p.given + 1 < 2 ^ 64
 unfolding readback_end
 few_given part p command base run source given s is =

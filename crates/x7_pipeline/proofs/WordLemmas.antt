@@ -56,7 +56,7 @@ goes_first part start memory all rest e command base run source given s = record
 
 -- ---- at the end
 
--- no word is left, or the next is refused
+-- what was written where no word is left, and where the next one is refused
 pub ends_whole : (part : PartData) (base : ℕ) (run longer all : List ℕ) (count : ℕ) → run_written part base run all ≡ after count (run_written part base longer []) → run_written part base run all ≡ record { run = longer; count = count; fault = None }
 ends_whole part base run longer all count e = e ∙ ap (after count) (written_end part base longer) ∙ ap (λ n. record { run = longer; count = n; fault = None }) (omega arith)
 

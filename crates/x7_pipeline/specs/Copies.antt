@@ -17,20 +17,21 @@ abbrev pub is_mfw : Command → Bool
 is_mfw Mfw = true
 is_mfw _ = false
 
--- the first of frames, which is the newest
+-- the first of frames, which is the newest, and none where there are no frames
 abbrev pub newest_of : List (List ℕ) → Option (List ℕ)
 newest_of [] = None
 newest_of (frame ∷ older) = Some frame
 
--- the source that the frame becomes: MFW right after WCFG takes it, and under other commands there is none
+-- the source that the command `new` right after `old` makes of a frame: for MFW after WCFG that frame, else none
 abbrev pub source_with : Command → Command → Option (List ℕ) → Option (List ℕ)
 source_with old new frame = if is_wcfg old && is_mfw new then frame else None
 
--- the source that a command leaves: under MFW the newest whole frame of the run that it ended, if that was one of WCFG
+-- the source that the command `new` leaves after `old`: for MFW after WCFG the newest whole frame of the run that it
+-- ended, where there is one, and else none
 unfoldable pub source_after : PartData → Command → Command → List ℕ → Option (List ℕ)
 source_after part old new run = source_with old new (newest_of (frames_of (frame_words part) run))
 
--- what a copy puts: the source at the base
+-- what a copy puts: the source at the base, and nothing without a source
 abbrev pub copied_pairs : ℕ → Option (List ℕ) → List PlanRow
 copied_pairs base None = []
 copied_pairs base (Some frame) = record { far = base; words = frame } ∷ []

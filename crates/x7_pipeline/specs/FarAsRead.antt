@@ -17,11 +17,11 @@ has_frame_at part far = nat_lt 0 (length (slots_from part far))
 abbrev pub IsBase : PartData → ℕ → Type 0
 IsBase part far = has_frame_at part far ≡ true
 
--- the base that a FAR load leaves: the bits of an address
+-- the base that a FAR load leaves: the lowest bits of the word, as many as an address has
 abbrev pub loaded_base : PartData → ℕ → ℕ
 loaded_base part word = word % 2 ^ far_width part
 
--- the first address among slots
+-- the first address among slots, none where no slot is a frame's
 abbrev pub first_address : List Slot → Option ℕ
 first_address [] = None
 first_address (Frame far ∷ slots) = Some far
@@ -32,14 +32,14 @@ first_address (End ∷ slots) = first_address slots
 abbrev pub last_address : PartData → ℕ
 last_address part = slice_index (addresses_in part) (length (addresses_in part) - 1)
 
--- the first address at or after a slot of those from the base on, and the last address where there is none; a base that
--- is no address stays as it is
+-- the first address at or after slot `slot`, from 0, of those from the base on, and the part's last address where there
+-- is none; a base that is no address stays as it is
 unfoldable pub far_at : PartData → ℕ → ℕ → ℕ
 far_at part base slot =
     if has_frame_at part base then unwrap_or (first_address (drop slot (slots_from part base))) (last_address part) else base
 
--- FAR as read, after a run from the base or `given` words of a readback: FAR stands at the slot of the newest whole
--- frame
+-- FAR as read, after a run from the base or `given` words of a readback: after n whole frames of either, a readback's
+-- pad frame counted, it stands at slot n - 1, from 0, of those from the base on, and before any whole frame at slot 0
 unfoldable pub far_of : PartData → ℕ → List ℕ → ℕ → ℕ
 far_of part base run given =
     far_at part base (max (length (frames_of (frame_words part) run)) (given / frame_words part) - 1)

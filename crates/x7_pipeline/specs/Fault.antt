@@ -10,7 +10,7 @@ use Rattle.x7_pipeline.specs.Runs.{rest_of, frames_of}
 use Rattle.x7_pipeline.specs.FarAsRead.{has_frame_at}
 use Rattle.x7_pipeline.specs.Copies.{is_mfw}
 
--- the fault of a base that is no address
+-- the fault of a base: Address where it is no address, else none
 unfoldable pub address_fault : PartData → ℕ → Option RunFault
 address_fault part base = if has_frame_at part base then None else Some (Address base)
 
@@ -35,7 +35,8 @@ unfoldable pub copy_fault : PartData → Command → ℕ → Option (List ℕ) �
 copy_fault part command base source =
     if is_mfw command && is_some source then address_fault part base else Some Multi
 
--- the fault of a read of one word or more: Address at a readback's first word where the base is no address
+-- the fault of a read of one word or more, where `given` words of the readback were read before: Address where there
+-- were none and the base is no address
 unfoldable pub readback_fault : PartData → ℕ → ℕ → Option RunFault
 readback_fault part base given = if given == 0 then address_fault part base else None
 

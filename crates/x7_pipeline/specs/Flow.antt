@@ -1,6 +1,6 @@
 -- A flow, which is what a frame pipeline stands for, and the flows that come next (UG470, frame address register and
 -- frame data registers).
-use Rattle.std.specs.Prelude.{◌≡◌, ℕ, ◌+◌, ◌-◌, ◌<◌, ◌≤◌, List, [], length, slice_index_or, Option, None, Some}
+use Rattle.std.specs.Prelude.{◌≡◌, ℕ, ◌+◌, ◌-◌, ◌<◌, ◌≤◌, List, [], length, slice_index_or, Option, None, Some, ◌/◌, ◌%◌}
 use Rattle.x7_part.specs.Part.{PartData, frame_words}
 use Rattle.x7_part.specs.Address.{far_width}
 use Rattle.x7_part.specs.Slot.{slots_from}
@@ -20,7 +20,7 @@ use Rattle.x7_pipeline.specs.Runs.{Lands, at_slot, frames_of, onto, put_over, re
 use Rattle.x7_pipeline.specs.RunWritten.{RunWritten, run_written}
 
 -- the command, the address that the run or readback began at, the words of the run (the newest first), the frame that
--- copies take, and the count of words given
+-- copies put, and how many words a readback gave
 pub record Flow : Type 0 where
   pub command : Command
   pub base : ℕ
@@ -51,7 +51,11 @@ pub record HoldsFlow (part : PartData) (pipeline : PipelineData) (f : Flow) : Ty
 abbrev pub ForEachFlow : PartData → PipelineData → (Flow → Type 0) → Type 0
 ForEachFlow part p Fact = (f : Flow) → HoldsFlow part p f → Fact f
 
--- of each flow that the old pipeline stands for, the new one stands for the next
+-- the first `count` of the bytes are whole words, one at least
+abbrev pub AreWordsTaken : ℕ → List ℕ → Type 0
+AreWordsTaken count bytes = (1 ≤ count / 4) × (count % 4 ≡ 0) × (count ≤ length bytes)
+
+-- whatever flow the old pipeline stands for, the new one stands for the flow that `next` makes of it
 abbrev pub FlowGoesOn : PartData → PipelineData → PipelineData → (Flow → Flow) → Type 0
 FlowGoesOn part old new next = ForEachFlow part old (λ f. HoldsFlow part new (next f))
 
@@ -116,7 +120,7 @@ FramesLandUpToFault part p words old new =
 
 -- ---- the newest whole frame
 
--- the newest whole frame, where there is one, was put at its slot
+-- the newest whole frame, where there is one, was put at its slot, and nowhere where that is no frame's
 abbrev pub PutsNewest : PartData → PipelineData → FrameMap → FrameMap → Type 0
 PutsNewest part p old new = (frame : List ℕ) → p.newest ≡ Some frame →
     HaveSameFrames new (put_over (at_slot (slice_index_or (slots_from part p.base) (p.frame_count - 1) End) frame []) old)

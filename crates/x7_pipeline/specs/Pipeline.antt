@@ -22,11 +22,11 @@ pub record PipelineData : Type 0 where
   pub frame_count : ℕ
   -- the frame that copies take
   pub source : Option (List ℕ)
-  -- how many words a readback gave, and the slot of its next word
+  -- how many words a readback gave, counted up to where there are zeros alone, and the slot of its next word
   pub given : ℕ
   pub slot : Slot
 
--- the pipeline is one of the part: its frames have the part's words, and its addresses the part's bits
+-- the pipeline is one of the part: its frames have as many words as the part's, and its addresses as many bits
 abbrev pub IsPipelineOf : PartData → PipelineData → Type 0
 IsPipelineOf part pipeline = (pipeline.width ≡ frame_words part) × (pipeline.far_width ≡ far_width part)
 
@@ -39,7 +39,8 @@ pub record AreOfPart (part : PartData) (p : PipelineData) (frames : List (List �
 abbrev pub given_after : PartData → PipelineData → ℕ → ℕ
 given_after part p n = min (p.given + n) (p.width * (1 + length (slots_from part p.base)))
 
--- the slot of the next word of a readback that gave `given` words: one pad frame, then the slots from the base on
+-- the slot of the next word of a readback that gave `given` words: one pad frame, the slots from the base on, and then
+-- `End`
 abbrev pub slot_given : PartData → PipelineData → ℕ → Slot
 slot_given part p given = slice_index_or (Pad ∷ slots_from part p.base) (given / p.width) End
 

@@ -7,22 +7,22 @@ use Rattle.x7_part.specs.declared.slot.Slot.TheVariants.{Frame, Pad, End}
 use Rattle.x7_memory.specs.FrameMap.{FrameMap}
 use Rattle.x7_part.specs.Slot.{slots_from}
 
--- the word of a frame, 0 where there is no frame
+-- word `i`, from 0, of a frame, and 0 where there is no frame
 abbrev pub word_in_frame : Option (List ℕ) → ℕ → ℕ
 word_in_frame (Some words) i = slice_index words i
 word_in_frame None i = 0
 
--- the word of the frame at a slot: 0 at a pad and past the last slot
+-- word `i`, from 0, of the frame at a slot: 0 at a pad, past the last slot and where the memory has no frame
 abbrev pub word_at : Slot → FrameMap → ℕ → ℕ
 word_at (Frame far) memory i = word_in_frame (memory far) i
 word_at Pad memory i = 0
 word_at End memory i = 0
 
--- the slot of a place of the endless list: one pad frame, then the slots from the base on
+-- the slot of a place, from 0, of the endless list: one pad frame, the slots from the base on, and then `End`
 unfoldable pub read_slot : PartData → ℕ → ℕ → Slot
 read_slot part base place = slice_index_or (Pad ∷ slots_from part base) (place / frame_words part) End
 
--- the word at a place of the endless list
+-- the word at a place, from 0, of the endless list
 unfoldable pub readback_at : PartData → ℕ → FrameMap → ℕ → ℕ
 readback_at part base memory place = word_at (read_slot part base place) memory (place % frame_words part)
 

@@ -6,7 +6,7 @@ use Rattle.x7_pipeline.specs.Runs.{onto}
 use Rattle.x7_pipeline.specs.Fault.{write_fault}
 
 -- what writing words leaves: the run with the words before the refused one, how many words were looked at, the refused
--- one included, and its fault
+-- one included, and its fault, none where no word was refused
 pub record RunWritten : Type 0 where
   pub run : List ℕ
   pub count : ℕ

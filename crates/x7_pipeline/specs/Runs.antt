@@ -15,7 +15,7 @@ unfoldable pub rest_of : ℕ → List ℕ → List ℕ
 rest_of width [] = []
 rest_of width (w ∷ run) = if length (rest_of width run) + 1 == width then [] else rest_of width run ++ w ∷ []
 
--- the whole frames of a run, the newest first
+-- the whole frames of a run, the newest first, each with its words in the order in which they came
 unfoldable pub frames_of : ℕ → List ℕ → List (List ℕ)
 frames_of width [] = []
 frames_of width (w ∷ run) =
@@ -46,7 +46,7 @@ older_frames [] = []
 older_frames (frame ∷ older) = older
 
 -- what a run has put from its base, the address at which it begins, the newest pair of address and frame first: each
--- whole frame but the newest, at its slot
+-- whole frame but the newest, at its slot, and none at a pad or past the last slot
 unfoldable pub written_frames : PartData → ℕ → List ℕ → List PlanRow
 written_frames part base run = in_slots (slots_from part base) (older_frames (frames_of (frame_words part) run))
 

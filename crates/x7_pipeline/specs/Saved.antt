@@ -21,16 +21,16 @@ address_at_slot (Frame far) = Some far
 address_at_slot Pad = None
 address_at_slot End = None
 
--- the slot of the newest whole frame
+-- the slot of the newest whole frame, a pad where there is none
 abbrev pub newest_slot : PartData → PipelineData → Slot
 newest_slot part p = if p.frame_count == 0 then Pad else slice_index_or (slots_from part p.base) (p.frame_count - 1) End
 
--- the address where the next word would put a frame: a word that completes a frame puts the whole frame before it, at
--- that frame's slot
+-- the address where the next word would put a frame, none where it would put none: a word that completes a frame puts
+-- the whole frame before that one, at its slot
 abbrev pub put_by_word : PartData → PipelineData → Option ℕ
 put_by_word part p = if length p.rest + 1 == p.width then address_at_slot (newest_slot part p) else None
 
--- the address where a copy would put a frame: the base, where that is an address
+-- the address where a copy would put a frame: the base, and none where that is no address
 abbrev pub put_by_copy : PartData → PipelineData → Option ℕ
 put_by_copy part p = if has_frame_at part p.base then Some p.base else None
 
@@ -38,7 +38,8 @@ put_by_copy part p = if has_frame_at part p.base then Some p.base else None
 abbrev pub may_copy : PipelineData → Bool
 may_copy p = is_mfw p.command && is_some p.source
 
--- the address where the next word, or under MFW with a source the next copy, would put a frame
+-- the address where the next word, or under MFW with a source the next copy, would put a frame, none where it would put
+-- none
 abbrev pub next_put : PartData → PipelineData → Option ℕ
 next_put part p = if may_copy p then put_by_copy part p else put_by_word part p
 
@@ -59,7 +60,7 @@ pub record SavedState : Type 0 where
   pub pipeline : PipelineData
   pub pair : List PlanRow
 
--- the pair as the fields hold it
+-- the pair that a saved state's fields hold: this address and these words where `has_frame`, else none
 abbrev pub pair_seen : Bool → ℕ → List ℕ → List PlanRow
 pair_seen has_frame far words = if has_frame then record { far = far; words = words } ∷ [] else []
 
@@ -68,7 +69,8 @@ pub record IsPairOf (part : PartData) (row : PlanRow) : Type 0 where
   pub address : Contains (addresses_in part) row.far
   pub width : length row.words ≡ frame_words part
 
--- the saved state is one of pipelines and memories of the part
+-- the saved pipeline is one of the part, and the saved pair, where there is one, a frame of the part at one of its
+-- addresses
 pub record IsSavedOf (part : PartData) (s : SavedState) : Type 0 where
   pub pipeline_fits : IsPipelineOf part s.pipeline
   pub pair_fits : AllByRecursion (IsPairOf part) s.pair
@@ -85,6 +87,6 @@ pub record HaveChangedAt (part : PartData) (at : Option ℕ) (old new : List (Li
   pub new_are : AreFramesOf part new
   pub changes : ChangesAt at (frame_at part old) (frame_at part new)
 
--- the map changes just where the next word or copy would put a frame
+-- the map changes at most where the next word or copy would put a frame
 abbrev pub ChangesNext : PartData → PipelineData → FrameMap → FrameMap → Type 0
 ChangesNext part p old new = ChangesAt (next_put part p) old new

@@ -47,7 +47,8 @@ pub fn words_go_up_to_the_first_refused()
         HasFirstRefused part base run words fault }
 {}
 
-/// MFW right after WCFG takes the newest whole frame, and there is no other source.
+/// MFW right after WCFG takes the run's newest whole frame, where it has one, as the source; no other two commands
+/// leave a source.
 pub fn mfw_takes_the_newest_frame()
     ensures taken { (part : PartData) (run : List ℕ) → source_after part Command.Wcfg Command.Mfw run ≡ newest_of (frames_of (frame_words part) run) }
     ensures not_after { (part : PartData) (old new : Command) (run : List ℕ) → is_wcfg old ≡ false → source_after part old new run ≡ None }
@@ -55,8 +56,8 @@ pub fn mfw_takes_the_newest_frame()
 {}
 
 /// FAR as read is the base up to the first whole frame and where the base is no address. After a whole frame, or the
-/// pad frame of a readback, and `count` frames more it stands at slot `count` of those from the base on; past the limit
-/// of a readback it is the last address.
+/// pad frame of a readback, and `count` frames more it stands at slot `count`, from 0, of those from the base on; from
+/// the limit of a readback on (`readback_end`) it is the part's last address.
 pub fn far_is_read_by_slots()
     ensures loaded { (part : PartData) (base : ℕ) → far_of part base [] 0 ≡ base }
     ensures nowhere { (part : PartData) (base : ℕ) (run : List ℕ) (given : ℕ) → has_frame_at part base ≡ false → far_of part base run given ≡ base }
@@ -69,8 +70,8 @@ pub fn far_is_read_by_slots()
         far_of part base run given ≡ last_address part }
 {}
 
-/// A readback gives a frame of zeros, then the frames at the slots, then zeros. The count of words given is stored up to
-/// `readback_end`, from which on all words are zeros.
+/// A readback gives a frame of zeros, then the words at the slots from the base on, then zeros. The count of words
+/// given is stored up to `readback_end`, from which on all words are zeros.
 pub fn readbacks_give_frames_along_slots()
     ensures pad { (part : PartData) (base : ℕ) (memory : FrameMap) (i : ℕ) → i < frame_words part → readback_at part base memory i ≡ 0 }
     ensures frames { (part : PartData) (base : ℕ) (memory : FrameMap) (n i : ℕ) → i < frame_words part →
@@ -79,9 +80,9 @@ pub fn readbacks_give_frames_along_slots()
     ensures stored { (part : PartData) (base given n : ℕ) → given_stored part base (given + n) ≡ min (given_stored part base given + n) (readback_end part base) }
 {}
 
-/// A frame is at an address of the part alone. A word after the first of its run is refused by Overrun exactly where it
-/// completes a frame for which there is no slot; no written word is refused by Multi, no copy by Overrun, and a read by
-/// Address at its base alone.
+/// The part has a frame at its addresses, and nowhere else. A word after the first of its run is refused by Overrun
+/// exactly where it completes a frame for which there is no slot; no written word is refused by Multi, no copy by
+/// Overrun, and a read by nothing but Address, with its base.
 pub fn faults_come_where()
     ensures is_address { (part : PartData) (far : ℕ) → (has_frame_at part far ≡ true) ↔ Contains (addresses_in part) far }
     ensures overrun { (part : PartData) (base word newest : ℕ) (run : List ℕ) →
@@ -99,7 +100,7 @@ pub fn refused_words_change_nothing()
         far_of part base (word ∷ run) given ≡ far_of part base run given }
 {}
 
-/// Two pipelines that stand for the same are equal.
+/// Two pipelines that stand for the same flow are equal.
 pub fn pipelines_of_the_same_are_equal()
     ensures equal { (part : PartData) (p q : PipelineData) → ForEachFlow part p (λ f. HoldsFlow part q f → p ≡ q) }
 {}

@@ -15,7 +15,7 @@ ghost use Rattle.x7_pipeline.specs.Readback.{readback_at, word_at};
 ghost use Rattle.x7_pipeline.specs.Fault.{write_fault, readback_fault, drop_fault};
 ghost use Rattle.x7_pipeline.specs.Place.{StartsAt};
 ghost use Rattle.x7_pipeline.specs.Pipeline.{AreOfPart, PipelineData, IsPipelineOf, with_words_passed};
-ghost use Rattle.x7_pipeline.specs.Flow.{pairs_copied_by, fault_of_copy, FlowGoesOn, FramesLand, FramesLandUpToFault, HoldsFlow, ForEachFlow, PutsNewest, after_reads, after_words, begun_at, begun_by, first_flow, with_run, flow_written};
+ghost use Rattle.x7_pipeline.specs.Flow.{AreWordsTaken, pairs_copied_by, fault_of_copy, FlowGoesOn, FramesLand, FramesLandUpToFault, HoldsFlow, ForEachFlow, PutsNewest, after_reads, after_words, begun_at, begun_by, first_flow, with_run, flow_written};
 
 mod saved;
 
@@ -29,7 +29,7 @@ use x7_part::{Part, Slot};
 use x7_regs::Command;
 use x7_words::{NoMemory, word_of};
 
-/// The words of a run that are in no frame of the memory yet, the frame that copies take, and how far a readback is.
+/// The words of a run that are in no frame of the memory yet, the frame that copies put, and how far a readback is.
 pub struct Pipeline {
     /// The number of words of a frame.
     width: u32,
@@ -119,7 +119,8 @@ impl Pipeline {
         self.end_run();
     }
 
-    /// A FAR load: a new run begins at the address in the word's lowest bits. The source stays.
+    /// A FAR load: a new run begins at the address in the word's lowest bits, as many as an address of the part has.
+    /// The source stays.
     pub fn load(&mut self, far: u32)
         ensures stands { (part : PartData) → FlowGoesOn part self.old self.new (begun_at (loaded_base part far)) }
         ensures part { (part : PartData) → IsPipelineOf part self.old → IsPipelineOf part self.new }
@@ -128,8 +129,8 @@ impl Pipeline {
         self.end_run();
     }
 
-    /// A command: a new run begins at FAR as read. MFW right after WCFG takes the ended run's newest whole frame as the
-    /// source, and any other command leaves none.
+    /// A command: a new run begins at FAR as read. MFW right after WCFG takes the ended run's newest whole frame, if
+    /// there is one, as the source; any other command leaves none.
     pub fn command(&mut self, command: Command, part: &Part)
         ensures stands { FlowGoesOn part.now self.old self.new (begun_by part.now command) }
         ensures part { IsPipelineOf part.now self.old → IsPipelineOf part.now self.new }
@@ -150,8 +151,8 @@ impl Pipeline {
         self.slot = Slot::Pad;
     }
 
-    /// Makes the newest whole frame the source, where the new command begins copies, and else leaves none. The run has
-    /// no whole frame then.
+    /// Makes the newest whole frame the source, where the new command begins copies, and else leaves none. In either
+    /// case the run has no whole frame after it.
     fn take_source(&mut self, command: Command)
         ensures { self.new ≡ record self.old { newest = None; frame_count = 0; source = source_with self.old.command command self.old.newest } }
     {
@@ -164,7 +165,8 @@ impl Pipeline {
         self.frame_count = 0;
     }
 
-    /// One word more of a run under WCFG. A word that completes a frame puts the frame before it.
+    /// One word more of a run under WCFG. A word that completes a frame puts the frame before it. A run's first word is
+    /// refused where the base is no address (`Address`), and the last word of a frame past the last slot (`Overrun`).
     pub fn write(&mut self, word: u32, part: &Part, memory: &mut Memory) -> Result<(), RunFault>
         requires part { AreOfPart part.now self.old memory.old }
         ensures stands { OnOk result (FlowGoesOn part.now self.old self.new (after_words (word ∷ []))) }
@@ -199,7 +201,8 @@ impl Pipeline {
     }
 
     /// Writes the words of a run in order, four bytes each, the highest first, as a call of `write` for each of them up
-    /// to the first fault would. The answer is the number of words taken, a refused one included, and the fault.
+    /// to the first fault would. The answer is the number of words taken, a refused one included, and its fault, where
+    /// one is refused.
     pub fn write_bytes(
         &mut self,
         bytes: &[u8],
@@ -226,8 +229,9 @@ impl Pipeline {
         (at / 4, None)
     }
 
-    /// Writes the whole frames that come next, where none has begun, or else the next word. The answer is the number of
-    /// bytes written.
+    /// Writes the whole frames that come next, where no frame has begun, the bytes hold one and it has a slot, or else
+    /// the next word. The answer is the number of bytes written, or the fault of that word. The clauses say just that
+    /// whole words are written, one at least, of which none is refused.
     fn write_some(
         &mut self,
         bytes: &[u8],
@@ -236,7 +240,7 @@ impl Pipeline {
     ) -> Result<usize, RunFault>
         requires word { 4 ≤ length bytes.now }
         requires part { AreOfPart part.now self.old memory.old }
-        ensures words { IfOk result (λ taken. (1 ≤ taken / 4) × (taken % 4 ≡ 0) × (taken ≤ length bytes.now)) }
+        ensures words { IfOk result (λ taken. AreWordsTaken taken bytes.now) }
         ensures stands { IfOk result (λ taken. FlowGoesOn part.now self.old self.new (after_words (words_of_bytes (take taken bytes.now)))) }
         ensures lands { IfOk result (λ taken. FramesLand part.now self.old (words_of_bytes (take taken bytes.now)) memory.old memory.new) }
         ensures passes { IfOk result (λ taken. ForEachFlow part.now self.old (λ f. (flow_written part.now f (words_of_bytes (take taken bytes.now))).fault ≡ None)) }
@@ -264,14 +268,15 @@ impl Pipeline {
         self.rest.is_empty() && self.frame_count < slot_count(part, self.base)
     }
 
-    /// Writes the whole frames that come next, up to the last one that has a slot; the first one has a slot. The answer
-    /// is the number of bytes written.
+    /// Writes the whole frames that come next, up to the last one that has a slot; the first one is to have a slot. The
+    /// answer is the number of bytes written. The clauses say just that these are whole words, one at least, of which
+    /// none is refused.
     fn write_frames(&mut self, bytes: &[u8], part: &Part, memory: &mut Memory) -> usize
         requires part { AreOfPart part.now self.old memory.old }
         requires begins { self.old.rest ≡ [] }
         requires frame { 4 * self.old.width ≤ length bytes.now }
         requires slot { self.old.frame_count < length (slots_from part.now self.old.base) }
-        ensures words { (1 ≤ result / 4) × (result % 4 ≡ 0) × (result ≤ length bytes.now) }
+        ensures words { AreWordsTaken result bytes.now }
         ensures stands { FlowGoesOn part.now self.old self.new (after_words (words_of_bytes (take result bytes.now))) }
         ensures lands { FramesLand part.now self.old (words_of_bytes (take result bytes.now)) memory.old memory.new }
         ensures passes { ForEachFlow part.now self.old (λ f. (flow_written part.now f (words_of_bytes (take result bytes.now))).fault ≡ None) }
@@ -297,8 +302,9 @@ impl Pipeline {
         frame_size <= bytes_left && self.frame_count < frame_limit
     }
 
-    /// Puts the newest whole frame into the memory, and makes the frame of these bytes the newest. `first` is the number
-    /// of the base's slot, and `hint` keeps where the part looks for a slot first.
+    /// Puts the newest whole frame into the memory, and makes the frame of these bytes the newest. `first` is the
+    /// number, from 0, of the base's slot among those of the part, and `hint` keeps where the part looks for a slot
+    /// first.
     fn write_frame(
         &mut self,
         bytes: &[u8],
@@ -329,8 +335,8 @@ impl Pipeline {
         self.frame_count == 0 && self.rest.is_empty() && !has_frame_at(part, self.base)
     }
 
-    /// Puts the newest whole frame into the memory, where there is one and its slot is no pad. `first` is the number of
-    /// the base's slot, and `hint` keeps where the part looks for a slot first.
+    /// Puts the newest whole frame into the memory, where there is one and its slot is no pad. `first` is the number,
+    /// from 0, of the base's slot among those of the part, and `hint` keeps where the part looks for a slot first.
     fn put_newest(&self, first: u64, hint: &mut usize, part: &Part, memory: &mut Memory)
         requires part { AreOfPart part.now self.now memory.old }
         requires slot { self.now.frame_count < length (slots_from part.now self.now.base) }
@@ -348,7 +354,8 @@ impl Pipeline {
         }
     }
 
-    /// A word written to MFWR, which is a copy: the source is put at the base.
+    /// A word written to MFWR, which is a copy: the source is put at the base. It is refused under another command than
+    /// MFW and without a source (`Multi`), and else where the base is no address (`Address`).
     pub fn copy(&mut self, part: &Part, memory: &mut Memory) -> Result<(), RunFault>
         requires part { AreOfPart part.now self.old memory.old }
         ensures put { OnOk result (ForEachFlow part.now self.old (λ f. HaveSameFrames (frame_at part.now memory.new) (put_over (pairs_copied_by f) (frame_at part.now memory.old)))) }
@@ -381,7 +388,8 @@ impl Pipeline {
         }
     }
 
-    /// The next word of a readback under RCFG.
+    /// The next word of a readback; that RCFG is the command is the caller's to see to. The first word is refused where
+    /// the base is no address (`Address`).
     pub fn read_word(&mut self, part: &Part, memory: &Memory) -> Result<u32, RunFault>
         requires part { AreOfPart part.now self.old memory.now }
         ensures word { IfOk result (λ word. ForEachFlow part.now self.old (λ f. word ≡ readback_at part.now f.base (frame_at part.now memory.now) f.given)) }
@@ -402,7 +410,8 @@ impl Pipeline {
         Ok(word)
     }
 
-    /// The fault that the next word of a readback would have.
+    /// The fault that the next word of a readback would have: `Address` at the first one where the base is no address,
+    /// else none.
     pub fn fault_of_read(&self, part: &Part) -> Option<RunFault>
         ensures { ForEachFlow part.now self.now (λ f. result ≡ readback_fault part.now f.base f.given) }
     {
@@ -433,7 +442,8 @@ impl Pipeline {
         }
     }
 
-    /// Counts one word more that a readback gave. The slot changes at the end of a frame alone.
+    /// Counts one word more that a readback gave. The slot changes at the end of a frame alone, and past the last slot
+    /// the count stays.
     fn pass_word(&mut self, part: &Part)
         ensures stands { FlowGoesOn part.now self.old self.new (after_reads 1) }
         ensures part { IsPipelineOf part.now self.old → IsPipelineOf part.now self.new }
@@ -450,7 +460,7 @@ impl Pipeline {
         self.slot = readback_slot(part, self.base, self.given / u64::from(self.width));
     }
 
-    /// Passes over `count` words of a readback, as `count` calls of `read_word` would.
+    /// Passes over `count` words of a readback, as `count` calls of `read_word` would, up to the first fault.
     pub fn drop_words(&mut self, count: u32, part: &Part) -> Result<(), RunFault>
         ensures stands { OnOk result (FlowGoesOn part.now self.old self.new (after_reads count)) }
         ensures fault { ForEachFlow part.now self.old (λ f. result_err result ≡ drop_fault part.now f.base f.given count) }
@@ -471,7 +481,7 @@ impl Pipeline {
         Ok(())
     }
 
-    /// Counts `count` words more that a readback gave.
+    /// Counts `count` words more that a readback gave, up to where there are zeros alone.
     fn pass_words(&mut self, count: u32, part: &Part)
         ensures { self.new ≡ with_words_passed part.now self.old count }
     {

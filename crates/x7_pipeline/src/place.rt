@@ -1,4 +1,4 @@
-//! The slots from any base on, and the address at which a run stands.
+//! The slots from any base on, and the address that FAR stands at.
 ghost use Rattle.std.specs.Prelude.{◌≡◌, ◌^◌, ◌<◌, ◌∷◌, length, slice_index_or};
 ghost use Rattle.x7_part.specs.declared.slot.Slot.{Slot};
 ghost use Rattle.x7_part.specs.Slot.{slots_from};
@@ -38,7 +38,7 @@ pub(crate) fn slot_at(part: &Part, far: u32, n: u64) -> Slot
     }
 }
 
-/// The slot of frame `frame` of a readback, from 0 on: a pad, and then the slots from the address on.
+/// The slot of frame `frame` of a readback, from 0 on: a pad, the slots from the address on, and then `End`.
 pub(crate) fn readback_slot(part: &Part, far: u32, frame: u64) -> Slot
     ensures { result ≡ slice_index_or (Slot.Pad ∷ slots_from part.now far) frame Slot.End }
 {

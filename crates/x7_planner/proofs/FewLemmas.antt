@@ -11,11 +11,11 @@ use Rattle.x7_part.specs.Ranges.{IsPart}
 use Rattle.x7_part.proofs.RowLemmas.{part_rises}
 use Rattle.x7_memory.specs.Plan.{AreInOrder, PlanRow, planned_addresses}
 
--- numbers that rise after the first
+-- of numbers that rise those after the first rise from one above it
 pub rises_rest : (l y : ℕ) (ys : List ℕ) → Rises l (y ∷ ys) → Rises (y + 1) ys
 rises_rest _ _ _ (rise l y ys le more) = more
 
--- each is at least where they begin
+-- of numbers that rise from `l` on each is `l` or more
 pub rises_in : (l : ℕ) (xs : List ℕ) (x : ℕ) → Rises l xs → Contains xs x → l ≤ x
 rises_in _ _ x (risen l) (k, low, e) = absurd (omega arith)
 rises_in _ _ x (rise l y ys le more) (zero, low, e) = omega (arith, e)

@@ -11,7 +11,7 @@ use Rattle.x7_part.specs.Part.{PartData, frame_words}
 use Rattle.x7_regs.specs.declared.command.Command.TheVariants.{Mfw, Wcfg}
 use Rattle.x7_regs.specs.declared.register.Reg.TheVariants.{Far}
 use Rattle.x7_packets.specs.PacketWords.{command, frame_data_headers, write_one}
-use Rattle.x7_planner.specs.Content.{AreFirsts, AreFramesByContent, AreStarts, AreTogether, IsFirst, planned_row, planned_rows}
+use Rattle.x7_planner.specs.Content.{AreFirsts, AreFramesByContent, AreStarts, AreTogether, WordsBegin, planned_row, planned_rows}
 use Rattle.x7_planner.specs.PartialStream.{Copies, copy_words, groups_led, is_shared, is_first_of_group, rows_not_shared, section_words, with_content}
 use Rattle.x7_planner.specs.Writer.{bytes_of_words}
 use Rattle.x7_planner.specs.declared.content.PlannedFrame.{PlannedFrame}
@@ -44,10 +44,10 @@ content_pushed rows old new n c d e l p h at r m =
 
 -- ---- whether a content stands at three addresses or more
 
-pub short_group : (frames : List PlannedFrame) (words : List ℕ) (a : ℕ) → AreTogether (planned_rows frames) → IsFirst (planned_rows frames) words a → length frames - a < 3 → false ≡ nat_le 3 (length (with_content words (planned_rows frames)))
+pub short_group : (frames : List PlannedFrame) (words : List ℕ) (a : ℕ) → AreTogether (planned_rows frames) → WordsBegin (planned_rows frames) words a → length frames - a < 3 → false ≡ nat_le 3 (length (with_content words (planned_rows frames)))
 short_group frames words a t f l = sym (no_group_short (planned_rows frames) words a t f (omega (arith, l, length-map frames planned_row)))
 
-pub group_by : (frames : List PlannedFrame) (words firsts : List ℕ) (a x : ℕ) → AreTogether (planned_rows frames) → AreFirsts (planned_rows frames) firsts → IsFirst (planned_rows frames) words a → a + 2 < length frames
+pub group_by : (frames : List PlannedFrame) (words firsts : List ℕ) (a x : ℕ) → AreTogether (planned_rows frames) → AreFirsts (planned_rows frames) firsts → WordsBegin (planned_rows frames) words a → a + 2 < length frames
     → (get_or firsts (a + 2) x == a) ≡ nat_le 3 (length (with_content words (planned_rows frames)))
 group_by frames words firsts a x t m f l = by (get_or firsts (a + 2) 0 == a) refl
   where
@@ -66,25 +66,25 @@ group_by frames words firsts a x t m f l = by (get_or firsts (a + 2) 0 == a) ref
         ∙ sym (no_group (planned_rows frames) words a t f inside (λ d. place_other (planned_rows frames) words firsts a (a + 2) d t m f inside (λ h. false≢true (sym e ∙ eq-eqb (get_or firsts (a + 2) 0) a h))))
 
 -- a content's first address
-pub first_far : (frames : List PlannedFrame) (words : List ℕ) (a : ℕ) (e : PlannedFrame) → AreTogether (planned_rows frames) → IsFirst (planned_rows frames) words a → get_or (planned_addresses (with_content words (planned_rows frames))) 0 0 ≡ (get_or frames a e).far
+pub first_far : (frames : List PlannedFrame) (words : List ℕ) (a : ℕ) (e : PlannedFrame) → AreTogether (planned_rows frames) → WordsBegin (planned_rows frames) words a → get_or (planned_addresses (with_content words (planned_rows frames))) 0 0 ≡ (get_or frames a e).far
 first_far frames words a e t f =
     let l : a < length frames = (let i = f.inside in omega (arith, i, length-map frames planned_row)) in
     ap (λ (rows : List PlanRow). get_or (planned_addresses rows) 0 0) (first_of (planned_rows frames) words a (planned_row e) t f) ∙ ap (λ (r : PlanRow). r.far) (row_at frames a (planned_row e) e l)
 
-pub leads_by : (frames : List PlannedFrame) (words : List ℕ) (a far : ℕ) (e : PlannedFrame) (b : Bool) → AreTogether (planned_rows frames) → IsFirst (planned_rows frames) words a → b ≡ nat_le 3 (length (with_content words (planned_rows frames))) → b ≡ true
+pub leads_by : (frames : List PlannedFrame) (words : List ℕ) (a far : ℕ) (e : PlannedFrame) (b : Bool) → AreTogether (planned_rows frames) → WordsBegin (planned_rows frames) words a → b ≡ nat_le 3 (length (with_content words (planned_rows frames))) → b ≡ true
     → ((get_or frames a e).far == far) ≡ (nat_le 3 (length (with_content words (planned_rows frames))) && (get_or (planned_addresses (with_content words (planned_rows frames))) 0 0 == far))
 leads_by frames words a far e b t f n y = rw (sym n ∙ y) (ap (λ (x : ℕ). x == far) (sym (first_far frames words a e t f)))
 
 -- ---- a row's content
 
-pub first_at : (rows : List PlanRow) (frames : List PlannedFrame) (starts : List ℕ) (i : ℕ) (d : PlanRow) (e : ℕ) (r : PlanRow) → AreStarts rows (planned_rows frames) starts → i < length rows → get_or rows i d ≡ r → IsFirst (planned_rows frames) r.words (get_or starts i e)
+pub first_at : (rows : List PlanRow) (frames : List PlannedFrame) (starts : List ℕ) (i : ℕ) (d : PlanRow) (e : ℕ) (r : PlanRow) → AreStarts rows (planned_rows frames) starts → i < length rows → get_or rows i d ≡ r → WordsBegin (planned_rows frames) r.words (get_or starts i e)
 first_at rows frames starts i d e r s l at =
-    subst (λ (x : ℕ). IsFirst (planned_rows frames) r.words x) (get_or_default starts i 0 e (let n = s.count in omega (arith, l, n))) (subst (λ (x : PlanRow). IsFirst (planned_rows frames) x.words (get_or starts i 0)) at (s.each i d l))
+    subst (λ (x : ℕ). WordsBegin (planned_rows frames) r.words x) (get_or_default starts i 0 e (let n = s.count in omega (arith, l, n))) (subst (λ (x : PlanRow). WordsBegin (planned_rows frames) x.words (get_or starts i 0)) at (s.each i d l))
 
-pub inside_at : (frames : List PlannedFrame) (words : List ℕ) (a : ℕ) → IsFirst (planned_rows frames) words a → a < length frames
+pub inside_at : (frames : List PlannedFrame) (words : List ℕ) (a : ℕ) → WordsBegin (planned_rows frames) words a → a < length frames
 inside_at frames words a f = let i = f.inside in omega (arith, i, length-map frames planned_row)
 
-pub same_content : (rows : List PlanRow) (frames : List PlannedFrame) (words : List ℕ) (a : ℕ) → AreFramesByContent rows frames → IsFirst (planned_rows frames) words a → with_content words (planned_rows frames) ≡ with_content words rows
+pub same_content : (rows : List PlanRow) (frames : List PlannedFrame) (words : List ℕ) (a : ℕ) → AreFramesByContent rows frames → WordsBegin (planned_rows frames) words a → with_content words (planned_rows frames) ≡ with_content words rows
 same_content rows [] words a g f = absurd (let i = f.inside in omega (arith, i))
 same_content rows (c ∷ frames) words a g f =
     let l : a < length (c ∷ frames) = inside_at (c ∷ frames) words a f in
@@ -96,7 +96,7 @@ same_content rows (c ∷ frames) words a g f =
 pub not_shared_append : (all xs ys : List PlanRow) → rows_not_shared all (xs ++ ys) ≡ rows_not_shared all xs ++ rows_not_shared all ys
 not_shared_append all xs ys = filter-append (λ (row : PlanRow). not (is_shared all row)) xs ys
 
-pub not_shared_more : (rows : List PlanRow) (frames old new : List PlannedFrame) (a n : ℕ) (c : PlannedFrame) (d : PlanRow) (b : Bool) → AreFramesByContent rows frames → IsFirst (planned_rows frames) c.words.now a → n < length rows → get_or rows n d ≡ planned_row c
+pub not_shared_more : (rows : List PlanRow) (frames old new : List PlannedFrame) (a n : ℕ) (c : PlannedFrame) (d : PlanRow) (b : Bool) → AreFramesByContent rows frames → WordsBegin (planned_rows frames) c.words.now a → n < length rows → get_or rows n d ≡ planned_row c
     → b ≡ nat_le 3 (length (with_content c.words.now (planned_rows frames))) → planned_rows old ≡ rows_not_shared rows (take n rows) → new ≡ (if b then old else old ++ c ∷ []) → planned_rows new ≡ rows_not_shared rows (take (n + 1) rows)
 not_shared_more rows frames old new a n c d b g f l at e h m =
     ap planned_rows m ∙ by b (e ∙ ap (λ t. nat_le 3 (length t)) (same_content rows frames c.words.now a g f))
@@ -122,7 +122,7 @@ pub same_led : (rows rows_not_shared : List PlanRow) (r : PlanRow) → with_cont
 same_led rows rows_not_shared r e =
     ap (λ t. if nat_le 3 (length t) && (get_or (planned_addresses t) 0 0 == r.far) then Copies r.words (planned_addresses t) ∷ [] else []) e
 
-pub group_more : (part : PartData) (rows : List PlanRow) (frames : List PlannedFrame) (old mid new : List ℕ) (a n : ℕ) (r : PlanRow) (d : PlanRow) → AreFramesByContent rows frames → IsFirst (planned_rows frames) r.words a → n < length rows → get_or rows n d ≡ r
+pub group_more : (part : PartData) (rows : List PlanRow) (frames : List PlannedFrame) (old mid new : List ℕ) (a n : ℕ) (r : PlanRow) (d : PlanRow) → AreFramesByContent rows frames → WordsBegin (planned_rows frames) r.words a → n < length rows → get_or rows n d ≡ r
     → mid ≡ old ++ bytes_of_words (flat_map (section_words part) (groups_led rows (take n rows))) → new ≡ mid ++ bytes_of_words (flat_map (section_words part) (groups_led (planned_rows frames) (r ∷ [])))
     → new ≡ old ++ bytes_of_words (flat_map (section_words part) (groups_led rows (take (n + 1) rows)))
 group_more part rows frames old mid new a n r d g f l at e h =
@@ -133,12 +133,12 @@ group_more part rows frames old mid new a n r d g f l at e h =
 
 -- ---- what a group writes
 
-pub copies_begin : (frames : List PlannedFrame) (words old : List ℕ) (a : ℕ) → AreTogether (planned_rows frames) → IsFirst (planned_rows frames) words a
+pub copies_begin : (frames : List PlannedFrame) (words old : List ℕ) (a : ℕ) → AreTogether (planned_rows frames) → WordsBegin (planned_rows frames) words a
     → old ≡ old ++ bytes_of_words (flat_map copy_words (planned_addresses (with_content words (take a (planned_rows frames)))))
 copies_begin frames words old a t f =
     sym (ap (λ x. old ++ bytes_of_words (flat_map copy_words (planned_addresses x))) (none_before (planned_rows frames) words a t f) ∙ append-nil old)
 
-pub copies_more : (frames : List PlannedFrame) (words firsts old mid new : List ℕ) (a k x : ℕ) (e : PlannedFrame) → AreFirsts (planned_rows frames) firsts → IsFirst (planned_rows frames) words a → k < length frames → get_or firsts k x ≡ a
+pub copies_more : (frames : List PlannedFrame) (words firsts old mid new : List ℕ) (a k x : ℕ) (e : PlannedFrame) → AreFirsts (planned_rows frames) firsts → WordsBegin (planned_rows frames) words a → k < length frames → get_or firsts k x ≡ a
     → mid ≡ old ++ bytes_of_words (flat_map copy_words (planned_addresses (with_content words (take k (planned_rows frames))))) → new ≡ mid ++ bytes_of_words (copy_words (get_or frames k e).far)
     → new ≡ old ++ bytes_of_words (flat_map copy_words (planned_addresses (with_content words (take (k + 1) (planned_rows frames)))))
 copies_more frames words firsts old mid new a k x e f g l y h m =
@@ -156,7 +156,7 @@ copies_more frames words firsts old mid new a k x e f g l y h m =
     ∙ ap (λ t. flat_map copy_words (planned_addresses (with_content words (take k rows))) ++ t) (append-nil (copy_words r.far)) in
     written_on old mid new (flat_map copy_words (planned_addresses (with_content words (take k rows)))) (copy_words r.far) h m ∙ ap (λ t. old ++ bytes_of_words t) (sym all)
 
-pub copies_end : (frames : List PlannedFrame) (words firsts old new : List ℕ) (a k x : ℕ) → AreTogether (planned_rows frames) → AreFirsts (planned_rows frames) firsts → IsFirst (planned_rows frames) words a → a ≤ k → k < length frames
+pub copies_end : (frames : List PlannedFrame) (words firsts old new : List ℕ) (a k x : ℕ) → AreTogether (planned_rows frames) → AreFirsts (planned_rows frames) firsts → WordsBegin (planned_rows frames) words a → a ≤ k → k < length frames
     → (get_or firsts k x ≡ a → ⊥) → new ≡ old ++ bytes_of_words (flat_map copy_words (planned_addresses (with_content words (take k (planned_rows frames)))))
     → new ≡ old ++ bytes_of_words (flat_map copy_words (planned_addresses (with_content words (planned_rows frames))))
 copies_end frames words firsts old new a k x t m f l inner n h =

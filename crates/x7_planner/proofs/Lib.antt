@@ -1,7 +1,7 @@
 mod AddressLemmas
 mod SlotLemmas
 mod FullStreamPiecesLemmas
-pub mod ContentLemmas
+mod ContentLemmas
 mod GroupLemmas
 pub mod FewLemmas
 pub mod RunLemmas

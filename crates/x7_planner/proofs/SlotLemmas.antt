@@ -54,7 +54,7 @@ pub slots_none : (part : PartData) (plan : PlanData) (old : List ℕ) (start : �
 slots_none part plan old start =
     sym (ap (λ (t : List Slot). old ++ bytes_of_words (words_of_slots part plan t)) (drop_of_length-le (take start (slots_in part)) (omega (arith, length-take start (slots_in part)))) ∙ append-nil old)
 
--- how many words the slots have
+-- n is the number of a part's slots, `most_slots` at most, of `w` words each, `most_words` together at most
 pub record IsFew (part : PartData) (w n : ℕ) : Type 0 where
   pub words : w * n ≤ most_words
   pub count : n ≡ length (slots_in part)
@@ -66,7 +66,7 @@ few_slots part first w n is f e g =
     let same : w * n ≡ frame_words part * (length (addresses_in part) + pads_after_row * length part.rows) = ap (λ (k : ℕ). k * n) e ∙ ap (λ (k : ℕ). frame_words part * k) (count ∙ slots_number part) in
     record { words = omega (arith, same, is.slots); count = count; most = omega (arith, count, slots_number part, is.frames, is.few) }
 
--- how many words a readback has
+-- a readback of n slots has fewer than 2^27 words, its frame of zeros too
 pub read_fits : (part : PartData) (address w n : ℕ) → IsPart part → Contains (addresses_in part) address → w ≤ most_frame_words → n ≤ length (from_address address (slots_in part)) → (n ≤ most_slots) × (w * (n + 1) < 2 ^ 27)
 read_fits part address w n is has narrow within =
     let split = slots_split part address has in

@@ -34,27 +34,30 @@ pub record AreFramesByContent (rows : List PlanRow) (frames : List PlannedFrame)
   pub placed : All (IsPlaced rows) frames
   pub each : (i : ℕ) → i < length rows → Contains (map (λ c. c.row) frames) i
 
--- `start` is the place of the first of the rows that have these words, which stand together
-pub record IsFirst (rows : List PlanRow) (words : List ℕ) (start : ℕ) : Type 0 where
+-- rows with these words begin at place `start`, from 0: the row there has them, and the row before it, if any, has
+-- others; where rows with equal words stand together, that row is the first with these words
+pub record WordsBegin (rows : List PlanRow) (words : List ℕ) (start : ℕ) : Type 0 where
   pub inside : start < length rows
   pub has : (d : PlanRow) → (slice_index_or rows start d).words ≡ words
   pub before : (d : PlanRow) → 0 < start → (slice_index_or rows (start - 1) d).words ≢ words
 
--- `start` is the first place with the words of the row before `place`, and 0 where `place` is 0
+-- `start` is where rows with the words of the row before place `place`, from 0, begin (`WordsBegin`), and 0 where
+-- `place` is 0; it is `place` at most
 pub record IsStartBefore (rows : List PlanRow) (start place : ℕ) : Type 0 where
   pub no_later : start ≤ place
   pub none : place ≡ 0 → start ≡ 0
-  pub first : (d : PlanRow) → 0 < place → IsFirst rows (slice_index_or rows (place - 1) d).words start
+  pub first : (d : PlanRow) → 0 < place → WordsBegin rows (slice_index_or rows (place - 1) d).words start
 
--- for each place `firsts` has the first place with the same words
+-- for each row `firsts` has, at the row's place, where rows with its words begin (`WordsBegin`)
 pub record AreFirsts (rows : List PlanRow) (firsts : List ℕ) : Type 0 where
   pub count : length firsts ≡ length rows
-  pub each : (k : ℕ) (d : PlanRow) → k < length rows → IsFirst rows (slice_index_or rows k d).words (slice_index_or firsts k 0)
+  pub each : (k : ℕ) (d : PlanRow) → k < length rows → WordsBegin rows (slice_index_or rows k d).words (slice_index_or firsts k 0)
 
--- for each row of the plan `starts` has the first place of its words among the rows by content
+-- for each row of the plan `starts` has, at the row's place, where rows with its words begin among the rows by content
+-- (`WordsBegin`)
 pub record AreStarts (rows by_content : List PlanRow) (starts : List ℕ) : Type 0 where
   pub count : length starts ≡ length rows
-  pub each : (i : ℕ) (d : PlanRow) → i < length rows → IsFirst by_content (slice_index_or rows i d).words (slice_index_or starts i 0)
+  pub each : (i : ℕ) (d : PlanRow) → i < length rows → WordsBegin by_content (slice_index_or rows i d).words (slice_index_or starts i 0)
 
 -- a plan's frames by content: equal ones stand together, and it is known where the content of each frame, and of each
 -- row of the plan, begins
@@ -68,5 +71,5 @@ pub record AreByContent (rows : List PlanRow) (b : ByContent) : Type 0 where
 pub record BeginsAt (b : ByContent) (words : List ℕ) (start : ℕ) : Type 0 where
   pub together : AreTogether (planned_rows b.frames.now)
   pub firsts : AreFirsts (planned_rows b.frames.now) b.firsts.now
-  pub first : IsFirst (planned_rows b.frames.now) words start
+  pub first : WordsBegin (planned_rows b.frames.now) words start
   pub inside : start < length b.frames.now

@@ -7,7 +7,7 @@ use Rattle.x7_memory.specs.Plan.{AreAddressed, PlanRow, PlanData}
 use Rattle.x7_planner.specs.declared.fault.PlanFault.{PlanFault}
 use Rattle.x7_planner.specs.declared.fault.PlanFault.TheVariants as fault
 
--- `address` is that of the first row whose address the part lacks
+-- `address` is that of the first planned frame whose address the part lacks
 pub record IsFirstForeign (part : PartData) (rows : List PlanRow) (address : ℕ) : Type 0 where
   pub before : List PlanRow
   pub row : PlanRow
@@ -17,13 +17,14 @@ pub record IsFirstForeign (part : PartData) (rows : List PlanRow) (address : ℕ
   pub foreign : ¬ Contains (addresses_in part) row.far
   pub address_is : address ≡ row.far
 
--- n slots can be read from an address: at least one, and no more than there are
+-- n slots can be read from an address: it is the part's, and n is at least one, and no more than there are slots from
+-- it on
 pub record CanRead (part : PartData) (address n : ℕ) : Type 0 where
   pub has : Contains (addresses_in part) address
   pub at_least_one : 0 < n
   pub within : n ≤ length (slots_from part address)
 
--- n slots can't be read from an address of the part: n is 0, or more than there are
+-- n is 0, or more than there are slots from the address on; from an address that the part lacks there are none
 abbrev pub IsOutOfRange : PartData → ℕ → ℕ → Type 0
 IsOutOfRange part address n = (n ≡ 0) ⊎ (length (slots_from part address) < n)
 

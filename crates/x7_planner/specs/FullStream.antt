@@ -18,7 +18,7 @@ use Rattle.x7_planner.specs.Writer.{StreamPiece, Words, Check, opening_words, st
 abbrev pub zero_frame : PartData → List ℕ
 zero_frame part = replicate (frame_words part) 0
 
--- what stands at a slot: the planned frame, and zeros at a pad and at an unplanned address
+-- what stands at a slot: the planned frame, and zeros at a pad, at an unplanned address and past the last slot
 abbrev pub frame_at_slot : PartData → PlanData → Slot → List ℕ
 frame_at_slot part plan (Frame address) = unwrap_or (planned plan.rows address) (zero_frame part)
 frame_at_slot part plan Pad = zero_frame part
@@ -32,18 +32,18 @@ most_slots = most_frames + pads_after_row * most_rows
 abbrev pub words_of_slots : PartData → PlanData → List Slot → List ℕ
 words_of_slots part plan places = flat_map (frame_at_slot part plan) places
 
--- what a full stream writes between its opening words and the frame data: SHUTDOWN, RCRC, the IDCODE, the settings of
--- startup, WCFG, the first address, and the headers of the frame data
+-- what a full stream writes between its opening words and the frame data: SHUTDOWN, RCRC, a no-op, the IDCODE, COR0,
+-- MASK and CTL0, WCFG, the part's first address, and the headers of the frame data
 abbrev pub full_settings : PartData → List ℕ
 full_settings part =
     command Shutdown ++ (command Rcrc ++ (no_op ∷ (write_one Idcode part.idcode ++ (write_one Cor0 cor0_word ++ (write_one Mask ctl0_mask_word ++ (write_one Ctl0 ctl0_word
     ++ (command Wcfg ++ (write_one Far (slice_index (addresses_in part) 0) ++ frame_data_headers (frame_words part * length (slots_in part))))))))))
 
--- what stands before the frame data
+-- what stands before the frame data of a full stream
 abbrev pub full_opening : PartData → List ℕ
 full_opening part = opening_words ++ full_settings part
 
--- the end of frame data, and the start of the device
+-- LFRM, which ends the frame data, and START
 abbrev pub start_words : List ℕ
 start_words = command Lfrm ++ command Start
 
@@ -51,7 +51,7 @@ start_words = command Lfrm ++ command Start
 abbrev pub full_ending_no_ops : ℕ
 full_ending_no_ops = 16
 
--- the end of the session, and no-ops
+-- DESYNC, which ends the session, and no-ops
 abbrev pub full_ending : List ℕ
 full_ending = command Desync ++ replicate full_ending_no_ops no_op
 

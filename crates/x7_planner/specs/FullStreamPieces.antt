@@ -19,7 +19,7 @@ pub record FullStreamState : Type 0 where
   pub next_piece : NextPiece
   pub checker : PieceCheckerState
 
--- what a full stream has before slot n: its opening, and the frame data of the slots before that one
+-- what a full stream has before slot n, from 0: its opening, and the frame data of the slots before that one
 abbrev pub pieces_to : PartData → PlanData → ℕ → List StreamPiece
 pieces_to part plan n = Words (full_opening part) ∷ Words (words_of_slots part plan (take n (slots_in part))) ∷ []
 
@@ -42,7 +42,7 @@ abbrev pub slot_next : NextPiece → ℕ
 slot_next (next.Slot n) = n
 slot_next _ = 0
 
--- at most how many calls append a piece, where this is next, by the number of slots
+-- a bound on the calls that still append a piece, where `next` is the next one, of a part with `slots` slots
 abbrev pub calls_from : ℕ → NextPiece → ℕ
 calls_from slots next.Opening = slots + 6
 calls_from slots (next.Slot n) = slots - n + 5
@@ -52,7 +52,7 @@ calls_from slots next.LastCheck = 2
 calls_from slots next.Desync = 1
 calls_from slots next.Nothing = 0
 
--- at most how many calls of `put_next` still append a piece
+-- a bound on the calls of `put_next` that still append a piece
 abbrev pub puts_left : FullStreamState → ℕ
 puts_left s = calls_from (length (slots_in s.part)) s.next_piece
 
@@ -61,8 +61,8 @@ pub record IsFullStream (s : FullStreamState) : Type 0 where
   pub width : s.plan.width ≡ frame_words s.part
   pub inside : slot_next s.next_piece ≤ length (slots_in s.part)
 
--- of the stream the bytes `given` were written: they stand before what is next and were taken by the check, and the rest
--- is left
+-- of the stream the bytes `given` were written: they stand before what is next and were taken by the check, and the
+-- rest is left
 pub record HasGiven (s : FullStreamState) (given : List ℕ) : Type 0 where
   pub before : given ≡ stream_of (pieces_before s.part s.plan s.next_piece)
   pub checked : HasTaken s.checker given
@@ -89,7 +89,8 @@ settings_size = 4 * 19
 abbrev pub opening_size : ℕ
 opening_size = 4 * 10 + settings_size
 
--- there are at most this many bytes more; or there was no room for that many more, and the old bytes still stand first
+-- there are at most `most` bytes more; or the call failed: there was no spare room for that many before, and the old
+-- bytes still stand first; in no case does the capacity fall
 pub record AppendsWithin {T : Type 0} (old new : Vec ℕ Global) (result : Result T NoMemory) (most : ℕ) : Type 0 where
   pub within : OnOk result (length new.items ≤ length old.items + most)
   pub failed : OnErr result (take (length old.items) new.items ≡ old.items)
@@ -102,7 +103,8 @@ pub record AppendsNext (s : FullStreamState) (given old new : List ℕ) : Type 0
   pub adds : new ≡ old ++ piece
   pub more : HasGiven s (given ++ piece)
 
--- the piece that is next was appended to bytes, and `after` is next then
+-- the piece that is next was appended to bytes, and `after` is next then, with fewer calls left, unless nothing was
+-- next
 pub record WritesPiece (s : FullStreamState) (old new : List ℕ) (after : NextPiece) : Type 0 where
   pub piece : List ℕ
   pub adds : new ≡ old ++ piece

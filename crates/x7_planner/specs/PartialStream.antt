@@ -43,7 +43,8 @@ is_shared all r = are_shared all r.words
 abbrev pub is_first_of_group : List PlanRow → PlanRow → Bool
 is_first_of_group all r = is_shared all r && (slice_index (addresses_with r.words all) 0 == r.far)
 
--- the groups that rows lead among all rows, in order
+-- the groups of all rows whose first row is one of `rows`, in the order of these; a group is a content that stands at
+-- `least_group_size` addresses or more, with these addresses
 abbrev pub groups_led : List PlanRow → List PlanRow → List Section
 groups_led all [] = []
 groups_led all (r ∷ rows) =
@@ -59,11 +60,13 @@ is_frame address (Frame a) = a == address
 is_frame address Pad = false
 is_frame address End = false
 
--- the second address is the next of the first, in the same row
+-- the slot right after that of the first address is the frame at the second one, the next address of the same row of
+-- the part
 abbrev pub follows : PartData → ℕ → ℕ → Bool
 follows part a b = is_frame b (slot_after part a 1)
 
--- runs with a row more before them, which joins the first of them where that follows it
+-- runs with a planned frame more before them: it joins the first run where the first address of that run follows its
+-- own
 abbrev pub with_row : PartData → PlanRow → List (List PlanRow) → List (List PlanRow)
 with_row part r [] = (r ∷ []) ∷ []
 with_row part r ([] ∷ runs) = (r ∷ []) ∷ runs
@@ -81,11 +84,11 @@ pub record IsRunLength (part : PartData) (rows : List PlanRow) (count : ℕ) : T
   pub joined : (k : ℕ) (d : PlanRow) → k + 1 < count → follows part (slice_index_or rows k d).far (slice_index_or rows (k + 1) d).far ≡ true
   pub ends : (d : PlanRow) → count < length rows → follows part (slice_index_or rows (count - 1) d).far (slice_index_or rows count d).far ≡ false
 
--- the groups, and then the runs
+-- the sections of a plan's rows: the groups, and then the runs of the other rows
 abbrev pub sections_of : PartData → List PlanRow → List Section
 sections_of part rows = groups_led rows rows ++ map Rows (runs_of part (rows_not_shared rows rows))
 
--- a copy of the frame to an address
+-- what copies the source to an address: a FAR load, and a word of MFWR
 abbrev pub copy_words : ℕ → List ℕ
 copy_words address = write_one Far address ++ write_one Mfwr 0
 
@@ -93,8 +96,8 @@ copy_words address = write_one Far address ++ write_one Mfwr 0
 abbrev pub frames_words : List PlanRow → List ℕ
 frames_words rows = flat_map (λ row. row.words) rows
 
--- the words of a section: a content at its first address, and copies of it; or frames from an address on, and a frame
--- of zeros
+-- the words of a section: a content at its first address, and copies of it to each of its addresses, the first too; or
+-- frames from an address on, and a frame of zeros
 abbrev pub section_words : PartData → Section → List ℕ
 section_words part (Copies words fars) =
     command Wcfg ++ (write_one Far (slice_index fars 0) ++ (frame_data_headers (frame_words part) ++ (words ++ (command Mfw ++ flat_map copy_words fars))))
@@ -102,11 +105,11 @@ section_words part (Rows rows) =
     command Wcfg ++ (write_one Far (slice_index (planned_addresses rows) 0)
     ++ (frame_data_headers (frame_words part * (length rows + 1)) ++ (frames_words rows ++ zero_frame part)))
 
--- what a partial stream begins with, before the groups
+-- what a partial stream begins with, before its sections
 abbrev pub partial_opening : PartData → List ℕ
 partial_opening part = opening_words ++ (command Rcrc ++ (no_op ∷ write_one Idcode part.idcode))
 
--- the words of the groups that rows lead among all rows of a plan
+-- the words of the groups of all rows of a plan whose first row is one of `rows`
 abbrev pub groups_words : PartData → List PlanRow → List PlanRow → List ℕ
 groups_words part all rows = flat_map (section_words part) (groups_led all rows)
 
@@ -154,7 +157,7 @@ abbrev pub first_far : List PlanRow → ℕ
 first_far [] = 0
 first_far (r ∷ run) = r.far
 
--- each run's addresses follow one another
+-- the rows are a run: there are some, and their addresses follow one another
 abbrev pub IsRunOfRows : PartData → List PlanRow → Type 0
 IsRunOfRows part [] = ⊥
 IsRunOfRows part (r ∷ []) = Unit {0}

@@ -1,11 +1,11 @@
--- The settings of startup that a full stream writes (UG470, configuration options register 0 and control register 0;
--- their values are this project's choice).
+-- The words of COR0, MASK and CTL0 that a full stream writes (UG470, configuration options register 0, control register
+-- 0 and its mask register; their values are this project's choice).
 use Rattle.std.specs.Prelude.{ℕ, ◌+◌, ◌*◌, ◌^◌}
 use Rattle.x7_regs.specs.Control.{config_fallback, glutmask_b, gts_user_b}
 use Rattle.x7_regs.specs.StartupOptions.{done_cycle, done_pipe, gts_cycle, gwe_cycle, lock_cycle, match_cycle}
 
--- COR0 02003FE5: DONE_PIPE; DONE_CYCLE has DONE rise in phase 4, GTS_CYCLE GTS_CFG_B in phase 5, GWE_CYCLE GWE in phase
--- 6; MATCH_CYCLE and LOCK_CYCLE wait for nothing
+-- COR0 02003FE5: DONE_PIPE is 1; DONE rises in phase 4 (DONE_CYCLE), GTS_CFG_B in phase 5 (GTS_CYCLE), GWE in phase 6
+-- (GWE_CYCLE); no phase waits (MATCH_CYCLE, LOCK_CYCLE)
 abbrev pub cor0_word : ℕ
 cor0_word =
     2 ^ done_pipe + 3 * 2 ^ done_cycle + 7 * 2 ^ match_cycle + 7 * 2 ^ lock_cycle + 4 * 2 ^ gts_cycle + 5 * 2 ^ gwe_cycle

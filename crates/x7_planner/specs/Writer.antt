@@ -7,7 +7,7 @@ use Rattle.x7_regs.specs.declared.register.Reg.TheVariants.{Crc}
 use Rattle.x7_packets.specs.PacketWords.{bus_width_detect, bus_width_sync, dummy_word, no_op, sync_word, write_one}
 use Rattle.x7_crc.specs.Checker.{check_of_bytes}
 
--- words, or a write of the running check of all words before it
+-- words, or a write to CRC of the running check of all bytes before it
 pub data StreamPiece : Type 0 where
   Words : (ws : List ℕ) → StreamPiece
   Check : StreamPiece
@@ -16,11 +16,11 @@ pub data StreamPiece : Type 0 where
 abbrev pub bytes_of_words : List ℕ → List ℕ
 bytes_of_words ws = flat_map bytes_of_word ws
 
--- the running check written to CRC
+-- the words that write the running check to CRC
 abbrev pub check_words : ℕ → List ℕ
 check_words check = write_one Crc check
 
--- what each stream begins with: dummy words, the bus width pattern, the sync word and a no-op
+-- what each planned stream begins with: dummy words, the bus width pattern, the sync word and a no-op
 abbrev pub opening_words : List ℕ
 opening_words = dummy_word ∷ dummy_word ∷ dummy_word ∷ dummy_word ∷ bus_width_sync ∷ bus_width_detect ∷ dummy_word ∷ dummy_word ∷ sync_word ∷ no_op ∷ []
 

@@ -1,12 +1,12 @@
 //! A plan's frames by content: equal ones together, and where each content begins.
 ghost use Rattle.std.specs.Prelude.{◌≡◌, ℕ, ◌<◌, ◌≤◌, bytes_eq, length, slice_index_or, IfOk};
 ghost use Rattle.x7_memory.specs.Plan.{PlanRow};
-ghost use Rattle.x7_planner.specs.Content.{AreFirsts, AreFramesByContent, AreStarts, IsStartBefore, IsFirst, planned_rows};
+ghost use Rattle.x7_planner.specs.Content.{AreFirsts, AreFramesByContent, AreStarts, IsStartBefore, WordsBegin, planned_rows};
 
 use std::alloc::{AllocError, Global};
 use x7_memory::Plan;
 
-/// A planned frame with its address, and the place of its row in the plan.
+/// A planned frame with its address, and its place, from 0, in the plan.
 #[derive(Clone, Copy)]
 pub(crate) struct PlannedFrame<'p> {
     pub(crate) far: u32,
@@ -21,7 +21,7 @@ pub(crate) struct ByContent<'p> {
     pub(crate) frames: &'p [PlannedFrame<'p>],
     /// For each frame of `frames` the place of the first that is equal to it.
     pub(crate) firsts: &'p [usize],
-    /// For each row of the plan the place of the first of `frames` that is equal to the row's.
+    /// For each planned frame, in the plan's order, the place of the first of `frames` that is equal to it.
     pub(crate) starts: &'p [usize],
 }
 
@@ -32,7 +32,7 @@ pub(crate) fn have_same_words(a: &[u32], b: &[u32]) -> bool
     a == b
 }
 
-/// The frames of all rows, in the plan's order.
+/// All planned frames, in the plan's order.
 fn frames_of(alloc: Global, plan: &Plan) -> Result<Vec<PlannedFrame<'_>>, AllocError>
     ensures rows { IfOk result (λ frames. planned_rows frames.items ≡ plan.now.rows) }
     ensures places { IfOk result (λ frames. (i : ℕ) (d : PlannedFrame) → i < length frames.items → (slice_index_or frames.items i d).row ≡ i) }
@@ -47,7 +47,7 @@ fn frames_of(alloc: Global, plan: &Plan) -> Result<Vec<PlannedFrame<'_>>, AllocE
     Ok(frames)
 }
 
-/// The frames of all rows: equal ones together, and these in the plan's order.
+/// All planned frames: equal ones together, and these in the plan's order.
 pub(crate) fn frames_by_content(
     alloc: Global,
     plan: &Plan,
@@ -60,11 +60,11 @@ pub(crate) fn frames_by_content(
 }
 
 /// The place of the first frame that is equal to the one at `place`. `start` is the place of the first that is equal to
-/// the frame before.
+/// the frame before `place`, 0 where `place` is 0.
 fn start_at(frames: &[PlannedFrame], start: usize, place: usize) -> usize
     requires start { IsStartBefore (planned_rows frames.now) start place }
     requires inside { place < length frames.now }
-    ensures first { (d : PlanRow) → IsFirst (planned_rows frames.now) (slice_index_or (planned_rows frames.now) place d).words result }
+    ensures first { (d : PlanRow) → WordsBegin (planned_rows frames.now) (slice_index_or (planned_rows frames.now) place d).words result }
     ensures within { result ≤ place }
 {
     if have_same_words(frames[place].words, frames[start].words) {
@@ -86,8 +86,8 @@ pub(crate) fn firsts_of(alloc: Global, frames: &[PlannedFrame]) -> Result<Vec<us
     Ok(firsts)
 }
 
-/// For each row of a plan the place of the first frame that is equal to the row's, by `firsts`, which has it for each
-/// frame.
+/// For each planned frame, in the plan's order, the place of the first of `frames` that is equal to it, by `firsts`,
+/// which has that place for each of `frames`.
 pub(crate) fn starts_of(
     alloc: Global,
     plan: &Plan,

@@ -10,7 +10,7 @@ pub enum PlanFault {
     /// The plan has no frame.
     #[error("the plan has no frame")]
     Empty,
-    /// The first address that the part lacks.
+    /// The part lacks this address: the first such of a plan, or that of a readback.
     #[error("the part has no frame at {0:08X}")]
     Foreign(u32),
     /// The count of slots that can't be read: 0, or more than there are from the address on.

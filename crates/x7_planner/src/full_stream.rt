@@ -67,8 +67,8 @@ fn slot_count(part: &Part) -> u64
     part.slots_from(first_address(part))
 }
 
-/// Writes what stands between the opening words and the frame data: SHUTDOWN, RCRC, the IDCODE, the settings of startup,
-/// WCFG, the first address, and the headers of the frame data.
+/// Writes what stands between the opening words and the frame data: SHUTDOWN, RCRC, a no-op, the IDCODE, COR0, MASK and
+/// CTL0, WCFG, the part's first address, and the headers of the frame data.
 fn put_settings(out: &mut Vec<u8>, part: &Part) -> Result<(), NoMemory>
     ensures appends { OnOk result (out.new.items ≡ out.old.items ++ bytes_of_words (full_settings part.now)) }
     ensures within { AppendsWithin out.old out.new result settings_size }
@@ -90,7 +90,7 @@ fn put_settings(out: &mut Vec<u8>, part: &Part) -> Result<(), NoMemory>
     )
 }
 
-/// Writes what stands before the frame data.
+/// Writes what stands before the frame data of a full stream.
 fn put_opening(out: &mut Vec<u8>, part: &Part) -> Result<(), NoMemory>
     ensures appends { OnOk result (out.new.items ≡ out.old.items ++ bytes_of_words (full_opening part.now)) }
     ensures within { AppendsWithin out.old out.new result opening_size }
@@ -116,7 +116,7 @@ pub(crate) fn zeros(count: u32) -> &'static [u32]
     first_words(&ZEROS, count)
 }
 
-/// The frame at a slot.
+/// What stands at a slot: the planned frame, and zeros at a pad and at an unplanned address.
 fn frame_at<'p>(part: &Part, plan: &'p Plan, slot: Slot) -> &'p [u32]
     requires { plan.now.width ≡ frame_words part.now }
     ensures words { result.now ≡ frame_at_slot part.now plan.now slot }
@@ -132,7 +132,7 @@ fn frame_at<'p>(part: &Part, plan: &'p Plan, slot: Slot) -> &'p [u32]
     }
 }
 
-/// Writes the frames of the slots from one place to another.
+/// Writes the frames of the slots from number `from` up to the one before number `to`. Slots count from 0.
 fn put_slots(
     out: &mut Vec<u8>,
     part: &Part,
@@ -158,15 +158,15 @@ fn put_slots(
 pub enum NextPiece {
     /// What stands before the frame data.
     Opening,
-    /// The frames from this slot on.
+    /// The frames from the slot of this number on, from 0, those of pads among them.
     Slot(u64),
     /// The check after the frame data.
     Check,
-    /// The end of frame data, and the start of the device.
+    /// LFRM, which ends the frame data, and START.
     Start,
     /// The check after the start of the device.
     LastCheck,
-    /// The end of the session.
+    /// DESYNC, which ends the session, and no-ops.
     Desync,
     /// Nothing: all is written.
     Nothing,
@@ -193,7 +193,8 @@ impl<'p> Model for FullStream<'p> {
 }
 
 impl<'p> FullStream<'p> {
-    /// The full stream of a plan, of which nothing is written yet. A plan has the part's width.
+    /// The full stream of a plan, of which nothing is written yet. The plan's frames must have as many words as the
+    /// part's. The fault is `Foreign`, with the plan's first address that the part lacks.
     pub fn new(part: &'p Part, plan: &'p Plan) -> Result<FullStream<'p>, PlanFault>
         requires width { plan.now.width ≡ frame_words part.now }
         ensures stream { IfOk result (λ stream. HasGiven stream []) }
@@ -214,7 +215,8 @@ impl<'p> FullStream<'p> {
     }
 
     /// Appends the next piece, of 160 slots at most, and says whether there was one; after the last there is none for
-    /// good. After an error nothing was appended, and the same piece is next.
+    /// good. An error comes only where `out` has no room for `PIECE_LIMIT` bytes more; then nothing was appended, and
+    /// the same piece is next.
     pub fn put_next(&mut self, out: &mut Vec<u8>) -> Result<bool, NoMemory>
         ensures more { (given : List ℕ) → HasGiven self.old given → IfOk result (λ more. more ≡ true → AppendsNext self.new given out.old.items out.new.items) }
         ensures fewer { IfOk result (λ more. more ≡ true → puts_left self.new < puts_left self.old) }
@@ -291,8 +293,9 @@ impl<'p> FullStream<'p> {
     }
 }
 
-/// The stream that writes the planned frames and zeros at all other addresses, and then starts the device. A plan has
-/// the part's width. Memory is wanting only where there is such a stream.
+/// The stream that writes the planned frames and zeros at all other addresses, and then starts the device. The plan's
+/// frames must have as many words as the part's. `Foreign` is the plan's first address that the part lacks. `NoMemory`
+/// comes only where there is such a stream.
 pub fn full(alloc: Global, part: &Part, plan: &Plan) -> Result<Vec<u8>, PlanFault>
     requires width { plan.now.width ≡ frame_words part.now }
     ensures stream { IfOk result (λ bytes. bytes.items ≡ full_stream part.now plan.now) }
@@ -309,7 +312,7 @@ pub fn full(alloc: Global, part: &Part, plan: &Plan) -> Result<Vec<u8>, PlanFaul
     Ok(out)
 }
 
-/// Appends all pieces of a stream that has written nothing.
+/// Appends the pieces that are left of a stream of which `out` has all those before.
 fn put_all(stream: FullStream<'_>, out: &mut Vec<u8>) -> Result<(), NoMemory>
     requires given { HasGiven stream out.old.items }
     ensures { OnOk result (out.new.items ≡ full_stream stream.entry.part stream.entry.plan) }

@@ -1,4 +1,5 @@
-//! Contents at three addresses or more, which are written once and copied.
+//! Contents at three addresses or more, which are written once and copied. A content's `start` is the place of its
+//! first frame among the `frames` of a `ByContent`.
 ghost use Rattle.std.specs.Prelude.{◌≡◌, ◌++◌, if◌then◌else◌, [], ◌∷◌, IfOk, OnOk};
 ghost use Rattle.std.specs.List.{flat_map};
 ghost use Rattle.x7_planner.specs.Content.{AreByContent, BeginsAt, planned_rows, rows_by_content};
@@ -29,8 +30,8 @@ fn are_shared(by_content: &ByContent<'_>, start: usize, _words: &[u32]) -> bool
     by_content.firsts[start + (LEAST_GROUP_SIZE - 1)] == start
 }
 
-/// Whether the row at an address is the first of three or more with its content, which begins at `start`. `_words` is
-/// for the contract alone.
+/// Whether the planned frame at an address is the first of three or more with its content, which begins at `start`.
+/// `_words` is for the contract alone.
 fn is_first_of_group(by_content: &ByContent<'_>, start: usize, far: u32, _words: &[u32]) -> bool
     requires { BeginsAt by_content.now _words.now start }
     ensures { result ≡ is_first_of_group (rows_by_content by_content.now) record { far = far; words = _words.now } }
@@ -67,7 +68,7 @@ fn put_copies(
     Ok(())
 }
 
-/// Writes the content that begins at `start` at its first address, and copies of it.
+/// Writes the content that begins at `start` at its first address, and copies it to each of its addresses.
 fn put_group(
     out: &mut Vec<u8>,
     part: &Part,
@@ -92,7 +93,7 @@ fn put_group(
     put_copies(out, by_content, start, words)
 }
 
-/// Writes the group that the row at an address leads, if it leads one. The row's content begins at `start`.
+/// Writes the group that the planned frame at an address leads, if it leads one. The frame's content begins at `start`.
 fn put_led_group(
     out: &mut Vec<u8>,
     part: &Part,
@@ -110,7 +111,7 @@ fn put_led_group(
     put_group(out, part, by_content, start, words)
 }
 
-/// Writes the groups of a plan in order.
+/// Writes the groups of a plan in the order of their first frames.
 pub(crate) fn put_groups(
     out: &mut Vec<u8>,
     part: &Part,

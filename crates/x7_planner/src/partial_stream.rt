@@ -25,7 +25,7 @@ use x7_words::NoMemory;
 /// For how many words there is room at first: those of a small partial stream. A larger one makes more room.
 const SMALL_STREAM_WORDS: usize = 1024;
 
-/// Writes what stands before the groups.
+/// Writes what stands before the groups of a partial stream.
 fn put_opening(out: &mut Vec<u8>, part: &Part) -> Result<(), NoMemory>
     ensures { OnOk result (out.new.items ≡ with_piece out.old.items (Words (partial_opening part.now))) }
 {
@@ -35,7 +35,7 @@ fn put_opening(out: &mut Vec<u8>, part: &Part) -> Result<(), NoMemory>
     put_words(out, &write_one(Reg::Idcode, part.idcode()))
 }
 
-/// Writes the runs of the rows of a plan whose content no group has.
+/// Writes the runs of the planned frames whose content no group has.
 fn put_alone(
     alloc: Global,
     out: &mut Vec<u8>,
@@ -110,7 +110,8 @@ fn partial_of(alloc: Global, part: &Part, plan: &Plan) -> Result<Vec<u8>, NoMemo
 }
 
 /// The stream that writes the planned frames alone: contents at three addresses or more by copies, the others in runs.
-/// A plan has the part's width. Memory is wanting only where there is such a stream.
+/// The plan's frames must have as many words as the part's. `Empty` says that the plan has no frame, `Foreign` is its
+/// first address that the part lacks. `NoMemory` comes only where there is such a stream.
 pub fn partial(alloc: Global, part: &Part, plan: &Plan) -> Result<Vec<u8>, PlanFault>
     requires width { plan.now.width ≡ frame_words part.now }
     ensures stream { IfOk result (λ bytes. bytes.items ≡ partial_stream part.now plan.now.rows) }

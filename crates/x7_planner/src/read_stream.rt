@@ -46,7 +46,8 @@ fn read_of(alloc: Global, far: u32, word_count: u32) -> Result<Vec<u8>, NoMemory
     Ok(out)
 }
 
-/// The stream that reads back `slot_count` slots from an address on, after a frame of zeros. Memory is wanting only
+/// The stream that reads back `slot_count` slots from an address on, after a frame of zeros. `Foreign` is the address
+/// where the part lacks it, `Range` the count where it is 0 or more than the slots from there on. `NoMemory` comes only
 /// where these slots can be read.
 pub fn readback(alloc: Global, part: &Part, far: u32, slot_count: u32) -> Result<Vec<u8>, PlanFault>
     ensures stream { IfOk result (λ bytes. bytes.items ≡ read_stream part.now far slot_count) }

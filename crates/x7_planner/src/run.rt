@@ -14,7 +14,7 @@ use x7_part::{Part, Slot};
 use x7_regs::{Command, Reg};
 use x7_words::NoMemory;
 
-/// Whether the second address is the next of the first, in the same row.
+/// Whether `next` is the part's address after `far`, in the same row of the part.
 fn follows(part: &Part, far: u32, next: u32) -> bool
     requires { Contains (addresses_in part.now) far }
     ensures { result ≡ follows part.now far next }
@@ -25,7 +25,7 @@ fn follows(part: &Part, far: u32, next: u32) -> bool
     address == next
 }
 
-/// How many frames the longest run has that frames begin with.
+/// How many frames the longest run has with which these frames begin.
 fn run_length(part: &Part, frames: &[PlannedFrame]) -> usize
     requires at_least_one { 0 < length frames.now }
     requires addresses { All (λ row. Contains (addresses_in part.now) row.far) (planned_rows frames.now) }

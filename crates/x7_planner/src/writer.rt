@@ -19,7 +19,7 @@ pub(crate) const OPENING_WORDS: [u32; 10] = [
 /// How many no-ops a partial stream and a read stream end with.
 pub(crate) const ENDING_NO_OPS: usize = 4;
 
-/// Appends words, the highest byte first. After an error nothing was appended.
+/// Appends words, the highest byte of each first. After an error nothing was appended.
 pub(crate) fn put_words(out: &mut Vec<u8>, words: &[u32]) -> Result<(), NoMemory>
     ensures appends { OnOk result (out.new.items ≡ out.old.items ++ bytes_of_words words.now) }
     ensures length { OnOk result (length out.new.items ≡ length out.old.items + 4 * length words.now) }

@@ -5,7 +5,7 @@ use Rattle.std.proofs.Math.Seq.{take-add, take-length}
 use Rattle.std.proofs.lemmas.List.{take-append-drop}
 use Rattle.x7_words.specs.Input.{taken_bytes_limit}
 use Rattle.x7_words.specs.Word.{AreBytes}
-use Rattle.x7_words.proofs.ListLemmas.{all_append, all_back, all_prefix, all_take}
+use Rattle.x7_words.proofs.ListLemmas.{all_append, all_back, all_prefix, all_take, taken_and_left}
 use Rattle.x7_part.specs.Part.{PartData}
 use Rattle.x7_engine.specs.declared.fed.Fed.{Fed}
 use Rattle.x7_engine.specs.declared.fed.Fed.TheVariants as fed
@@ -179,19 +179,15 @@ pub on_on : (p q r : Player) (first second : List ℕ) → PlaysOn p q first →
 on_on p q r first second a b = λ part bytes h. subst (λ x. HasPlayed part x r) (append_assoc bytes first second) (b part (bytes ++ first) (a part bytes h))
 
 -- what a player was given, by whether it is over
-pub is_over : (over : Bool) (part : PartData) (bytes : List ℕ) (s : PlayState) → over ≡ true → HasPlayedBy over part bytes s → ReadsOver part bytes
-is_over true part bytes s e h = h
-is_over false part bytes s e h = absurd (cc)
+pub is_over_limit : (over : Bool) (part : PartData) (bytes : List ℕ) (s : PlayState) → over ≡ true → HasPlayedBy over part bytes s → ReadsOver part bytes
+is_over_limit true part bytes s e h = h
+is_over_limit false part bytes s e h = absurd (cc)
 
 pub not_over : (over : Bool) (part : PartData) (bytes : List ℕ) (s : PlayState) → over ≡ false → HasPlayedBy over part bytes s → HasPlayedBy false part bytes s
 not_over false part bytes s e h = h
 not_over true part bytes s e h = absurd (cc)
 
 -- ---- the turns of a feed
-
--- what is left of a piece after a place
-whole_piece : (bytes piece : List ℕ) (at : ℕ) → (bytes ++ take at piece) ++ drop at piece ≡ bytes ++ piece
-whole_piece bytes piece at = append_assoc bytes (take at piece) (drop at piece) ∙ ap (λ x. bytes ++ x) (take-append-drop at piece)
 
 more_piece : (bytes piece : List ℕ) (at n : ℕ) → (bytes ++ take at piece) ++ take n (drop at piece) ≡ bytes ++ take (at + n) piece
 more_piece bytes piece at n = append_assoc bytes (take at piece) (take n (drop at piece)) ∙ ap (λ x. bytes ++ x) (sym (take-add at n piece))
@@ -206,7 +202,7 @@ turn_over part bytes piece at n d e reads more fb fp s still known many =
     let rest = rest_of_turn part (bytes ++ take at piece) (drop at piece) n d reads s still in
     record {
       fits = fits;
-      many = over_limit part e (bytes ++ piece) reads more (s.taken ++ take n (drop at piece)) rest.0 fits (sym (whole_piece bytes piece at) ∙ rest.1) (known ∙ ap (λ x. x ++ more) (sym s.reads_are)) many;
+      many = over_limit part e (bytes ++ piece) reads more (s.taken ++ take n (drop at piece)) rest.0 fits (sym (taken_and_left bytes piece at) ∙ rest.1) (known ∙ ap (λ x. x ++ more) (sym s.reads_are)) many;
     }
 
 pub turn_full : (part : PartData) (bytes piece : List ℕ) (at n : ℕ) (d e : DeviceState) (reads now more : List ℕ) → AreBytes piece → (s : DevicePlayed part (bytes ++ take at piece) d reads) → DeviceStandsFor part on_the_bench false e (s.taken ++ take n (drop at piece))
@@ -224,7 +220,7 @@ pub turn_end : (part : PartData) (bytes piece : List ℕ) (at : ℕ) (d e : Devi
     → DevicePlayed part (bytes ++ piece) e now × NoWordDue e
 turn_end part bytes piece at d e read reads now more f fp s end still stands answer known is few =
     let words : now ≡ reads_given part on_the_bench e (s.taken ++ take (taken_in (length (drop at piece)) f) (drop at piece)) = is ∙ ap (λ x. x ++ more) s.reads_are ∙ sym known in
-    subst (λ b. DevicePlayed part b e now × NoWordDue e) (whole_piece bytes piece at)
+    subst (λ b. DevicePlayed part b e now × NoWordDue e) (taken_and_left bytes piece at)
     (fed_end part (bytes ++ take at piece) (drop at piece) d e read reads now f s end (rest_fits piece at fp) still stands answer words few)
 
 -- a player that is over stays so

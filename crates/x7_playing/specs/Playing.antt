@@ -57,7 +57,7 @@ HasPlayedBy false part bytes s = DevicePlayed part bytes s.device s.reads × NoW
 
 -- a player with a device of this part, on the bench, was given these bytes; it may be over
 abbrev pub HasPlayed : PartData → List ℕ → Player → Type 0
-HasPlayed part bytes p = HasPlayedBy p.is_over part bytes (play_state p.device p.buffer p.reads.items)
+HasPlayed part bytes p = HasPlayedBy p.is_over_limit part bytes (play_state p.device p.buffer p.reads.items)
 
 -- the player was given these bytes more; it may be over before or after them
 abbrev pub PlaysOn : Player → Player → List ℕ → Type 0
@@ -89,7 +89,7 @@ MayPlayBy over s count = (part : PartData) × ((bytes : List ℕ) × (HasPlayedB
 
 -- a player may be given `count` bytes more, which with all before are no more than a device counts
 abbrev pub MayPlay : Player → ℕ → Type 0
-MayPlay p count = MayPlayBy p.is_over (play_state p.device p.buffer p.reads.items) count
+MayPlay p count = MayPlayBy p.is_over_limit (play_state p.device p.buffer p.reads.items) count
 
 -- The rest of the open stream was played, as `WasPlayed` says, and read to its end, as `IsRest` says; of `limit` bytes
 -- it leaves `left`.
@@ -100,8 +100,9 @@ PlaysRest limit left WasPlayed IsRest = (more : List ℕ) × (length more + left
 abbrev pub PlaysStreams : PartData → Player → InputsState → InputsState → List (List ℕ) → Type 0
 PlaysStreams part player old new names = (bytes : List ℕ) × HasPlayed part bytes player × ReadsStreams old new names (Ok bytes)
 
--- The data of a stream were played, as `WerePlayed` says, and are what a step reads, as `IsRead` says; of `limit` bytes
--- the stream, its header included, leaves `left` for the next streams.
+-- The data of a stream were played, as `WerePlayed` says, and a step reads them and leaves room for `left` bytes, as
+-- `IsRead` says. The data and `left` are at most `limit` bytes together: fewer where the stream has a header, which
+-- counts too.
 pub record PlaysStream (limit left : ℕ) (WerePlayed : List ℕ → Type 0) (IsRead : Result StreamRead Event → Type 0) : Type 0 where
   pub bytes : List ℕ
   pub within : length bytes + left ≤ limit

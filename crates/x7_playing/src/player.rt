@@ -14,8 +14,8 @@ const READS_LIMIT: usize = 16_777_216;
 /// The most words that a device reads out before they are moved out of the buffer.
 const READS_ROOM: u32 = 4_096;
 
-/// Moves the words of a buffer to the end of `reads`, the words read out before, which has room for them, and says
-/// whether all together are over the limit; where they are, none is moved.
+/// Moves the words of a buffer to the end of `reads`, the words read out before, which has room for them, unless all
+/// together are over the limit; says whether they are.
 fn gather(buffer: &mut ReadBuf, reads: &mut Vec<u32>) -> bool
     requires within { vec_len reads.old ≤ reads_limit }
     requires most { buffer.old.most ≡ Some reads_room }
@@ -37,7 +37,7 @@ fn gather(buffer: &mut ReadBuf, reads: &mut Vec<u32>) -> bool
 
 /// Feeds the bytes of a piece to a device, up to one that stops it or until the words read out are over their limit,
 /// gathers these words, and says whether they are over it. The room for words is made before the bytes are fed that
-/// read them out.
+/// read them out. After want of memory a prefix of the piece was fed.
 fn feed(
     device: &mut Device,
     buffer: &mut ReadBuf,
@@ -74,7 +74,7 @@ pub struct Player {
     /// The words that the device read out; of a player that is over without the last ones, which stay in `buffer`.
     pub reads: Vec<u32>,
     /// Whether more words were read out than a play may: then nothing more is played.
-    pub is_over: bool,
+    pub is_over_limit: bool,
 }
 
 impl Drop for Player {
@@ -83,7 +83,7 @@ impl Drop for Player {
             device: _,
             buffer: _,
             reads: _,
-            is_over: _,
+            is_over_limit: _,
         } = self;
     }
 }
@@ -97,7 +97,7 @@ impl Player {
             device: Device::new(alloc, part)?,
             buffer: ReadBuf::new(alloc, READS_ROOM)?,
             reads: Vec::new(alloc),
-            is_over: false,
+            is_over_limit: false,
         })
     }
 
@@ -107,15 +107,15 @@ impl Player {
     pub fn play(&mut self, piece: &[u8]) -> Result<(), NoMemory>
         requires { MayPlay self.old (length piece.now) }
         ensures played { OnOk result (PlaysOn self.old self.new piece.now) }
-        ensures stays_over { self.old.is_over ≡ true → IsOk result × (self.new ≡ self.old) }
+        ensures stays_over { self.old.is_over_limit ≡ true → IsOk result × (self.new ≡ self.old) }
         ensures prefix { OnErr result (ForSomePrefix piece.now (PlaysPrefix self.old self.new)) }
-        ensures not_over { OnErr result (self.new.is_over ≡ false) }
+        ensures not_over { OnErr result (self.new.is_over_limit ≡ false) }
         ensures empties_buffer { OnErr result (self.new.buffer ≡ empty_buffer) }
     {
-        if self.is_over {
+        if self.is_over_limit {
             return Ok(());
         }
-        self.is_over = feed(&mut self.device, &mut self.buffer, &mut self.reads, piece)?;
+        self.is_over_limit = feed(&mut self.device, &mut self.buffer, &mut self.reads, piece)?;
         Ok(())
     }
 
@@ -128,7 +128,7 @@ impl Player {
             device,
             buffer: _,
             reads,
-            is_over: _,
+            is_over_limit: _,
         } = self;
         (device, reads)
     }

@@ -1,5 +1,5 @@
 //! Playing the data of streams while they are read.
-ghost use Rattle.std.specs.Prelude.{◌≡◌, ℕ, List, [], ◌∷◌, ◌+◌, ◌<◌, ◌≤◌, ◌⊎◌, true, length, map, string_bytes, Ok, Err, IfErr, IfOk};
+ghost use Rattle.std.specs.Prelude.{◌≡◌, ◌<◌, ◌≤◌, ◌⊎◌, true, length, map, string_bytes, Ok, Err, IfErr, IfOk};
 ghost use Rattle.x7_words.specs.Input.{AsksAtMost, AtEnd, InputsStay};
 ghost use Rattle.x7_forms.specs.Event.{event_of, no_memory};
 ghost use Rattle.x7_forms.specs.Known.{stream_limit};
@@ -89,8 +89,9 @@ fn play_stream<'w, I: Inputs>(
     }
 }
 
-/// Plays the data of streams on a new device of the part, one after the other. The streams are
-/// within the limit of one stream together, headers included.
+/// Plays the data of the streams of these names on a new device of the part, one after the other. The streams are
+/// within the limit of one stream together, headers included. A refusal says why one of them isn't played, or that
+/// memory was wanting; where too many words were read out, the player is over, which is no refusal.
 pub fn play_streams<'w, I: Inputs>(
     alloc: Global,
     part: &Part,

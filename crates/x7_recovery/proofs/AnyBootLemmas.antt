@@ -5,7 +5,7 @@ use Rattle.x7_part.specs.Ranges.{IsPart}
 use Rattle.x7_regs.specs.declared.boot_status.Cause.{Cause}
 use Rattle.x7_boot.specs.Attempt.{AttemptCourse}
 use Rattle.x7_boot.specs.Image.{flash_limit, image_of, image_size, place_after_golden}
-use Rattle.x7_boot.specs.Boots.{BootCourse, IsCourse}
+use Rattle.x7_boot.specs.BootCourse.{BootCourse, IsCourse}
 use Rattle.x7_recovery.specs.OpenBoot.{BootsOpen, EachBootsOpen, FallsBackClean, HasStreams, UpdateFallsBack}
 use Rattle.x7_recovery.specs.OpenSlot.{BeginsAsImage, IsOpenFlash, OpenFlash, image_of_flash, slot_of_flash}
 use Rattle.x7_recovery.specs.Updated.{IsUpdated, one_more, opened_by}

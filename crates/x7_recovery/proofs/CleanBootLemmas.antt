@@ -38,7 +38,7 @@ use Rattle.x7_boot.proofs.StartLemmas.{prefix_goes, prefix_history, prefix_open}
 use Rattle.x7_boot.proofs.TookLemmas.{ends_going}
 use Rattle.x7_recovery.specs.Clean.{StartsClean}
 use Rattle.x7_recovery.specs.Golden.{with_first_sector_erased}
-use Rattle.x7_boot.specs.Boots.{BootCourse, IsCourse}
+use Rattle.x7_boot.specs.BootCourse.{BootCourse, IsCourse}
 use Rattle.x7_recovery.specs.OpenBoot.{FallsBackClean, UpdateFallsBack}
 use Rattle.x7_recovery.specs.OpenSlot.{HasOpenSlot, IsOpenFlash, OpenFlash}
 use Rattle.x7_effects.proofs.EndLemmas.{memory_all}
@@ -50,7 +50,7 @@ use Rattle.x7_recovery.proofs.FullAttemptLemmas.{bootsts_is, iprog_later}
 use Rattle.x7_recovery.proofs.GoldenLemmas.{ended, erased_drop, erased_history, erased_take, word_at}
 use Rattle.x7_recovery.proofs.OpenBootLemmas.{Falls, failed_attempt, falls, kept_then}
 use Rattle.x7_recovery.proofs.OpenLemmas as slots
-use Rattle.x7_recovery.proofs.OpenLemmas.{desync_at, sector, sector_going, sector_history, sector_long, sector_never, sector_rests, sector_wrote}
+use Rattle.x7_recovery.proofs.OpenLemmas.{desync_at, sector, sector_going, sector_long, sector_never, sector_rests, sector_wrote}
 
 -- ---- the history of the first sector and of bytes after it
 

@@ -3,13 +3,13 @@
 use Rattle.std.proofs.Common.{List, ℕ, ap, sym, subst, ◌∙◌}
 use Rattle.x7_memory.specs.FrameMap.{HaveSameFrames, FrameMap}
 use Rattle.x7_memory.specs.Plan.{total}
-use Rattle.x7_engine.specs.declared.regs.Regs.{Regs}
+use Rattle.x7_engine.specs.declared.snapshot.Snapshot.{Snapshot}
 use Rattle.x7_boot.specs.Attempt.{AttemptCourse}
 use Rattle.x7_boot.specs.Boot.{BootedState, IsBoot}
 use Rattle.x7_update.specs.After.{MayBeLeft}
 use Rattle.x7_recovery.specs.Golden as any
 use Rattle.x7_recovery.specs.Golden.{BootsAlike, StartsAlike, StartsAsPlanned, UpdatingByAttempt}
-use Rattle.x7_boot.specs.Boots.{BootCourse}
+use Rattle.x7_boot.specs.BootCourse.{BootCourse}
 use Rattle.x7_recovery.specs.Recovery.{BootsAs, IsPrepared, StartsGolden, Updating, as_after, as_before, golden}
 use Rattle.x7_recovery.proofs.GoldenLemmas.{found_alike, full_golden}
 
@@ -18,7 +18,7 @@ planned_starts u t c p s = record {
   attempts_are = s.attempts_are;
   started = s.started;
   memory = subst (λ (m : FrameMap). HaveSameFrames m (total u.part u.golden)) (sym s.memory) p.memory;
-  bootsts = ap (λ (r : Regs). r.bootsts) s.registers ∙ p.bootsts;
+  bootsts = ap (λ (r : Snapshot). r.bootsts) s.registers ∙ p.bootsts;
 }
 
 pub found_boots : (u : Updating) (found : List ℕ) (b : BootedState) → IsPrepared u → MayBeLeft u.stream u.flash found → IsBoot u.part found b → BootsAs u found b

@@ -43,29 +43,29 @@ use Rattle.x7_boot.specs.Attempt.{IsFlashAttempt, NoneBefore, AttemptCourse, end
 use Rattle.x7_boot.specs.Boot.{end_state}
 use Rattle.x7_boot.specs.declared.attempt.Ending.TheVariants.{Started}
 use Rattle.x7_boot.proofs.LeastLemmas.{IsLeast, least_of}
-use Rattle.x7_boot.proofs.StartLemmas.{NeverStarts, prefix_goes, prefix_history, goes_on, never_seven, never_until}
+use Rattle.x7_boot.proofs.StartLemmas.{NoDesyncAfterStart, prefix_goes, prefix_history, goes_on, never_seven, never_until}
 use Rattle.x7_boot.proofs.TookLemmas.{ends_started}
 
 -- ---- the history of a full stream
 
-words_never : (place : ℕ) (ws : List ℕ) (h : History) → NeverStarts h → NeverStarts (writes_entered place 2 ws h)
+words_never : (place : ℕ) (ws : List ℕ) (h : History) → NoDesyncAfterStart h → NoDesyncAfterStart (writes_entered place 2 ws h)
 words_never place [] h never = never
 words_never place (w ∷ ws) h never = words_never (place + 4) ws (entry (access.Write 2 w) (place + 4) ∷ h) (inl refl, never)
 
 -- the pieces of a full stream execute no DESYNC
-pieces_never : (part : PartData) (plan : PlanData) (place : ℕ) (h : History) → NeverStarts h → NeverStarts (written place (items.full_pieces part plan) h)
+pieces_never : (part : PartData) (plan : PlanData) (place : ℕ) (h : History) → NoDesyncAfterStart h → NoDesyncAfterStart (written place (items.full_pieces part plan) h)
 pieces_never part plan place h never =
     let ws : List ℕ = joined (frames_at part plan (slots_in part)) in
     (inl refl, (inl refl, (inl refl, (inl refl, words_never _ ws _ (inl refl, (inl refl, (inl refl, (inl refl, (inl refl, (inl refl, (inl refl, (inl refl, never))))))))))))
 
--- the history with a full stream: a DESYNC, and before it accesses after which startup has begun nowhere
+-- the history with a full stream: a DESYNC, and before it accesses of which none is a DESYNC after a START
 pub record EndsInDesync (bytes stream : List ℕ) : Type 0 where
   place : ℕ
   before : History
   is : history_of (bytes ++ stream) ≡ entry (access.Write 4 13) place ∷ before
-  never : NeverStarts before
+  never : NoDesyncAfterStart before
 
-pub full_ends : (part : PartData) (plan : PlanData) (bytes : List ℕ) → AreBytes bytes → is_synced (reading_of bytes).place ≡ false → IsPart part → IsPlanFor part plan → NeverStarts (history_of bytes) → EndsInDesync bytes (full_stream part plan)
+pub full_ends : (part : PartData) (plan : PlanData) (bytes : List ℕ) → AreBytes bytes → is_synced (reading_of bytes).place ≡ false → IsPart part → IsPlanFor part plan → NoDesyncAfterStart (history_of bytes) → EndsInDesync bytes (full_stream part plan)
 full_ends part plan bytes fits e is for never =
     let start : ℕ = length bytes + 36 in record {
       place = start + 4 * pieces_length (items.full_pieces part plan) + 8;
@@ -80,10 +80,10 @@ full_stream_fits part plan is for = subst AreBytes (sym (full_same part plan is 
 
 -- ---- where the phase comes to 7, all accesses have ended
 
-not_less : (n m : ℕ) (rest : History) (access : access.Access) → (NeverStarts (until n (entry access m ∷ rest)) → ⊥) → NeverStarts rest → until n (entry access m ∷ rest) ≡ entry access m ∷ rest
+not_less : (n m : ℕ) (rest : History) (access : access.Access) → (NoDesyncAfterStart (until n (entry access m ∷ rest)) → ⊥) → NoDesyncAfterStart rest → until n (entry access m ∷ rest) ≡ entry access m ∷ rest
 not_less n m rest access late never = by (nat_lt n m) refl late
   where
-    by : (b : Bool) → nat_lt n m ≡ b → (NeverStarts (if b then until n rest else entry access m ∷ rest) → ⊥) → (if b then until n rest else entry access m ∷ rest) ≡ entry access m ∷ rest
+    by : (b : Bool) → nat_lt n m ≡ b → (NoDesyncAfterStart (if b then until n rest else entry access m ∷ rest) → ⊥) → (if b then until n rest else entry access m ∷ rest) ≡ entry access m ∷ rest
     by true e late' = absurd (late' (never_until n rest never))
     by false e late' = refl
 
@@ -95,7 +95,7 @@ seven_whole part kept bytes stream k fits d seven =
     let history : history_of prefix ≡ until (length prefix) (history_of all) = prefix_history k all fits in
     let cut : history_of prefix ≡ until (length prefix) (entry (access.Write 4 13) d.place ∷ d.before) = history ∙ ap (until (length prefix)) d.is in
     cut ∙ not_less (length prefix) d.place d.before (access.Write 4 13) (λ never.
-    let early : ((state_of part kept false prefix).phase == 7) ≡ false = never_seven part kept prefix (all_take (λ b. b < 256) k all fits) (subst NeverStarts (sym cut) never) in
+    let early : ((state_of part kept false prefix).phase == 7) ≡ false = never_seven part kept prefix (all_take (λ b. b < 256) k all fits) (subst NoDesyncAfterStart (sym cut) never) in
     let both : true ≡ false = sym seven ∙ early in absurd (cc)) d.never ∙ sym d.is
 
 -- ---- the attempt
@@ -117,7 +117,7 @@ bootsts_is part kept bytes ignored none e =
     ap (λ (o : Option Stopped). boot_status_of (attempt_of kept false (fault_of_stop (why_stopped o)) (history_by o (history_of bytes))) kept.before) none
     ∙ ap (λ (b : Bool). boot_status_of (record { kind = kept.kind; cause = None; ignored = b }) kept.before) e
 
-pub full_starts : (part : PartData) (kept : Kept) (bytes : List ℕ) (plan : PlanData) (address : ℕ) (flash more : List ℕ) (ignored : Bool) → AreBytes bytes → AtRest part kept bytes → NeverStarts (history_of bytes)
+pub full_starts : (part : PartData) (kept : Kept) (bytes : List ℕ) (plan : PlanData) (address : ℕ) (flash more : List ℕ) (ignored : Bool) → AreBytes bytes → AtRest part kept bytes → NoDesyncAfterStart (history_of bytes)
     → IsPart part → IsPlanFor part plan → drop address flash ≡ (bytes ++ full_stream part plan) ++ more → (is_fallback kept.kind && wrote_iprog (history_of (bytes ++ full_stream part plan))) ≡ ignored
     → StartsWith part kept address flash plan ignored
 full_starts part kept bytes plan address flash more ignored fits rest never is for split e =

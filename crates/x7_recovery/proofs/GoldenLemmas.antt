@@ -25,13 +25,13 @@ use Rattle.x7_engine.proofs.RestLemmas.{history_on, rest_on}
 use Rattle.x7_engine.specs.declared.kept.Kept.{Kept}
 use Rattle.x7_boot.specs.Attempt.{EndsFirst, IsFlashAttempt, AttemptCourse}
 use Rattle.x7_boot.specs.Boot.{BootedState, IsBoot, LeadsToEnd, at_power, end_state, next_by}
-use Rattle.x7_boot.specs.Boots.{BootCourse, course_along, course_of}
+use Rattle.x7_boot.specs.BootCourse.{BootCourse, course_along, course_of}
 use Rattle.x7_boot.specs.declared.attempt.Ending.TheVariants as ending
 use Rattle.x7_boot.specs.declared.boots.BootEnd.TheVariants as boot_end
 use Rattle.x7_boot.specs.declared.boots.Tried.{Tried}
-use Rattle.x7_boot.proofs.BootsLemmas.{along, boot_course, tried_is}
+use Rattle.x7_boot.proofs.BootCourseLemmas.{along, boot_course, tried_is}
 use Rattle.x7_boot.proofs.OverLemmas.{alike_ends, alike_attempt, started_first, taken_is, attempt_over}
-use Rattle.x7_boot.proofs.StartLemmas.{NeverStarts}
+use Rattle.x7_boot.proofs.StartLemmas.{NoDesyncAfterStart}
 use Rattle.x7_update.specs.Layout.{IsUpdatable, four_at, open_switch, update_place}
 use Rattle.x7_update.specs.After.{IsBetweenSlots, MayBeLeft, after, between, untouched}
 use Rattle.x7_update.proofs.LawLemmas.{no_sync}
@@ -65,7 +65,8 @@ none_before flash gap s rest nowhere e l = none_before_prefix gap s rest (leads_
 pub ended : (part : PartData) (flash : List ℕ) (t : AttemptCourse) → StartsAtPower part flash t → EndsFirst part flash t
 ended part flash t s = subst (λ (n : ℕ). EndsFirst part (drop n flash) t) s.address (started_first part flash t s.is s.started)
 
--- after gaps of a sector the same bytes, up to those that the attempt took
+-- an attempt at power that starts over a gap and bytes starts alike over another gap and the same bytes, where it took
+-- no more than these
 pub starts_after : (part : PartData) (g h s f r : List ℕ) (t : AttemptCourse) → AreGaps g h s → StartsAtPower part ((g ++ s) ++ f) t → length t.bytes ≤ length (g ++ s)
     → StartsAtPower part ((h ++ s) ++ r) (alike_attempt t ((h ++ s) ++ r)) × AreAlike t.bytes (alike_attempt t ((h ++ s) ++ r)).bytes
 starts_after part g h s f r t gaps starts within =
@@ -234,8 +235,8 @@ rest_erased part =
     let new : AtRest part at_power [] = record { no_stop = refl; searching = refl; startup = inl refl; sbits = refl; no_shutdown = refl; no_watchdog = refl } in
     rest_on part at_power [] erased_sector bytes_erased_sector goes new
 
-pub never_erased : NeverStarts (history_of erased_sector)
-never_erased = subst NeverStarts (sym (history_on [] erased_sector bytes_erased_sector goes)) tt
+pub never_erased : NoDesyncAfterStart (history_of erased_sector)
+never_erased = subst NoDesyncAfterStart (sym (history_on [] erased_sector bytes_erased_sector goes)) tt
 
 pub full_golden : (u : Updating) → IsPrepared u → (t : AttemptCourse) × StartsAsPlanned u t
 full_golden u p =

@@ -204,7 +204,7 @@ module _ (stream flash found : List ℕ) (l : IsUpdatable flash) (a : IsAfterUpd
       let place : update_place found ≡ update_place flash = same_place flash now found a.next l now_between a.is_next.within found_size found_others found_open in
       record { rest = stands.0; stands = stands.1; ends = omega (arith, place, g.ends) }
 
-  -- the stream stands at U
+  -- the stream stands at the update's place
   pub after_stream : (rest : List ℕ) × (drop (update_place flash) found ≡ stream ++ rest)
   after_stream =
       let place : ℕ = update_place flash in

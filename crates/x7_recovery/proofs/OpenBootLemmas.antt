@@ -1,9 +1,9 @@
 -- A boot from a flash with an open slot: at power to the update, and from there to its start or to the fallback.
 use Rattle.std.proofs.Common.{◌≡◌, ◌&&◌, ◌<◌, inl, ℕ, Bool, true, false, Option, None, Some, List, [], ◌∷◌, ◌++◌, drop, take, map, reverse, refl, ap, sym, subst, ◌∙◌, append_assoc, take-append-drop}
-use Rattle.std.proofs.lemmas.List.{reverse-append}
+use Rattle.std.proofs.lemmas.List.{reverse-append, map-append}
 use Rattle.x7_packets.specs.FlashSlot.{sector_size}
 use Rattle.x7_words.specs.Word.{AreBytes}
-use Rattle.x7_words.proofs.ListLemmas.{all_append, map_append}
+use Rattle.x7_words.proofs.ListLemmas.{all_append}
 use Rattle.x7_packets.specs.History.{history_of}
 use Rattle.x7_regs.specs.BootStatus.{boot_status_of}
 use Rattle.x7_regs.specs.declared.boot_status.Attempt.{Attempt}
@@ -30,8 +30,8 @@ use Rattle.x7_boot.specs.declared.boots.BootEnd.TheVariants as boot_end
 use Rattle.x7_boot.specs.declared.boots.Tried.{Tried}
 use Rattle.x7_boot.specs.declared.next.Next.{Next}
 use Rattle.x7_boot.specs.declared.next.Next.TheVariants.{Again, Ends}
-use Rattle.x7_boot.specs.Boots.{BootCourse, IsCourse, course_along}
-use Rattle.x7_boot.proofs.BootsLemmas.{along, cause_is, fallback_next, stops_next, tried_is}
+use Rattle.x7_boot.specs.BootCourse.{BootCourse, IsCourse, course_along}
+use Rattle.x7_boot.proofs.BootCourseLemmas.{along, cause_is, fallback_next, stops_next, tried_is}
 use Rattle.x7_boot.proofs.OneBootLemmas.{GoesThrough, goes_through}
 use Rattle.x7_boot.proofs.OverLemmas.{kept_ends, started_first, with_kept}
 use Rattle.x7_recovery.specs.OpenBoot.{EndsAtUpdate, FallsBack, FallsBackAlike, HasFullUpdate, HasFullGolden, StartsAsFallback, StartsUpdate, TriesUpdate, UpdateEnds, kept_at_update, UpdateStops, UpdateFallsBack}
@@ -70,7 +70,7 @@ module _ (o : OpenFlash) (is : IsOpenFlash o) where
         ended = record { is = g.is; kept = g.kept_is; address = g.address_is; ends = refl };
         more = reverse (map tried g.newer);
         attempts_are = course.attempts_are ∙ ap (λ (l : List AttemptCourse). reverse (map tried l)) g.split
-            ∙ ap reverse (map_append tried g.newer (t ∷ first ∷ []))
+            ∙ ap reverse (map-append tried g.newer (t ∷ first ∷ []))
             ∙ reverse-append (map tried g.newer) (tried t ∷ obeyed ∷ [])
             ∙ ap (λ (x : Tried). obeyed ∷ x ∷ reverse (map tried g.newer)) (tried_as t t.ending g.kept_is g.address_is refl);
       }

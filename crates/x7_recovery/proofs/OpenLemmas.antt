@@ -42,7 +42,7 @@ use Rattle.x7_boot.specs.Boot.{LeadsTo, at_power, end_state, start_address}
 use Rattle.x7_boot.specs.Image.{open_slot, slot}
 use Rattle.x7_boot.specs.declared.attempt.Ending.TheVariants as ending
 use Rattle.x7_boot.specs.declared.next.Next.TheVariants.{Again}
-use Rattle.x7_boot.proofs.StartLemmas.{NeverStarts, prefix_open, never_seven}
+use Rattle.x7_boot.proofs.StartLemmas.{NoDesyncAfterStart, prefix_open, never_seven}
 use Rattle.x7_boot.proofs.TookLemmas.{ends_by_stop}
 use Rattle.x7_recovery.specs.OpenBoot.{kept_at_update}
 use Rattle.x7_recovery.specs.OpenSlot.{HasOpenSlot}
@@ -144,8 +144,8 @@ module _ (flash : List ℕ) (number start : ℕ) (o : HasOpenSlot flash number s
       ∙ stop_of_access part at_power (wbstar_at (flash_slot_size * number) start) (access.Write 4 15) (flash_slot_size * number + 24) (calm part at_power refl).no_stop
       ∙ ap (stop_at_place (flash_slot_size * number + 24)) why
 
-  taken_never : NeverStarts (history_of taken)
-  taken_never = subst NeverStarts (sym taken_history) (inl refl, (inl refl, tt))
+  taken_never : NoDesyncAfterStart (history_of taken)
+  taken_never = subst NoDesyncAfterStart (sym taken_history) (inl refl, (inl refl, tt))
 
   taken_ends : (part : PartData) → ending_at part at_power taken ≡ Some ending.Iprog
   taken_ends part =
@@ -278,8 +278,8 @@ module _ (flash : List ℕ) (number start : ℕ) (o : HasOpenSlot flash number s
       ∙ (rest_on part kept (open_slot start) more slot_fits' goes (slot_rests part kept start small e)).searching in
       rests part kept NotBegun sector (desync_at (flash_slot_size * number) start) sector_size sector_history sector_long searching (sector_going part kept e) refl
 
-  pub sector_never : NeverStarts (history_of sector)
-  sector_never = subst NeverStarts (sym sector_history) (inr (refl, (refl, tt)), (inl refl, (inl refl, tt)))
+  pub sector_never : NoDesyncAfterStart (history_of sector)
+  sector_never = subst NoDesyncAfterStart (sym sector_history) (inr (refl, (refl, tt)), (inl refl, (inl refl, tt)))
 
   pub sector_wrote : wrote_iprog (history_of sector) ≡ true
   sector_wrote = ap wrote_iprog sector_history

@@ -7,7 +7,7 @@ use Rattle.x7_words.specs.Word.{bytes_of_word, word_of_bytes}
 use Rattle.std.proofs.Math.Seq.{drop-append_seam}
 use Rattle.x7_packets.specs.FlashSlot.{sector_size, flash_slot, flash_slot_size, flash_slot_count}
 use Rattle.x7_boot.specs.Image as image
-use Rattle.x7_boot.specs.Image.{free_slot, free_slots, filled_to, first_sector, image_of, image_size, open_slot, sector_from, slot}
+use Rattle.x7_boot.specs.Image.{free_slot, free_slots, filled_to, first_sector, image_of, image_size, open_slot, slot}
 use Rattle.x7_recovery.proofs.SlotLemmas.{image_begins, place_whole, sector_long, size_after, slot_long, update_after}
 use Rattle.x7_recovery.specs.PlannedImage.{HasImage, golden_image}
 use Rattle.x7_part.specs.Part.{PartData}

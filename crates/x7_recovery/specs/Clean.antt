@@ -1,5 +1,5 @@
 -- A golden stream that clears the check before it asks anything that a slot's accesses could change (UG470,
--- configuration registers; what may stand before RCRC is this project's choice). The vendor's streams that were seen
+-- configuration registers; what may stand before RCRC is this project's choice). The vendor's streams that README names
 -- begin so, which is no promise.
 use Rattle.std.specs.Prelude.{◌≡◌, ℕ, List, [], ◌∷◌, None, drop}
 use Rattle.x7_words.specs.Word.{AreBytes}
@@ -34,7 +34,7 @@ pub data BeginsClean : History → Type 0 where
   later : (e : Entry) (h : History) → BeginsClean h → BeginsClean (e ∷ h)
 
 -- With the first sector of the flash erased the attempt at power starts, and nothing has stopped the device by then.
--- What it took is bytes, and those after the first sector begin clean.
+-- What the attempt took is bytes, and those after the first sector begin clean.
 pub record StartsClean (part : PartData) (flash : List ℕ) (t : AttemptCourse) : Type 0 where
   pub starts : StartsAtPower part (with_first_sector_erased flash) t
   pub going : first_stop_of_bytes part t.kept t.bytes ≡ None

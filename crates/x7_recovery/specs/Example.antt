@@ -1,4 +1,5 @@
--- A small part, and a plan of no frame: laws on parts, plans and images speak of something (this project's choice).
+-- A small part and a plan without frames, which show that what the laws ask of parts, plans and images can hold (this
+-- project's choice). The part is made up; its IDCODE is that of the xc7a35t.
 use Rattle.std.specs.Prelude.{[], ◌∷◌}
 use Rattle.x7_part.specs.Part.{PartData}
 use Rattle.x7_memory.specs.Plan.{PlanData}

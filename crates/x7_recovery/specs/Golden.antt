@@ -13,7 +13,7 @@ use Rattle.x7_boot.specs.Attempt.{IsFlashAttempt, AttemptCourse}
 use Rattle.x7_boot.specs.Boot.{BootedState, IsBoot, at_power, end_state}
 use Rattle.x7_boot.specs.declared.attempt.Ending.TheVariants as ending
 use Rattle.x7_boot.specs.declared.boots.BootEnd.TheVariants as boot_end
-use Rattle.x7_boot.specs.Boots.{BootCourse, course_of}
+use Rattle.x7_boot.specs.BootCourse.{BootCourse, course_of}
 use Rattle.x7_recovery.specs.Recovery.{Updating, power_status, started_at_power}
 use Rattle.x7_update.specs.After.{IsAfterUpdate}
 use Rattle.x7_update.specs.Layout.{IsUpdatable, four_at, open_switch, update_place}
@@ -33,7 +33,7 @@ pub record IsClosedFlash (flash : List ℕ) : Type 0 where
 abbrev pub with_first_sector_erased : List ℕ → List ℕ
 with_first_sector_erased flash = erased_sector ++ drop sector_size flash
 
--- the attempt at power over a flash, which starts
+-- the attempt over the flash is that at power, at address 0, and starts
 pub record StartsAtPower (part : PartData) (flash : List ℕ) (t : AttemptCourse) : Type 0 where
   pub is : IsFlashAttempt part flash t
   pub kept : t.kept ≡ at_power
@@ -61,16 +61,16 @@ pub record StartsAlike (part : PartData) (t : AttemptCourse) (c : BootCourse) : 
   pub memory : memory_of_bytes part c.last.kept c.last.bytes ≡ memory_of_bytes part t.kept t.bytes
   pub registers : end_state part c.last ≡ end_state part t
 
--- the golden stream of a flash, the full stream of a plan, starts the device at its last byte or before it, with the
--- memory of the plan over zeros, and BOOTSTS shows no other attempt
+-- The golden stream starts as `GoldenStarts` says, with no more bytes than the first sector and the full stream of the
+-- plan have: with the memory of the plan over zeros, and BOOTSTS shows no other attempt.
 pub record StartsAsPlanned (u : Updating) (t : AttemptCourse) : Type 0 where
   pub golden : GoldenStarts u.part u.flash t
   pub within : length t.bytes ≤ sector_size + length (full_stream u.part u.golden)
   pub memory : HaveSameFrames (memory_of_bytes u.part t.kept t.bytes) (total u.part u.golden)
   pub bootsts : (end_state u.part t).bootsts ≡ power_status
 
--- a flash that is being updated with a stream, the part that boots from it, and the attempt with which its golden
--- stream starts
+-- a flash that is being updated with a stream, the part that boots from this flash, and an attempt with the flash's
+-- golden stream
 pub record UpdatingByAttempt : Type 0 where
   pub part : PartData
   pub flash : List ℕ

@@ -17,7 +17,7 @@ use Rattle.x7_engine.specs.Kept.{without_kept}
 use Rattle.x7_boot.specs.Attempt.{IsFlashAttempt, AttemptCourse}
 use Rattle.x7_regs.specs.Control.{forbids_fallback}
 use Rattle.x7_boot.specs.Boot.{end_state}
-use Rattle.x7_boot.specs.Boots.{BootCourse, IsCourse}
+use Rattle.x7_boot.specs.BootCourse.{BootCourse, IsCourse}
 use Rattle.x7_boot.specs.Image.{place_after_golden}
 use Rattle.x7_boot.specs.declared.attempt.Ending.{Ending}
 use Rattle.x7_boot.specs.declared.attempt.Ending.TheVariants as ending
@@ -31,7 +31,7 @@ use Rattle.x7_recovery.specs.Recovery.{power_attempt}
 -- ---- the attempt at the update
 
 -- what is kept over the reset between the attempt at power, which obeyed an IPROG, and the attempt at the update: the
--- start address in WBSTAR, and the attempt at power, which did not fail
+-- start address in WBSTAR, zeros in TIMER and BSPI, and the attempt at power, which did not fail
 abbrev pub kept_at_update : ℕ → Kept
 kept_at_update start = record { wbstar = start; timer = 0; bspi = 0; kind = Iprog; before = Some power_attempt }
 
@@ -73,7 +73,8 @@ pub record EndsAtUpdate (o : OpenFlash) (t : AttemptCourse) (by_end : BootEnd) (
   pub end_is : c.end ≡ by_end
   pub last_is : c.last ≡ t
 
--- the full stream of a plan for the part stands at a place of the flash, in bytes, whatever follows it
+-- the part's numbers are in range, the plan is one for the part, and its full stream stands in the flash from the byte
+-- `place` on (from 0), whatever follows it
 pub record HasFullStream (o : OpenFlash) (place : ℕ) (planned : PlanData) : Type 0 where
   pub is_part : IsPart o.part
   pub plan : IsPlanFor o.part planned
@@ -131,15 +132,15 @@ pub record FallsBackClean (o : OpenFlash) (cause : Cause) (t : AttemptCourse) (c
   pub memory : memory_of_bytes o.part c.last.kept c.last.bytes ≡ memory_of_bytes o.part t.kept t.bytes
   pub bootsts : (end_state o.part c.last).bootsts ≡ fallback_status cause
 
--- the attempt is a fallback over the flash that starts; its device may have kept anything over the reset
+-- the attempt is a fallback over the flash, at address 0, and starts; what else its device kept over the reset is free
 pub record StartsAsFallback (o : OpenFlash) (f : AttemptCourse) : Type 0 where
   pub is : IsFlashAttempt o.part o.flash f
   pub kind : f.kept.kind ≡ Fallback
   pub address : f.address ≡ 0
   pub started : f.ending ≡ ending.Started
 
--- The boot falls back and starts as another fallback does: with the same bytes, memory and registers but those kept
--- over the reset; BOOTSTS shows the fallback, and the update's cause.
+-- The boot falls back and starts as another fallback does: with the same bytes and memory, and the same state but for
+-- what shows what was kept over the reset; BOOTSTS shows that fallback, and the update's cause.
 pub record FallsBackAlike (o : OpenFlash) (cause : Cause) (f : AttemptCourse) (c : BootCourse) : Type 0 where
   pub attempts_are : c.attempts ≡ fell_back o.place cause
   pub started : c.end ≡ boot_end.Started
@@ -167,16 +168,15 @@ pub record BootsOpen (o : OpenFlash) (c : BootCourse) : Type 0 where
   -- where the update fails and CTL0 allows a fallback, a golden stream of any kind that starts at power after an erased
   -- first sector and begins clean starts as it did there
   pub falls_clean : (t : AttemptCourse) (cause : Cause) (golden : AttemptCourse) → StartsClean o.part o.flash golden → UpdateFallsBack o t cause → FallsBackClean o cause golden c
-  -- where the update fails and CTL0 allows a fallback, a golden stream with which some fallback over the flash starts
-  -- does as that fallback
+  -- where the update fails and CTL0 allows a fallback, the boot starts as any fallback over the flash does that starts
   pub falls_alike : (t : AttemptCourse) (cause : Cause) (f : AttemptCourse) → StartsAsFallback o f → UpdateFallsBack o t cause → FallsBackAlike o cause f c
 
 -- every boot from the flash comes to what a boot from a flash with an open slot comes to
 abbrev pub EachBootsOpen : OpenFlash → Type 0
 EachBootsOpen o = (c : BootCourse) → IsCourse o.part o.flash c → BootsOpen o c
 
--- A flash begins with the image of a golden and an update stream for the part: both streams stand in it, and every boot
--- from it is one from a flash with its first slot open, which leads to the update.
+-- A flash begins as the image of a golden and an update stream for the part does: both streams stand at their places,
+-- and every boot from the flash comes to what `BootsOpen` says, of the first slot as one that leads to the update.
 pub record HasStreams (part : PartData) (golden update flash : List ℕ) : Type 0 where
   pub begins : BeginsAsImage part flash (place_after_golden (length golden))
   pub has_golden : (rest : List ℕ) × (drop sector_size flash ≡ golden ++ rest)

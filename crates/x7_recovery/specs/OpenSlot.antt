@@ -8,8 +8,8 @@ use Rattle.x7_boot.specs.Boot.{start_address}
 use Rattle.x7_boot.specs.Image.{first_sector, flash_limit, open_slot}
 use Rattle.x7_update.specs.Layout.{four_at, open_switch}
 
--- One slot of the first sector is open, with the start address `start` in the part's unit: the sector is whole and of
--- bytes, and no sync word begins in it but that of the slot.
+-- One slot of the first sector is open, with `start` as its word of WBSTAR: the sector is whole and of bytes, and no
+-- sync word begins in it but that of the slot.
 pub record HasOpenSlot (flash : List ℕ) (slot start : ℕ) : Type 0 where
   pub within : slot < flash_slot_count
   pub stands : take flash_slot_size (drop (flash_slot_size * slot) flash) ≡ open_slot start
@@ -17,7 +17,8 @@ pub record HasOpenSlot (flash : List ℕ) (slot start : ℕ) : Type 0 where
   pub long : sector_size ≤ length flash
   pub fits : AreBytes (take sector_size flash)
 
--- a flash, the part that boots from it, its open slot with the start address, and the place to which that leads
+-- a flash, the part that boots from it, its open slot, the slot's start address, which is a word of WBSTAR, and the
+-- place in bytes to which the slot leads
 pub record OpenFlash : Type 0 where
   pub part : PartData
   pub flash : List ℕ
@@ -33,15 +34,15 @@ pub record IsOpenFlash (o : OpenFlash) : Type 0 where
 
 -- ---- an image
 
--- a flash begins with the first sector of an image for the part, which leads to this place, where a sector begins, and
--- which isn't past the most bytes of a flash; whatever follows
+-- a flash begins with the first sector of an image for the part, whatever follows: the sector leads to this place, a
+-- multiple of `sector_size` and at most `flash_limit`
 pub record BeginsAsImage (part : PartData) (flash : List ℕ) (place : ℕ) : Type 0 where
   pub more : List ℕ
   pub begins : flash ≡ first_sector (place / part.start_unit) ++ more
   pub whole : place % sector_size ≡ 0
   pub within : place ≤ flash_limit
 
--- a flash that begins as an image does, with its first slot, which is the open one
+-- of a flash that begins as an image does: its first slot as the open one, which leads to this place
 abbrev pub image_of_flash : PartData → List ℕ → ℕ → OpenFlash
 image_of_flash part flash place = record { part = part; flash = flash; slot = 0; start = place / part.start_unit; place = place }
 

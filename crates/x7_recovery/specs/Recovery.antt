@@ -12,7 +12,7 @@ use Rattle.x7_memory.specs.Plan.{IsPlanFor, PlanData, total}
 use Rattle.x7_planner.specs.FullStream.{full_stream}
 use Rattle.x7_engine.specs.State.{memory_of_bytes}
 use Rattle.x7_boot.specs.Boot.{BootedState, IsBoot, end_state}
-use Rattle.x7_boot.specs.Boots.{BootCourse, course_of}
+use Rattle.x7_boot.specs.BootCourse.{BootCourse, course_of}
 use Rattle.x7_recovery.specs.PlannedImage.{golden_image}
 use Rattle.x7_boot.specs.declared.attempt.Ending.TheVariants as ending
 use Rattle.x7_boot.specs.declared.boots.BootEnd.TheVariants as boot_end
@@ -20,7 +20,8 @@ use Rattle.x7_boot.specs.declared.boots.Tried.{Tried}
 use Rattle.x7_update.specs.After.{IsAfterUpdate}
 use Rattle.x7_update.specs.Layout.{IsUpdatable, update_place}
 
--- a flash that is being updated with a stream, the part that boots from it, and the plan of its golden stream
+-- a flash that is being updated with a stream, the part that boots from this flash, and the plan of the flash's golden
+-- stream
 pub record Updating : Type 0 where
   pub part : PartData
   pub golden : PlanData

@@ -1,5 +1,5 @@
-//! What a device does with the image of a golden and an update stream, and with a flash that a power loss left in an
-//! update: laws alone.
+//! What a device does with a flash that has an open slot, as an image has and a flash after an update, and with one
+//! that a power loss left in an update: laws alone.
 #![tactic(auto)]
 
 mod clean_law;
@@ -10,8 +10,8 @@ mod open_law;
 
 pub use clean_law::{updated_flashes_fall_back, updates_keep_golden_streams};
 pub use golden_law::{
-    flashes_between_slots_lead_nowhere, flashes_that_lead_nowhere_start_alike, found_flashes_start,
-    full_streams_start,
+    flashes_between_slots_lead_nowhere, flashes_that_lead_nowhere_start_alike,
+    found_flashes_boot_alike, full_streams_start,
 };
 pub use image_law::{images_boot, premises_hold};
 pub use laws::{found_flashes_boot, images_are_prepared, images_are_updatable};

@@ -23,9 +23,9 @@ pub fn open_slots_boot()
 
 /// A flash that begins with the first sector of an image for a part has its first slot open, whatever follows. For a
 /// part whose start address counts bytes, and where the items of the first sector are bytes: of a flash that can be
-/// updated, a slot that begins with the sync word is open, and after an update the next slot is. After an update a
-/// golden stream that is the full stream of a plan stands as it did, and the stream of the update stands at the
-/// update's place.
+/// updated, a slot that begins with the sync word is open, and after an update the slot that it opened is. After an
+/// update of a flash that can be updated, a golden stream that is the full stream of a plan and ends at the update's
+/// place or before it stands as it did, and the stream of the update stands at the update's place.
 pub fn flashes_have_an_open_slot()
     ensures image { (part : PartData) (flash : List ℕ) (place : ℕ) → IsPart part → BeginsAsImage part flash place → IsOpenFlash (image_of_flash part flash place) }
     ensures updatable { (part : PartData) (flash : List ℕ) (slot : ℕ) → part.start_unit ≡ 1 → IsUpdatable flash → AreBytes (take sector_size flash)

@@ -16,7 +16,7 @@ place_in : List (List ℕ) → List ℕ → ℕ
 place_in [] name = 0
 place_in (x ∷ xs) name = if same_text x name then 0 else place_in xs name + 1
 
--- the first names stand at their own places
+-- the first n names stand at their own places
 stand_in_place : ℕ → Bool
 stand_in_place zero = true
 stand_in_place (suc n) = (place_in reg_names (reg_name n) == n) && stand_in_place n
@@ -38,7 +38,7 @@ place_is (suc k) n h e =
 pub reg_name_distinct : (m n : ℕ) → m < reg_number_count → n < reg_number_count → reg_name m ≡ reg_name n → m ≡ n
 reg_name_distinct m n h k e = sym (place_is 32 m h all_stand) ∙ ap (place_in reg_names) e ∙ place_is 32 n k all_stand
 
--- each of the names has at most this many bytes
+-- each of the names has at most `most` bytes
 are_short : ℕ → List (List ℕ) → Bool
 are_short most [] = true
 are_short most (x ∷ xs) = nat_le (length x) most && are_short most xs

@@ -24,7 +24,7 @@ each_holds test (suc k) n h e =
       | inr above ↦ let same : k ≡ n = omega arith in let P : ℕ → Type 0 = λ j. test j ≡ true in subst P same parts.0
     ]
 
--- the table has a register's number at the place of its name, and the name has the length that the table is for
+-- the table has this register number at the place of its name, and the name has two to nine bytes
 unfoldable is_found : ℕ → Bool
 is_found n = (get_or REGISTERS (place_of_name (reg_name n)) 0 == n) && (nat_lt 1 (length (reg_name n)) && nat_lt (length (reg_name n)) 10)
 
@@ -78,11 +78,11 @@ command_place Ltimer = (refl, omega arith, omega arith)
 command_place BspiRead = (refl, omega arith, omega arith)
 command_place FallEdge = (refl, omega arith, omega arith)
 
--- no name of a register, by its length
+-- a text of fewer than two bytes or of more than nine is the name of no register number
 pub no_register_length : (text : List ℕ) → (1 < length text → length text < 10 → ⊥) → (n : ℕ) → n < reg_number_count → text ≡ reg_name n → ⊥
 no_register_length text h n b e = let p = register_place n b in let l : length text ≡ length (reg_name n) = ap length e in h (omega (arith, p.1)) (omega (arith, p.2))
 
--- no name of a register, where that of the table is another
+-- a text is the name of no register number, where the number at its place has another name
 pub no_register : (text name : List ℕ) (k : ℕ) → k ≡ get_or REGISTERS (place_of_name text) 0 → name ≡ reg_name k → (name ≡ text → ⊥) → (n : ℕ) → n < reg_number_count → text ≡ reg_name n → ⊥
 no_register text name k found is other n b e =
     other (is ∙ ap reg_name (found ∙ ap (λ t. get_or REGISTERS (place_of_name t) 0) e ∙ (register_place n b).0) ∙ sym e)
@@ -108,7 +108,7 @@ small Ltimer = refl
 small BspiRead = refl
 small FallEdge = refl
 
--- no name of a command, where that of the table is another
+-- a text is the name of no command, where the command at its place has another name
 pub no_command : (text name : List ℕ) (k : ℕ) (found : Command) → k ≡ get_or COMMANDS (place_of_name text) 0 → found ≡ command_by k → name ≡ command_name_of found → (name ≡ text → ⊥) → (c : Command) → text ≡ command_name_of c → ⊥
 no_command text name k found is by named other c e =
     let code : k ≡ code_of c = is ∙ ap (λ t. get_or COMMANDS (place_of_name t) 0) e ∙ (command_place c).0 in

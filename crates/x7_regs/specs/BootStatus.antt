@@ -8,7 +8,7 @@ use Rattle.x7_regs.specs.declared.boot_status.Kind.{Kind}
 use Rattle.x7_regs.specs.declared.boot_status.Kind.TheVariants.{Bench, Power, Iprog, Fallback}
 use Rattle.x7_regs.specs.Status.{flag_of}
 
--- the bit of VALID in an attempt's byte: 1 for each attempt
+-- the bit of VALID in an attempt's byte: 1 for each attempt but one on the bench, where no flash boots the device
 abbrev pub valid : ℕ
 valid = 0
 
@@ -24,7 +24,8 @@ iprog = 2
 abbrev pub wto_error : ℕ
 wto_error = 3
 
--- the bit of ID_ERROR in an attempt's byte: 1 after a written idcode that was not the part's
+-- the bit of ID_ERROR in an attempt's byte: 1 after a written idcode that was not the part's, and after frame data, a
+-- copy or START before one that was
 abbrev pub id_error : ℕ
 id_error = 4
 
@@ -40,7 +41,7 @@ wrap_error = 6
 abbrev pub attempt_before_bit : ℕ
 attempt_before_bit = 8
 
--- the bits VALID, FALLBACK and IPROG of an attempt
+-- the bits VALID, FALLBACK and IPROG of an attempt of this kind, by whether an IPROG was ignored in it; 0 on the bench
 abbrev pub kind_bits_of : Kind → Bool → ℕ
 kind_bits_of Bench ignored = 0
 kind_bits_of Power ignored = 2 ^ valid + flag_of ignored * 2 ^ iprog
@@ -63,22 +64,22 @@ attempt_bits_by Power cause ignored = kind_bits_of Power ignored + cause_bits_of
 attempt_bits_by Iprog cause ignored = kind_bits_of Iprog ignored + cause_bits_of cause
 attempt_bits_by Fallback cause ignored = kind_bits_of Fallback ignored + cause_bits_of cause
 
--- the bits of an attempt
+-- the bits of an attempt in its byte, from bit 0 up
 abbrev pub attempt_bits_of : Attempt → ℕ
 attempt_bits_of attempt = attempt_bits_by attempt.kind attempt.cause attempt.ignored
 
--- the bits of the attempt before, and 0 where there was none
+-- the bits of the attempt before in its byte, from bit 0 up, and 0 where there was none
 abbrev pub before_bits_of : Option Attempt → ℕ
 before_bits_of None = 0
 before_bits_of (Some attempt) = attempt_bits_of attempt
 
--- the word of the register by the kind of the present attempt, its bits and those of the attempt before; 0 on the bench
+-- the word of BOOTSTS by the kind of the present attempt, its bits and those of the attempt before; 0 on the bench
 abbrev pub boot_word_by : Kind → ℕ → ℕ → ℕ
 boot_word_by Bench latest before = 0
 boot_word_by Power latest before = latest + before * 2 ^ attempt_before_bit
 boot_word_by Iprog latest before = latest + before * 2 ^ attempt_before_bit
 boot_word_by Fallback latest before = latest + before * 2 ^ attempt_before_bit
 
--- the word of the register in the present attempt, and after the one before, if there was one
+-- the word of BOOTSTS in the present attempt, after the one before, if there was one; 0 on the bench
 unfoldable pub boot_status_of : Attempt → Option Attempt → ℕ
 boot_status_of latest before = boot_word_by latest.kind (attempt_bits_of latest) (before_bits_of before)

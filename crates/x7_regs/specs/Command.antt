@@ -55,7 +55,7 @@ command_name_of Ltimer = codes "LTIMER"
 command_name_of BspiRead = codes "BSPI_READ"
 command_name_of FallEdge = codes "FALL_EDGE"
 
--- the command with this code; Null for a number that is no code, which acts as Null (this project's choice)
+-- the command with this code; Null for a number that is no command's code (this project's choice)
 abbrev pub command_with : ℕ → Command
 command_with n =
     if n == 1 then Wcfg else
@@ -81,6 +81,6 @@ command_with n =
 abbrev pub command_code_of : ℕ → ℕ
 command_code_of w = w % 2 ^ 5
 
--- the command that a word of the command register calls for, by its low five bits
+-- the command that a word of the command register calls for, by its low five bits: Null where no command has these
 abbrev pub command_by : ℕ → Command
 command_by w = command_with (command_code_of w)

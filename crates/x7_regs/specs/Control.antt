@@ -1,4 +1,4 @@
--- The fields of control register 0 (UG470, control register 0), each by the number of its lowest bit.
+-- Five fields of control register 0 (UG470, control register 0), each by the number of its lowest bit.
 use Rattle.std.specs.Prelude.{ℕ, ◌+◌, ◌==◌, Bool, not}
 use Rattle.x7_words.specs.Word.{field_of}
 
@@ -22,18 +22,18 @@ glutmask_b = 8
 abbrev pub config_fallback : ℕ
 config_fallback = 10
 
--- SBITS forbid writing frames
+-- SBITS of this word of CTL0 forbid writing frames: they are 1x
 abbrev pub forbids_writing : ℕ → Bool
 forbids_writing ctl0 = field_of (sbits + 1) 1 ctl0 == 1
 
--- SBITS forbid reading frames
+-- SBITS of this word of CTL0 forbid reading frames: they are not 00
 abbrev pub forbids_reading : ℕ → Bool
 forbids_reading ctl0 = not (field_of sbits 2 ctl0 == 0)
 
--- DEC is 1
+-- DEC of this word of CTL0 is 1
 abbrev pub has_dec : ℕ → Bool
 has_dec ctl0 = field_of dec 1 ctl0 == 1
 
--- CONFIG_FALLBACK is 1
+-- CONFIG_FALLBACK of this word of CTL0 is 1
 abbrev pub forbids_fallback : ℕ → Bool
 forbids_fallback ctl0 = field_of config_fallback 1 ctl0 == 1

@@ -5,7 +5,7 @@ use Rattle.x7_regs.specs.Register.{reg_name, reg_number_count}
 use Rattle.x7_regs.specs.Command.{code_of, command_name_limit, command_name_of}
 use Rattle.x7_regs.specs.declared.command.Command.{Command}
 
--- the text is the name of the register number
+-- the text is the name of the register number, which is below 32
 pub record IsRegName (text : List ℕ) (number : ℕ) : Type 0 where
   pub below : number < reg_number_count
   pub name : text ≡ reg_name number
@@ -16,7 +16,8 @@ pub record IsCommandName (text : List ℕ) (code : ℕ) : Type 0 where
   pub name : text ≡ command_name_of command
   pub same_code : code ≡ code_of command
 
--- how many bytes a name has at least: its place in a table is made of its first two, its last and its length
+-- how many bytes a text that is looked up has at least: a place in a table is made of the first two bytes, the last and
+-- the length; each name has three or more
 abbrev pub shortest_name : ℕ
 shortest_name = 2
 
@@ -41,7 +42,7 @@ last_weight = 3
 abbrev pub length_weight : ℕ
 length_weight = 2
 
--- the place of a name in a table, which no two registers and no two commands share
+-- the place of a name in a table, from 0, which no two register numbers and no two commands share
 abbrev pub place_of_name : List ℕ → ℕ
 place_of_name name =
     (get_or name 0 0 + second_weight * get_or name 1 0 + last_weight * get_or name (length name - 1) 0 + length_weight * length name)

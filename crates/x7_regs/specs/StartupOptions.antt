@@ -10,11 +10,12 @@ done_pipe = 25
 abbrev pub done_cycle : ℕ
 done_cycle = 12
 
--- the lowest bit of MATCH_CYCLE in COR0, three bits: the code of the phase that waits for the DCI match
+-- the lowest bit of MATCH_CYCLE in COR0, three bits: the phase that waits for the impedance (DCI) to match; 7 is no
+-- wait
 abbrev pub match_cycle : ℕ
 match_cycle = 9
 
--- the lowest bit of LOCK_CYCLE in COR0, three bits: the code of the phase that waits for the MMCM lock
+-- the lowest bit of LOCK_CYCLE in COR0, three bits: the phase that waits for the clocks (MMCM) to lock; 7 is no wait
 abbrev pub lock_cycle : ℕ
 lock_cycle = 6
 

@@ -55,8 +55,8 @@ release_done = 13
 abbrev pub done : ℕ
 done = 14
 
--- the bit of ID_ERROR in STAT: 1 after a written idcode that was not the part's (this project's choice; the guide: after
--- a write to FDRI without a right idcode)
+-- the bit of ID_ERROR in STAT: 1 after a written idcode that was not the part's, and after frame data, a copy or START
+-- before one that was (this project's choice; the guide: after a write to FDRI without a right idcode)
 abbrev pub id_error : ℕ
 id_error = 15
 
@@ -76,7 +76,8 @@ startup_state = 18
 abbrev pub bus_width : ℕ
 bus_width = 25
 
--- `number_of_bit`, as a number that unfolds only where a proof says so: else a check would go through all words of STAT
+-- 1 for true and 0 for false: `number_of_bit`, which unfolds only where a proof says so, since else a check would go
+-- through all words of STAT
 unfoldable pub flag_of : Bool → ℕ
 flag_of b = number_of_bit b
 
@@ -84,7 +85,7 @@ flag_of b = number_of_bit b
 abbrev pub startup_states : List ℕ
 startup_states = 0 ∷ 1 ∷ 3 ∷ 2 ∷ 6 ∷ 7 ∷ 5 ∷ 4 ∷ []
 
--- what STARTUP_STATE holds in a phase
+-- what STARTUP_STATE holds in a phase from 0 to 7, and 0 for any other number
 unfoldable pub startup_state_of : ℕ → ℕ
 startup_state_of phase = get_or startup_states phase 0
 
@@ -114,7 +115,8 @@ pub record FitStatus (p : StatParts) : Type 0 where
   pub phase : p.phase < 2 ^ 3
   pub bus_width : p.bus_width < 2 ^ 2
 
--- each field of STAT holds the part that the guide says, and what is reserved is 0
+-- each field of this word of STAT holds its part, or 1 for INIT_COMPLETE and 0 for PART_SECURED, DEC_ERROR and
+-- XADC_OVER_TEMP; the reserved bits are 0, and the word has 32 bits
 pub record HasStatusFields (p : StatParts) (word : ℕ) : Type 0 where
   pub crc_error : field_of crc_error 1 word ≡ flag_of p.crc_error
   pub part_secured : field_of part_secured 1 word ≡ 0

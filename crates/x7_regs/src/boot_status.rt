@@ -5,7 +5,7 @@ ghost use Rattle.x7_regs.specs.BootStatus.{attempt_bits_of, before_bits_of, boot
 /// What began a boot attempt.
 #[derive(Clone, Copy)]
 pub enum Kind {
-    /// Nothing: the device is on a bench and takes a stream.
+    /// Nothing: the device is on a bench and takes a stream; no flash boots it.
     Bench,
     /// Power came.
     Power,
@@ -20,7 +20,7 @@ pub enum Kind {
 pub enum Cause {
     /// The watchdog fired.
     Watchdog,
-    /// A written idcode was not the part's.
+    /// A written idcode was not the part's, or frame data, a copy or START came before one that was.
     Id,
     /// A check word that was written differed from the running check.
     Crc,
@@ -57,7 +57,7 @@ const WRAP_ERROR: u32 = 6;
 /// The number of the lowest bit of BOOTSTS that speaks of the attempt before.
 const ATTEMPT_BEFORE_BIT: u32 = 8;
 
-/// The bits VALID, FALLBACK and IPROG of an attempt.
+/// The bits VALID, FALLBACK and IPROG of an attempt; 0 on the bench.
 #[tactic(auto, unfolding(crate::specs::Status::flag_of))]
 fn kind_bits(kind: Kind, ignored: bool) -> u32
     ensures value { result ≡ kind_bits_of kind ignored }
@@ -86,7 +86,7 @@ fn cause_bits(cause: Option<Cause>) -> u32
     }
 }
 
-/// The bits of an attempt.
+/// The bits of an attempt in its byte, from bit 0 up; 0 on the bench.
 fn attempt_bits(attempt: Attempt) -> u32
     ensures value { result ≡ attempt_bits_of attempt }
     ensures most { result < 2 ^ 7 }
@@ -97,7 +97,7 @@ fn attempt_bits(attempt: Attempt) -> u32
     }
 }
 
-/// The bits of the attempt before, 0 where there is none.
+/// The bits of the attempt before in its byte, from bit 0 up; 0 where there was none.
 fn before_bits(before: Option<Attempt>) -> u32
     ensures value { result ≡ before_bits_of before }
     ensures most { result < 2 ^ 7 }
@@ -108,7 +108,8 @@ fn before_bits(before: Option<Attempt>) -> u32
     }
 }
 
-/// The word of the boot history status register in this attempt and after the one before, if there was one.
+/// The word of the boot history status register in the attempt `latest`, after the one before, if there was one; 0 on
+/// the bench.
 #[tactic(auto, unfolding(crate::specs::BootStatus::boot_status_of))]
 pub fn boot_word(latest: Attempt, before: Option<Attempt>) -> u32
     ensures value { result ≡ boot_status_of latest before }

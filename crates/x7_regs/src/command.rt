@@ -7,13 +7,13 @@ ghost use Rattle.x7_regs.specs.Command.{code_of, command_by, command_code_count,
 pub enum Command {
     /// Nothing.
     Null,
-    /// Frame data is written.
+    /// Lets words of FDRI be written to frames.
     Wcfg,
-    /// A frame is written to more addresses.
+    /// Lets a frame be copied to further addresses (multi-frame write).
     Mfw,
-    /// The last frame is in.
+    /// Turns the interconnect on, after the last frame.
     Lfrm,
-    /// Frame data is read.
+    /// Lets frames be read as words of FDRO.
     Rcfg,
     /// Arms the startup sequence.
     Start,
@@ -57,7 +57,7 @@ pub fn command_code_of(word: u32) -> u32
     word & COMMAND_BITS
 }
 
-/// The command that a word of the command register calls for, by its low five bits: `Null` where these are no code.
+/// The command that a word of the command register calls for, by its low five bits: `Null` where no command has these.
 #[rattlefmt::skip]
 pub fn command_of(word: u32) -> Command
     ensures { result ≡ command_by word }

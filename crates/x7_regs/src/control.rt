@@ -1,4 +1,4 @@
-//! The fields of control register 0 (UG470, control register 0).
+//! Five fields of control register 0 (UG470, control register 0).
 ghost use Rattle.std.specs.Prelude.{◌≡◌};
 ghost use Rattle.x7_regs.specs.Control.{forbids_fallback, forbids_reading, forbids_writing, has_dec};
 

@@ -1,4 +1,4 @@
-//! Laws of the tables, for the proofs of crates above.
+//! Laws of the tables and of the word of STAT. The functions do nothing: their contracts are the laws.
 ghost use Rattle.std.specs.Prelude.{◌≡◌, ◌≢◌, ◌<◌, ℕ};
 ghost use Rattle.x7_regs.specs.Command.{code_of, command_by, command_code_count, command_code_of, command_name_of};
 ghost use Rattle.x7_regs.specs.Register.{number_of, reg_name, reg_number_count};
@@ -21,13 +21,14 @@ pub fn codes_are_distinct()
     ensures most { (c : Command) → code_of c < command_code_count }
 {}
 
-/// Different numbers below 32 have different names, and so have different commands.
+/// Different register numbers below 32 have different names, and different commands have different names.
 pub fn names_are_distinct()
     ensures registers { (m n : ℕ) → m < reg_number_count → n < reg_number_count → reg_name m ≡ reg_name n → m ≡ n }
     ensures commands { (a b : Command) → command_name_of a ≡ command_name_of b → a ≡ b }
 {}
 
-/// The word of the status register holds each part in the field of the guide, with nothing else in it.
+/// Where the mode and the phase are below 8 and the bus width below 4, the word of the status register holds each part
+/// in the guide's field, 1 in INIT_COMPLETE, and 0 in all other bits.
 pub fn status_has_its_fields()
     ensures { (p : StatParts) → FitStatus p → HasStatusFields p (status_of p) }
 {}

@@ -1,5 +1,6 @@
-//! The registers and commands of the configuration logic: their numbers, codes and names, the fields of control
-//! register 0 and of configuration options register 0, and the words of the status registers.
+//! The registers and commands of the configuration logic: their numbers, codes and names, five fields of control
+//! register 0, the fields of configuration options register 0 by which startup goes, and the words of the status
+//! registers.
 #![tactic(auto)]
 
 mod boot_status;
@@ -21,7 +22,7 @@ pub use control::{
 pub use laws::{
     codes_are_distinct, names_are_distinct, numbers_are_distinct, status_has_its_fields,
 };
-pub use name::{CommandName, RegName, command_text, name_of};
+pub use name::{CommandName, RegName, command_name, name_of};
 pub use named::{command_named, reg_named};
 pub use register::{Reg, reg_of};
 pub use startup_options::{DONE_CYCLE, DONE_PIPE, GTS_CYCLE, GWE_CYCLE, LOCK_CYCLE, MATCH_CYCLE};

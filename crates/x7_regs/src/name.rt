@@ -70,7 +70,8 @@ static REG_NAMES: [&str; 32] = [
     "CTL1", "R25", "R26", "R27", "R28", "R29", "R30", "BSPI",
 ];
 
-/// The name of a register number: of a number without a register, `R` and its two digits (this project's choice).
+/// The name of a register number (UG470, configuration registers); of a number without a register, `R` and its two
+/// digits (this project's choice).
 pub fn name_of(number: u8) -> RegName
     requires { number < reg_number_count }
     ensures { result ≡ reg_name number }
@@ -83,7 +84,7 @@ pub fn name_of(number: u8) -> RegName
 
 /// The name of a command (UG470, command register).
 #[rattlefmt::skip]
-pub fn command_text(command: Command) -> CommandName
+pub fn command_name(command: Command) -> CommandName
     ensures { result ≡ command_name_of command }
 {
     let text: &'static [u8] = match command {

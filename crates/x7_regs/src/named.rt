@@ -1,5 +1,5 @@
-//! Names of registers and commands read back. A name has one place in a table, so it is compared with one text, and not
-//! with all of a table.
+//! Names of registers and commands read back (this project's choice). A name has one place in a table, so it is
+//! compared with one text, and not with all of a table.
 ghost use Rattle.std.specs.Prelude.{◌≡◌, ◌≢◌, ◌≤◌, ◌<◌, ℕ, length, slice_index, IfSome, IfNone};
 ghost use Rattle.x7_regs.specs.Command.{command_name_of};
 ghost use Rattle.x7_regs.specs.Named.{IsCommandName, IsRegName, longest_name, place_of_name, shortest_name};
@@ -7,10 +7,11 @@ ghost use Rattle.x7_regs.specs.Register.{reg_name, reg_number_count};
 ghost use Rattle.x7_regs.specs.declared.command.Command.{Command};
 
 use crate::command::command_of;
-use crate::name::{command_text, name_of};
+use crate::name::{command_name, name_of};
 use x7_words::is_same;
 
-/// How many bytes a name has at least: its place in a table is made of its first two, its last and its length.
+/// How many bytes a text that is looked up has at least: a place in a table is made of the first two bytes, the last
+/// and the length. Each name has three or more.
 const SHORTEST_NAME: usize = 2;
 
 /// How many bytes a name of either table has at most: the longest is that of a command.
@@ -49,7 +50,7 @@ const COMMANDS: [u8; PLACE_COUNT] = [
      0,  6,  0,  0, 19, 11,  0,  0, 15,  0,  0,  0,  0,  0, 16,  0,
 ];
 
-/// What a table has at the place of a name.
+/// What a table has at the place of a text, whether or not the text is a name.
 fn at_place(table: &[u8; PLACE_COUNT], name: &[u8]) -> u8
     requires least { shortest_name ≤ length name.now }
     requires most { length name.now ≤ longest_name }
@@ -61,7 +62,7 @@ fn at_place(table: &[u8; PLACE_COUNT], name: &[u8]) -> u8
     table[weighed % PLACE_COUNT]
 }
 
-/// The register number that the table has for a name.
+/// The register number that the table has at the place of a text, whether or not the text is its name.
 fn register_at(name: &[u8]) -> u8
     requires least { shortest_name ≤ length name.now }
     requires most { length name.now ≤ longest_name }
@@ -71,7 +72,8 @@ fn register_at(name: &[u8]) -> u8
     at_place(&REGISTERS, name)
 }
 
-/// The register number of this name: a register's, or `R` and two digits for a number without a register.
+/// The register number of this name, a register's or, for a number without a register, `R` and its two digits; `None`
+/// for any other text.
 pub fn reg_named(text: &[u8]) -> Option<u8>
     ensures named { IfSome result (λ number. IsRegName text.now number) }
     ensures unnamed { IfNone result ((number : ℕ) → number < reg_number_count → text.now ≢ reg_name number) }
@@ -86,7 +88,7 @@ pub fn reg_named(text: &[u8]) -> Option<u8>
     None
 }
 
-/// The code of the command of this name.
+/// The code of the command of this name, or `None` for a text that no command has as its name.
 pub fn command_named(text: &[u8]) -> Option<u8>
     ensures named { IfSome result (λ code. IsCommandName text.now code) }
     ensures unnamed { IfNone result ((command : Command) → text.now ≢ command_name_of command) }
@@ -96,7 +98,7 @@ pub fn command_named(text: &[u8]) -> Option<u8>
     }
     let code = at_place(&COMMANDS, text);
     let command = command_of(u32::from(code));
-    if is_same(command_text(command).bytes(), text) {
+    if is_same(command_name(command).bytes(), text) {
         return Some(command.code() as u8);
     }
     None

@@ -25,7 +25,7 @@ pub struct StatParts {
     pub init_b: bool,
     /// The pin DONE as the device releases it. Nothing outside holds it low, so bits 13 and 14 of STAT are equal.
     pub done: bool,
-    /// A written idcode was not the part's.
+    /// A written idcode was not the part's, or frame data, a copy or START came before one that was.
     pub id_error: bool,
     /// The phase of the startup sequence, from 0 to 7.
     pub phase: u8,
@@ -65,7 +65,7 @@ const STARTUP_STATE: u32 = 18;
 
 const BUS_WIDTH: u32 = 25;
 
-/// A word of which the bit of this number alone is 1, where it is set; else 0.
+/// The word of which the bit of this number alone is 1, where `is_set` is true; else 0.
 #[tactic(auto, unfolding(crate::specs::Status::flag_of))]
 fn flag(is_set: bool, bit: u32) -> u32
     requires { bit < 16 }
@@ -75,7 +75,7 @@ fn flag(is_set: bool, bit: u32) -> u32
     u32::from(is_set) << bit
 }
 
-/// The state of the startup machine in a phase.
+/// The three bits of STARTUP_STATE in a phase from 0 to 7.
 #[rattlefmt::skip]
 #[tactic(auto, unfolding(crate::specs::Status::startup_state_of))]
 fn startup_state(phase: u8) -> u32

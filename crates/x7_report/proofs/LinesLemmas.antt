@@ -3,12 +3,12 @@ use Rattle.std.proofs.Common.{◌≡◌, ◌++◌, ℕ, Bool, List, [], Option, 
 use Rattle.std.proofs.lemmas.Grind.{flat_map-append}
 use Rattle.std.proofs.lemmas.List.{take-append-drop}
 use Rattle.x7_words.specs.Sink.{appended, PutsPrefix}
-use Rattle.x7_words.proofs.SinkLemmas.{appended_nil, appended_appended, prefix_more}
+use Rattle.x7_words.proofs.SinkLemmas.{appended_nil, appended_appended, prefix_more, begins_more}
 use Rattle.x7_part.specs.AddressOrder.{addresses_in}
 use Rattle.x7_part.specs.Part.{PartData}
 use Rattle.x7_memory.specs.FrameMap.{HaveSameFrames, FrameMap}
 use Rattle.x7_memory.specs.PartFrames.{frame_at}
-use Rattle.x7_engine.specs.declared.regs.Regs.{Regs}
+use Rattle.x7_engine.specs.declared.snapshot.Snapshot.{Snapshot}
 use Rattle.x7_engine.specs.declared.kept.Kept.{Kept}
 use Rattle.x7_engine.specs.Standing.{DeviceState, NoWordDue, frames_due}
 use Rattle.x7_engine.specs.State.{state_of, state_owing}
@@ -49,9 +49,6 @@ module _ (first now : Option (List ℕ)) (memory : FrameMap) (fars rest group mo
 pub after_head : (first mid new : Option (List ℕ)) (head lines : List ℕ) → mid ≡ appended first head → new ≡ appended mid lines → new ≡ appended first (head ++ lines)
 after_head first mid new head lines e f = f ∙ ap (λ t. appended t lines) e ∙ appended_appended first head lines
 
-pub head_failed : (first new : Option (List ℕ)) (head lines : List ℕ) → PutsPrefix first head new → PutsPrefix first (head ++ lines) new
-head_failed first new head lines p = prefix_more first first new [] head lines (sym (appended_nil first)) p
-
 pub lines_failed : (first mid new : Option (List ℕ)) (head lines : List ℕ) → mid ≡ appended first head → PutsPrefix mid lines new → PutsPrefix first (head ++ lines) new
 lines_failed first mid new head lines e p = rw (ap (λ t. head ++ t) (sym (append-nil lines))) (prefix_more first mid new head lines [] e p)
 
@@ -63,14 +60,14 @@ after prefix a b c d =
 
 -- a state, words read out and a number of frames that were put one after the other are what a report has before the
 -- lines of its frames
-pub head_is : (name part_name : List ℕ) (regs state : Regs) (reads old first second third : List ℕ) (count : ℕ) → name ≡ part_name → regs ≡ state → first ≡ old ++ state_text name regs → second ≡ first ++ reads_text reads
+pub head_is : (name part_name : List ℕ) (snapshot state : Snapshot) (reads old first second third : List ℕ) (count : ℕ) → name ≡ part_name → snapshot ≡ state → first ≡ old ++ state_text name snapshot → second ≡ first ++ reads_text reads
     → third ≡ second ++ codes "frames " ++ decimal count ++ codes "\n" → third ≡ old ++ (state_text part_name state ++ reads_text reads ++ codes "frames " ++ decimal count ++ codes "\n")
-head_is name part_name regs state reads old first second third count a b e f g =
+head_is name part_name snapshot state reads old first second third count a b e f g =
     let shown = state_text part_name state in
-    g ∙ ap (λ (t : List ℕ). t ++ codes "frames " ++ decimal count ++ codes "\n") (f ∙ ap (λ (t : List ℕ). t ++ reads_text reads) (e ∙ ap (λ (x : List ℕ). old ++ state_text x regs) a ∙ ap (λ (x : Regs). old ++ state_text part_name x) b))
+    g ∙ ap (λ (t : List ℕ). t ++ codes "frames " ++ decimal count ++ codes "\n") (f ∙ ap (λ (t : List ℕ). t ++ reads_text reads) (e ∙ ap (λ (x : List ℕ). old ++ state_text x snapshot) a ∙ ap (λ (x : Snapshot). old ++ state_text part_name x) b))
     ∙ ap (λ (t : List ℕ). t ++ codes "\n") (after old shown (reads_text reads) (codes "frames ") (decimal count)) ∙ append_assoc old (shown ++ reads_text reads ++ codes "frames " ++ decimal count) (codes "\n")
 
-play_is : (p q : PartData) (state : Regs) (reads : List ℕ) (frames : List (List ℕ)) (n : FrameMap) (head fars : List ℕ) → p ≡ q → HaveSameFrames (frame_at q frames) n → fars ≡ addresses_shown (frame_at p frames) (addresses_in p) →
+play_is : (p q : PartData) (state : Snapshot) (reads : List ℕ) (frames : List (List ℕ)) (n : FrameMap) (head fars : List ℕ) → p ≡ q → HaveSameFrames (frame_at q frames) n → fars ≡ addresses_shown (frame_at p frames) (addresses_in p) →
     head ≡ state_text q.name state ++ reads_text reads ++ codes "frames " ++ decimal (length fars) ++ codes "\n" → head ++ frame_lines_text (frame_at p frames) fars ≡ report_text q state reads n
 unfolding report_text frames_text
 play_is p q state reads frames n head fars d same e h =
@@ -83,7 +80,7 @@ play_is p q state reads frames n head fars d same e h =
     ∙ ap (λ (t : List ℕ). prefix ++ t) (frames_same (frame_at q frames) n (addresses_in q) same)
 
 -- the text after which a report begins, and then the whole report
-pub begun_is : (p q : PartData) (state : Regs) (reads : List ℕ) (frames : List (List ℕ)) (n : FrameMap) (old head fars : List ℕ) → p ≡ q → HaveSameFrames (frame_at q frames) n → fars ≡ addresses_shown (frame_at p frames) (addresses_in p)
+pub begun_is : (p q : PartData) (state : Snapshot) (reads : List ℕ) (frames : List (List ℕ)) (n : FrameMap) (old head fars : List ℕ) → p ≡ q → HaveSameFrames (frame_at q frames) n → fars ≡ addresses_shown (frame_at p frames) (addresses_in p)
     → head ≡ old ++ report_head q state reads (length fars) → head ++ frame_lines_text (frame_at p frames) fars ≡ old ++ report_text q state reads n
 begun_is p q state reads frames n old head fars d same e h =
     let shown = report_head q state reads (length fars) in
@@ -115,4 +112,4 @@ report_whole first mid new p q frames memory head kept fars places text a b e f 
 
 -- a prefix of a report's head is one of the report
 pub report_began : (first new : Option (List ℕ)) (head kept lines text : List ℕ) → head ≡ kept → kept ++ lines ≡ text → PutsPrefix first head new → PutsPrefix first text new
-report_began first new head kept lines text e t p = subst (λ (x : List ℕ). PutsPrefix first x new) (ap (λ (h : List ℕ). h ++ lines) e ∙ t) (head_failed first new head lines p)
+report_began first new head kept lines text e t p = subst (λ (x : List ℕ). PutsPrefix first x new) (ap (λ (h : List ℕ). h ++ lines) e ∙ t) (begins_more first new head lines p)

@@ -4,7 +4,7 @@ use Rattle.x7_part.specs.AddressOrder.{addresses_in}
 use Rattle.x7_part.specs.Part.{PartData}
 use Rattle.x7_memory.specs.FrameMap.{FrameMap}
 use Rattle.x7_memory.specs.PartFrames.{frame_at}
-use Rattle.x7_engine.specs.declared.regs.Regs.{Regs}
+use Rattle.x7_engine.specs.declared.snapshot.Snapshot.{Snapshot}
 use Rattle.x7_engine.specs.Past.{Past}
 use Rattle.x7_engine.specs.Standing.{DeviceState, frames_due}
 use Rattle.x7_engine.specs.State.{state_owing}
@@ -12,23 +12,23 @@ use Rattle.x7_report.specs.Frames.{frame_lines_text, frames_text}
 use Rattle.x7_report.specs.Reads.{reads_text}
 use Rattle.x7_report.specs.State.{state_text}
 
--- the state that a device of this past shows: FAR is that of the words given so far
-abbrev pub state_reported : DeviceState → Past → Regs
+-- the state that a device of this past shows; while words of frame data are due, FAR is that of the words given so far
+abbrev pub state_reported : DeviceState → Past → Snapshot
 state_reported device past = state_owing past.part past.kept past.wrapped past.bytes (frames_due device.registers.due)
 
 -- what a report has before the lines of its frames, of which it shows `count`
-abbrev pub report_head : PartData → Regs → List ℕ → ℕ → List ℕ
-report_head part regs reads count = state_text part.name regs ++ reads_text reads ++ codes "frames " ++ decimal count ++ codes "\n"
+abbrev pub report_head : PartData → Snapshot → List ℕ → ℕ → List ℕ
+report_head part snapshot reads count = state_text part.name snapshot ++ reads_text reads ++ codes "frames " ++ decimal count ++ codes "\n"
 
 -- the whole report of a device of the part, by its state, the words that it read out and its memory
-unfoldable pub report_text : PartData → Regs → List ℕ → FrameMap → List ℕ
-report_text part regs reads memory = state_text part.name regs ++ reads_text reads ++ frames_text memory (addresses_in part)
+unfoldable pub report_text : PartData → Snapshot → List ℕ → FrameMap → List ℕ
+report_text part snapshot reads memory = state_text part.name snapshot ++ reads_text reads ++ frames_text memory (addresses_in part)
 
 -- `head`, and after it the lines of the device's frames at the addresses `fars`
 abbrev pub text_begun : DeviceState → List ℕ → List ℕ → List ℕ
 text_begun device head fars = head ++ frame_lines_text (frame_at device.part device.registers.frames.memory) fars
 
--- a text that is ready to be written, a report with the lines before it, and whether what it reports stopped, as the
+-- a text that is ready to be written (a report, and any lines before it), and whether what it reports stopped, as the
 -- caller of `PlayText::new` says
 pub record PlayTextState : Type 0 where
   pub stopped : Bool

@@ -8,9 +8,9 @@ use Rattle.x7_regs.specs.declared.register.Reg.TheVariants as reg
 use Rattle.x7_text.specs.Digits.{hex_word}
 use Rattle.x7_engine.specs.declared.fault.Fault.{Fault}
 use Rattle.x7_engine.specs.declared.fault.Fault.TheVariants as fault
-use Rattle.x7_engine.specs.declared.regs.End.{End}
-use Rattle.x7_engine.specs.declared.regs.End.TheVariants as at_end
-use Rattle.x7_engine.specs.declared.regs.Regs.{Regs}
+use Rattle.x7_engine.specs.declared.snapshot.End.{End}
+use Rattle.x7_engine.specs.declared.snapshot.End.TheVariants as at_end
+use Rattle.x7_engine.specs.declared.snapshot.Snapshot.{Snapshot}
 
 -- the kind of a fault, and its words
 abbrev pub fault_text : Fault → List ℕ
@@ -47,52 +47,52 @@ abbrev pub phase_room : ℕ
 phase_room = 46
 
 -- the line of startup: its phase, and DONE, GTS_CFG_B and GWE
-unfoldable pub phase_text : Regs → List ℕ
-phase_text regs =
-    codes "phase " ++ decimal regs.phase
-    ++ codes " done " ++ line_digit regs.lines.done
-    ++ codes " gts " ++ line_digit regs.lines.gts
-    ++ codes " gwe " ++ line_digit regs.lines.gwe
+unfoldable pub phase_text : Snapshot → List ℕ
+phase_text snapshot =
+    codes "phase " ++ decimal snapshot.phase
+    ++ codes " done " ++ line_digit snapshot.lines.done
+    ++ codes " gts " ++ line_digit snapshot.lines.gts
+    ++ codes " gwe " ++ line_digit snapshot.lines.gwe
     ++ codes "\n"
 
 -- the registers that a report shows, each with its word, in the order of their numbers; without those of frame data
 -- (FDRI, FDRO, MFWR), LOUT and CBC
-abbrev pub reg_words : Regs → List (Reg × ℕ)
-reg_words regs =
-    (reg.Crc, regs.crc)
-    ∷ (reg.Far, regs.far)
-    ∷ (reg.Cmd, regs.cmd)
-    ∷ (reg.Ctl0, regs.ctl0)
-    ∷ (reg.Mask, regs.mask)
-    ∷ (reg.Stat, regs.stat)
-    ∷ (reg.Cor0, regs.cor0)
-    ∷ (reg.Idcode, regs.idcode)
-    ∷ (reg.Axss, regs.axss)
-    ∷ (reg.Cor1, regs.cor1)
-    ∷ (reg.Wbstar, regs.wbstar)
-    ∷ (reg.Timer, regs.timer)
-    ∷ (reg.Bootsts, regs.bootsts)
-    ∷ (reg.Ctl1, regs.ctl1)
-    ∷ (reg.Bspi, regs.bspi)
+abbrev pub reg_words : Snapshot → List (Reg × ℕ)
+reg_words snapshot =
+    (reg.Crc, snapshot.crc)
+    ∷ (reg.Far, snapshot.far)
+    ∷ (reg.Cmd, snapshot.cmd)
+    ∷ (reg.Ctl0, snapshot.ctl0)
+    ∷ (reg.Mask, snapshot.mask)
+    ∷ (reg.Stat, snapshot.stat)
+    ∷ (reg.Cor0, snapshot.cor0)
+    ∷ (reg.Idcode, snapshot.idcode)
+    ∷ (reg.Axss, snapshot.axss)
+    ∷ (reg.Cor1, snapshot.cor1)
+    ∷ (reg.Wbstar, snapshot.wbstar)
+    ∷ (reg.Timer, snapshot.timer)
+    ∷ (reg.Bootsts, snapshot.bootsts)
+    ∷ (reg.Ctl1, snapshot.ctl1)
+    ∷ (reg.Bspi, snapshot.bspi)
     ∷ []
 
 -- the line of a register: its name and its word
 abbrev pub reg_line : Reg × ℕ → List ℕ
 reg_line row = codes "reg " ++ reg_name (number_of row.0) ++ space_byte ∷ hex_word row.1 ++ codes "\n"
 
--- the most bytes that the line of a register has: those of the longest name, BOOTSTS
+-- the most bytes that the line of a register has: those of the line with the longest name, BOOTSTS
 abbrev pub reg_line_room : ℕ
 reg_line_room = 21
 
 -- the lines of the registers
-unfoldable pub reg_text : Regs → List ℕ
-reg_text regs = flat_map reg_line (reg_words regs)
+unfoldable pub reg_text : Snapshot → List ℕ
+reg_text snapshot = flat_map reg_line (reg_words snapshot)
 
 -- the lines of a device's state: its part's name, how many bytes it took, where these end, startup and the registers
-unfoldable pub state_text : List ℕ → Regs → List ℕ
-state_text name regs =
+unfoldable pub state_text : List ℕ → Snapshot → List ℕ
+state_text name snapshot =
     codes "part " ++ name ++ codes "\n"
-    ++ codes "taken " ++ decimal regs.taken ++ codes "\n"
-    ++ codes "end " ++ end_text regs.end ++ codes "\n"
-    ++ phase_text regs
-    ++ reg_text regs
+    ++ codes "taken " ++ decimal snapshot.taken ++ codes "\n"
+    ++ codes "end " ++ end_text snapshot.end ++ codes "\n"
+    ++ phase_text snapshot
+    ++ reg_text snapshot

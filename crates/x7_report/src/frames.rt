@@ -86,7 +86,7 @@ fn put_digits(out: &mut Vec<u8>, words: &[u32])
     put_digits_one_by_one(out, rest);
 }
 
-/// Appends the line of a frame, as `frame_line` does. There is room for it, and so no memory is taken.
+/// Appends to `out`, which must have room for it, the line of a frame that `frame_line` appends. No memory is taken.
 #[tactic(auto, unfolding(crate::specs::Frames::frame_text))]
 pub fn put_frame(out: &mut Vec<u8>, far: u32, words: &[u32])
     requires { HasSpareRoom out.old (frame_line_size (length words.now)) }
@@ -156,8 +156,8 @@ pub(crate) fn shown_addresses(
     Ok(fars)
 }
 
-/// Appends the line of the frame at the address `far`, and nothing where there is no frame. There is room for the line,
-/// and so no memory is taken.
+/// Appends the line of the frame at the address `far`, and nothing where there is no frame. `text` must have room for
+/// the longest line of a frame; no memory is taken.
 pub(crate) fn put_frame_at(text: &mut Vec<u8>, part: &Part, memory: &Memory, far: u32)
     requires memory { AreFramesOf part.now memory.now }
     requires room { HasSpareRoom text.old frame_line_room }

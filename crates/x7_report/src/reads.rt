@@ -23,7 +23,8 @@ fn put_data(text: &mut Vec<u8>, words: &[u32]) -> Result<(), NoMemory>
     Ok(())
 }
 
-/// Appends the lines of the words read out.
+/// Appends the line `reads N` with how many words were read out, and these in `data` lines of eight. `NoMemory` may
+/// leave a part of this in `text`.
 #[tactic(auto, unfolding(crate::specs::Reads::reads_text))]
 pub(crate) fn put_reads(text: &mut Vec<u8>, reads: &[u32]) -> Result<(), NoMemory>
     ensures { OnOk result (text.new.items ≡ text.old.items ++ reads_text reads.now) }

@@ -42,8 +42,8 @@ pub(crate) fn begin_report(
     Ok(fars)
 }
 
-/// The report of a device and of the words that it read out (this project's choice): `part NAME`; `taken N`, the bytes
-/// that it took; `end` and where they end; `phase P done D gts G gwe E`; fifteen lines `reg NAME WORD`; `reads N` and
+/// The report of a device and of the words that it read out (this project's choice): `part NAME`; `taken N`, how many
+/// bytes it took; `end` and where these end; `phase P done D gts G gwe E`; fifteen lines `reg NAME WORD`; `reads N` and
 /// the words in `data` lines of eight; `frames N` and the `frame` lines of all frames that have a word other than 0.
 /// While words of frame data are due, FAR is that of the words given so far.
 pub fn report(alloc: Global, device: &Device, reads: &[u32]) -> Result<Vec<u8>, NoMemory>

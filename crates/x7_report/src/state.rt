@@ -6,7 +6,7 @@ ghost use Rattle.x7_text.specs.Appends.{Appends, HasSpareRoom};
 ghost use Rattle.x7_text.specs.Digits.{hex_word};
 ghost use Rattle.x7_report.specs.State.{end_room, end_text, fault_room, fault_text, line_digit, phase_room, phase_text, reg_line, reg_line_room, reg_text, reg_words, state_text};
 
-use x7_engine::{End, Fault, Regs};
+use x7_engine::{End, Fault, Snapshot};
 use x7_regs::{Reg, name_of};
 use x7_text::{hex_of_word, make_room, put, put_decimal, put_number, put_text};
 use x7_words::NoMemory;
@@ -78,12 +78,12 @@ fn put_end(out: &mut Vec<u8>, end: End)
 /// Appends to `out` what a report says after `end `, of where the bytes taken end (this project's choice): `searching`,
 /// `synced`, `iprog WBSTAR`, or `fault ` with the kind of fault and its words. Words have eight upper-case hexadecimal
 /// digits; no line feed is appended. `NoMemory` leaves `out` as it was.
-pub fn end_words(out: &mut Vec<u8>, regs: &Regs) -> Result<(), NoMemory>
-    ensures appends { OnOk result (out.new.items ≡ out.old.items ++ end_text regs.now.end) }
+pub fn end_words(out: &mut Vec<u8>, snapshot: &Snapshot) -> Result<(), NoMemory>
+    ensures appends { OnOk result (out.new.items ≡ out.old.items ++ end_text snapshot.now.end) }
     ensures unchanged { OnErr result (out.new.items ≡ out.old.items) }
 {
     make_room(out, END_ROOM)?;
-    put_end(out, regs.end);
+    put_end(out, snapshot.end);
     Ok(())
 }
 
@@ -98,50 +98,50 @@ fn put_bit(out: &mut Vec<u8>, name: &[u8], bit: bool)
 
 /// Appends the line of startup.
 #[tactic(auto, unfolding(crate::specs::State::phase_text))]
-fn put_phase(out: &mut Vec<u8>, regs: &Regs)
+fn put_phase(out: &mut Vec<u8>, snapshot: &Snapshot)
     requires { HasSpareRoom out.old phase_room }
-    ensures { out.new.items ≡ out.old.items ++ phase_text regs.now }
+    ensures { out.new.items ≡ out.old.items ++ phase_text snapshot.now }
 {
     put(out, b"phase ");
-    put_decimal(out, u64::from(regs.phase));
-    put_bit(out, b" done ", regs.lines.done);
-    put_bit(out, b" gts ", regs.lines.gts);
-    put_bit(out, b" gwe ", regs.lines.gwe);
+    put_decimal(out, u64::from(snapshot.phase));
+    put_bit(out, b" done ", snapshot.lines.done);
+    put_bit(out, b" gts ", snapshot.lines.gts);
+    put_bit(out, b" gwe ", snapshot.lines.gwe);
     put(out, b"\n");
 }
 
 /// Appends to `out` the line `phase P done D gts G gwe E` (this project's choice): the phase of startup in decimal, and
 /// DONE, GTS_CFG_B and GWE as 0 or 1. `NoMemory` leaves `out` as it was.
-pub fn phase_line(out: &mut Vec<u8>, regs: &Regs) -> Result<(), NoMemory>
-    ensures appends { OnOk result (out.new.items ≡ out.old.items ++ phase_text regs.now) }
+pub fn phase_line(out: &mut Vec<u8>, snapshot: &Snapshot) -> Result<(), NoMemory>
+    ensures appends { OnOk result (out.new.items ≡ out.old.items ++ phase_text snapshot.now) }
     ensures unchanged { OnErr result (out.new.items ≡ out.old.items) }
 {
     make_room(out, PHASE_ROOM)?;
-    put_phase(out, regs);
+    put_phase(out, snapshot);
     Ok(())
 }
 
 /// The registers that a report shows, in the order of their numbers, each with its word.
 #[rattlefmt::skip]
-fn rows_of(regs: &Regs) -> [(Reg, u32); REG_LINES]
-    ensures { result ≡ reg_words regs.now }
+fn rows_of(snapshot: &Snapshot) -> [(Reg, u32); REG_LINES]
+    ensures { result ≡ reg_words snapshot.now }
 {
     [
-        (Reg::Crc,     regs.crc),
-        (Reg::Far,     regs.far),
-        (Reg::Cmd,     regs.cmd),
-        (Reg::Ctl0,    regs.ctl0),
-        (Reg::Mask,    regs.mask),
-        (Reg::Stat,    regs.stat),
-        (Reg::Cor0,    regs.cor0),
-        (Reg::Idcode,  regs.idcode),
-        (Reg::Axss,    regs.axss),
-        (Reg::Cor1,    regs.cor1),
-        (Reg::Wbstar,  regs.wbstar),
-        (Reg::Timer,   regs.timer),
-        (Reg::Bootsts, regs.bootsts),
-        (Reg::Ctl1,    regs.ctl1),
-        (Reg::Bspi,    regs.bspi),
+        (Reg::Crc,     snapshot.crc),
+        (Reg::Far,     snapshot.far),
+        (Reg::Cmd,     snapshot.cmd),
+        (Reg::Ctl0,    snapshot.ctl0),
+        (Reg::Mask,    snapshot.mask),
+        (Reg::Stat,    snapshot.stat),
+        (Reg::Cor0,    snapshot.cor0),
+        (Reg::Idcode,  snapshot.idcode),
+        (Reg::Axss,    snapshot.axss),
+        (Reg::Cor1,    snapshot.cor1),
+        (Reg::Wbstar,  snapshot.wbstar),
+        (Reg::Timer,   snapshot.timer),
+        (Reg::Bootsts, snapshot.bootsts),
+        (Reg::Ctl1,    snapshot.ctl1),
+        (Reg::Bspi,    snapshot.bspi),
     ]
 }
 
@@ -170,27 +170,27 @@ fn put_rows(out: &mut Vec<u8>, rows: &[(Reg, u32)])
 /// Appends to `out` the fifteen lines `reg NAME WORD` of the registers, from CRC to BSPI in the order of their numbers
 /// (this project's choice). Words have eight upper-case hexadecimal digits. `NoMemory` leaves `out` as it was.
 #[tactic(auto, unfolding(crate::specs::State::reg_text))]
-pub fn reg_lines(out: &mut Vec<u8>, regs: &Regs) -> Result<(), NoMemory>
-    ensures appends { OnOk result (out.new.items ≡ out.old.items ++ reg_text regs.now) }
+pub fn reg_lines(out: &mut Vec<u8>, snapshot: &Snapshot) -> Result<(), NoMemory>
+    ensures appends { OnOk result (out.new.items ≡ out.old.items ++ reg_text snapshot.now) }
     ensures unchanged { OnErr result (out.new.items ≡ out.old.items) }
 {
     make_room(out, REG_LINES * REG_LINE_ROOM)?;
-    put_rows(out, &rows_of(regs));
+    put_rows(out, &rows_of(snapshot));
     Ok(())
 }
 
 /// Appends the lines of the state of a device of the part of this name.
 #[tactic(auto, unfolding(crate::specs::State::state_text))]
-pub(crate) fn put_state(text: &mut Vec<u8>, name: &str, regs: &Regs) -> Result<(), NoMemory>
-    ensures { OnOk result (text.new.items ≡ text.old.items ++ state_text name.now regs.now) }
+pub(crate) fn put_state(text: &mut Vec<u8>, name: &str, snapshot: &Snapshot) -> Result<(), NoMemory>
+    ensures { OnOk result (text.new.items ≡ text.old.items ++ state_text name.now snapshot.now) }
 {
     put_text(text, b"part ")?;
     put_text(text, name.as_bytes())?;
     put_text(text, b"\ntaken ")?;
-    put_number(text, regs.taken)?;
+    put_number(text, snapshot.taken)?;
     put_text(text, b"end ")?;
-    end_words(text, regs)?;
+    end_words(text, snapshot)?;
     put_text(text, b"\n")?;
-    phase_line(text, regs)?;
-    reg_lines(text, regs)
+    phase_line(text, snapshot)?;
+    reg_lines(text, snapshot)
 }

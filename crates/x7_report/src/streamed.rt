@@ -23,7 +23,8 @@ const LINES_AT_ONCE: usize = 128;
 /// The most bytes that the lines written at once take.
 const ROOM_AT_ONCE: usize = LINES_AT_ONCE * FRAME_LINE_ROOM;
 
-/// Appends the lines of the frames at the addresses `fars`. There is room for them, and so no memory is taken.
+/// Appends the lines of the frames at the addresses `fars`. `text` must have room for as many of the longest lines; no
+/// memory is taken.
 fn put_lines(text: &mut Vec<u8>, part: &Part, memory: &Memory, fars: &[u32])
     requires memory { AreFramesOf part.now memory.now }
     requires room { HasSpareRoom text.old (frame_line_room * length fars.now) }

@@ -4,7 +4,7 @@ use crate::given::Given;
 use crate::notes::{Notes, common_length};
 use crate::running::{Ending, Variation};
 
-/// The line of the text that begins most as the one given does.
+/// The line of the text that has most first bytes in common with the one given; an empty one where none has any.
 fn nearest<'a>(text: &'a str, line: &[u8]) -> &'a [u8] {
     let mut best: &[u8] = b"";
     let mut most = 0;
@@ -22,7 +22,7 @@ fn nearest<'a>(text: &'a str, line: &[u8]) -> &'a [u8] {
     best
 }
 
-/// The bytes as text, or none of it where they are none.
+/// The bytes as text, an empty one where they are no UTF-8.
 pub(crate) fn text_of(bytes: &[u8]) -> &str {
     std::str::from_utf8(bytes).unwrap_or("")
 }

@@ -20,11 +20,11 @@ pub(crate) struct Damaged {
     alloc: Global,
     /// At most one: the input before the damage.
     inputs: Vec<Named>,
-    /// What is done to it.
+    /// How the input is damaged.
     damage: Damage,
-    /// The first number.
+    /// The number of the first damage.
     pub(crate) from: u32,
-    /// The first number after the last.
+    /// The number after that of the last damage.
     pub(crate) to: u32,
 }
 
@@ -37,7 +37,7 @@ fn change_bit(bytes: &mut [u8], number: u32) {
 }
 
 impl Damaged {
-    /// No input, and one number, of which it has no damage.
+    /// No input to damage, and one number, for which nothing is damaged.
     pub(crate) fn new(alloc: Global) -> Damaged {
         Damaged {
             alloc,
@@ -48,7 +48,7 @@ impl Damaged {
         }
     }
 
-    /// Whether there is such an input.
+    /// Whether there is an input to damage.
     pub(crate) fn has_input(&self) -> bool {
         !self.inputs.is_empty()
     }

@@ -74,10 +74,32 @@ impl Expected {
         }
     }
 
-    /// Takes a line that says what a run comes to, or what is kept of it.
+    /// Takes how much of the text is given. `Fault::Line`: another line gave as much already, or lines of another kind.
+    fn take_extent(&mut self, extent: Extent) -> Result<(), Fault> {
+        match self.extent {
+            Extent::Whole => self.extent = extent,
+            _ => return Err(Fault::Line),
+        }
+        Ok(())
+    }
+
+    /// Takes that parts of the text are given. `Fault::Line`: another line gave the text in another way.
+    fn take_part(&mut self) -> Result<(), Fault> {
+        match self.extent {
+            Extent::Parts => Ok(()),
+            Extent::Whole if self.out.is_empty() => self.take_extent(Extent::Parts),
+            _ => Err(Fault::Line),
+        }
+    }
+
+    /// Takes a line that says what a run comes to, or what is kept of it. `Fault::Key`: its key is of no such line.
+    /// `Fault::Line`: it says of the text what doesn't go with another line, as lines of the text beside parts of it.
     pub(crate) fn take(&mut self, shared: &[Named], key: &str, rest: &str) -> Result<(), Fault> {
         match key {
             "out" | "out_lines" | "out_bytes" | "out_slice" => {
+                if let Extent::Parts = self.extent {
+                    return Err(Fault::Line);
+                }
                 return put(self.alloc, &mut self.out, shared, key, rest);
             }
             "err" => return put_line(&mut self.err, rest),
@@ -91,16 +113,16 @@ impl Expected {
                 return self.kept.push_str(rest).or(Err(Fault::NoMemory));
             }
             "has" => {
-                self.extent = Extent::Parts;
+                self.take_part()?;
                 return put_line(&mut self.out, rest);
             }
             "length" => {
-                self.extent = Extent::Parts;
+                self.take_part()?;
                 self.length = Some(rest.parse::<u32>()?);
             }
             "status" => self.status = rest.parse::<u8>()?,
-            "prefix" => self.extent = Extent::Prefix,
-            "any" => self.extent = Extent::Any,
+            "prefix" => self.take_extent(Extent::Prefix)?,
+            "any" => self.take_extent(Extent::Any)?,
             _ => return Err(Fault::Key),
         }
         Ok(())

@@ -15,14 +15,14 @@ const WRITE_FAULT: u8 = 7;
 /// The message of a run in which a write failed.
 const WRITE_MESSAGE: &[u8] = b"x7: write fault\n";
 
-/// The name in the message of a read fault.
+/// The name in the message of a read fault; `None` for any other message.
 fn name_of(message: &[u8]) -> Option<&str> {
     text_of(message)
         .strip_prefix("x7: read fault ")?
         .strip_suffix("\n")
 }
 
-/// The place of the first of these words that is the name, from a place on.
+/// The place, from 0, of the first word from place `from` on that is the name; `None` where none is.
 fn next_place(words: &[String], from: usize, name: &str) -> Option<usize> {
     for place in from..words.len() {
         if words[place].as_str() == name {
@@ -37,7 +37,7 @@ fn next_place(words: &[String], from: usize, name: &str) -> Option<usize> {
 #[derive(Drop)]
 pub(crate) struct Blamed {
     alloc: Global,
-    /// The place of the word that was named last.
+    /// The place, from 0, of the word that was named last; 1, after the command's own word, where none was.
     last: usize,
     /// The names, without bytes.
     names: Vec<Named>,
@@ -85,7 +85,8 @@ fn is_of(words: &[String], command: &str) -> bool {
     }
 }
 
-/// What a run leaves in which a call of the inputs or the flash failed: a read fault, and at most a prefix of a listing.
+/// What a run leaves in which a call of the inputs or the flash failed: a read fault, and at most a prefix of a
+/// listing. What its flash holds isn't compared.
 fn due_after_read<'a>(
     notes: &mut Notes,
     words: &[String],

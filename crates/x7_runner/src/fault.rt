@@ -8,7 +8,8 @@ use x7_words::NoMemory;
 pub enum Fault {
     /// The line begins with a key that the format lacks.
     Key,
-    /// The line isn't one of the format.
+    /// The line isn't one of the format, or can't stand where it does: it names what isn't there, or what is there
+    /// already.
     Line,
     /// There was no memory.
     NoMemory,

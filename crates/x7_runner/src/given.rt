@@ -66,7 +66,7 @@ pub(crate) struct Given {
     pub(crate) flash: Named,
     /// How many writes the flash has room to record.
     pub(crate) write_room: u32,
-    /// How many bytes of their ranges it has room for.
+    /// How many bytes the ranges of the recorded writes may have in all.
     pub(crate) range_room: u32,
     /// The number of the call that is torn, from 1 among the flash's; 0 for none.
     pub(crate) torn_call: u32,
@@ -74,7 +74,7 @@ pub(crate) struct Given {
     pub(crate) torn_bits: u8,
     /// The most bytes of one read: a run for each, or one run without a limit.
     pub(crate) pieces: Vec<u32>,
-    /// The most bytes of one read of a run that should come to the same as the one beside it.
+    /// The most bytes of one read: for each a run more, which should come to the same as one in which nothing fails.
     pub(crate) alike: Vec<u32>,
     /// The most bytes of one write of the text or the message.
     pub(crate) write_piece: u32,
@@ -190,7 +190,7 @@ impl Given {
         Ok(())
     }
 
-    /// Takes a line that says what a run is given.
+    /// Takes a line that says what a run is given. `Fault::Key`: its key is of no such line.
     pub(crate) fn take(&mut self, shared: &[Named], key: &str, rest: &str) -> Result<(), Fault> {
         match key {
             "bytes" | "text" | "text_lines" | "slice" => {

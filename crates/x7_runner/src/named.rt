@@ -66,7 +66,8 @@ pub(crate) fn put_under(
     append(bytes_under(alloc, list, name)?, bytes)
 }
 
-/// The bytes of `NAME FROM TO` in the list: from the one place to before the other.
+/// The bytes of `NAME FROM TO` in the list: from place FROM to before place TO, which count from 0. `None` where the
+/// list has no such bytes.
 fn slice_of<'a>(list: &'a [Named], line: &str) -> Option<&'a [u8]> {
     let (name, places) = first_word(line);
     let (from, to) = range_of(places)?;

@@ -21,7 +21,7 @@ pub(crate) struct Variation {
     pub(crate) piece: u32,
     /// The object whose call fails.
     pub(crate) object: Object,
-    /// The number of that call, 0 for none.
+    /// The number of the call that fails, from 1 among those of its object; 0 for none.
     pub(crate) call: u32,
     /// Whether the first call of `err` fails too.
     pub(crate) is_mute: bool,
@@ -160,8 +160,8 @@ impl Objects {
         }
     }
 
-    /// Puts the inputs of the file of cases, and the case's own, which come before them, and says how many bytes each
-    /// call takes or gives at most, and which calls fail.
+    /// Puts the inputs of the file of cases, and the case's own, which take the place of those of the same name, and
+    /// says how many bytes each call takes or gives at most, and which calls fail.
     fn prepare(
         &mut self,
         shared: &[Named],
@@ -196,7 +196,7 @@ impl Objects {
         }
     }
 
-    /// What the objects hold after a run.
+    /// Puts into the ending what the objects hold after a run.
     fn leave(&mut self, variation: &Variation, ending: &mut Ending) -> Result<(), Fault> {
         ending.is_spared = self.is_spared(variation.object);
         replace(&mut ending.out, self.out.bytes())?;

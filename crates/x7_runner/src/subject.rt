@@ -26,7 +26,7 @@ struct Subject {
     good: u32,
     /// What the case that ran last keeps of its runs.
     kept: Ending,
-    /// The last run.
+    /// What the last run left, until it is kept.
     came: Ending,
 }
 
@@ -87,7 +87,7 @@ impl Subject {
         }
     }
 
-    /// Runs the case.
+    /// Runs the case, and counts it where nothing is noted of it.
     fn run<C: Command>(&mut self, command: &C) {
         let length = self.notes.text.len();
         let mut trial = Trial {
@@ -114,7 +114,7 @@ impl Subject {
         self.case.name.push_str(name).or(Err(Fault::NoMemory))
     }
 
-    /// Takes a line of the file.
+    /// Takes a line of the file. The line `end` runs the case.
     fn take<C: Command>(&mut self, command: &C, line: &str) -> Result<(), Fault> {
         if line.is_empty() || line.starts_with('#') {
             return Ok(());
@@ -181,7 +181,8 @@ impl Subject {
     }
 }
 
-/// Appends the report of a file of cases: notes, and a line that counts the cases that came as they are written.
+/// Appends the report of a file of cases: notes, and a line that counts the cases that came as they are written. `text`
+/// is the file, `name` what the report calls it, and `part` the input `p` of each case. It fails where memory lacks.
 pub fn report_cases<C: Command>(
     command: &C,
     alloc: Global,

@@ -3,7 +3,7 @@ use crate::fault::Fault;
 use hex::FromHexError;
 use std::alloc::Global;
 
-/// The text before the first space, and the text after it.
+/// The text before the first space, and the text after it; where no space stands, the whole text and an empty one.
 pub(crate) fn first_word(line: &str) -> (&str, &str) {
     line.split_once(' ').unwrap_or((line, ""))
 }
@@ -22,7 +22,7 @@ pub(crate) fn put_number(list: &mut Vec<u32>, token: &str) -> Result<(), Fault> 
     list.push(number).or(Err(Fault::NoMemory))
 }
 
-/// The numbers of `FROM TO`.
+/// The numbers of `FROM TO`, from 0 on; `None` for any other text.
 pub(crate) fn range_of(places: &str) -> Option<(u32, u32)> {
     let (from, to) = first_word(places);
     match (from.parse::<u32>(), to.parse::<u32>()) {

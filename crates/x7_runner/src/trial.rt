@@ -13,6 +13,9 @@ use std::mem::swap;
 /// The most calls of an object that fail in turn.
 const MOST_CALLS: u32 = 1_000_000;
 
+/// The greatest status of a run that went through, and so read all inputs that its words name.
+const READ_ALL: u8 = 1;
+
 /// The limits of one read, in bytes, where a case gives none: one run without a limit.
 const NO_LIMIT: [u32; 1] = [u32::MAX];
 
@@ -47,7 +50,7 @@ pub(crate) struct Trial<'a, C: Command> {
     /// What is kept of the case: the run without a failing call, beside which others stand, or, where the case names
     /// the calls that fail, the last run with one of them.
     pub(crate) kept: &'a mut Ending,
-    /// The last run.
+    /// What the last run left, until it is kept.
     pub(crate) came: &'a mut Ending,
 }
 
@@ -101,7 +104,8 @@ impl<'a, C: Command> Trial<'a, C> {
         self.came.is_spared || self.notes.lacks_memory
     }
 
-    /// Runs with each call of the object failing in turn, until a run has no such call.
+    /// Runs with each call of the object failing in turn, until a run has no such call, or for `MOST_CALLS` runs, after
+    /// which a note says that there was no end.
     fn run_calls(&mut self, variation: &Variation, blamed: &mut Blamed) {
         let mut variation = *variation;
         for call in 1..=MOST_CALLS {
@@ -118,7 +122,7 @@ impl<'a, C: Command> Trial<'a, C> {
     fn run_each(&mut self, variation: &Variation) {
         let mut blamed = Blamed::new(self.alloc);
         self.run_calls(variation, &mut blamed);
-        if matches!(variation.object, Object::In) && self.kept.status <= 1 {
+        if matches!(variation.object, Object::In) && self.kept.status <= READ_ALL {
             let given = &self.case.given;
             blamed.compare_all(self.notes, &given.words, self.shared);
             blamed.compare_all(self.notes, &given.words, &given.inputs);

@@ -26,7 +26,7 @@ since_none : (t : List Call) → has_shutdown t ≡ false → since_shutdown t �
 since_none [] h = refl
 since_none (c ∷ t) h = rw h refl
 
-choice : (b : Bool) (x y z : List Call) → (if b then x ++ z else y ++ z) ≡ (if b then x else y) ++ z
+pub choice : {X : Type 0} → (b : Bool) (x y z : List X) → (if b then x ++ z else y ++ z) ≡ (if b then x else y) ++ z
 choice true x y z = refl
 choice false x y z = refl
 
@@ -288,6 +288,6 @@ one_phase_of : (lock_ticks match_ticks : ℕ) (progress : StartupProgress) (p q 
 one_phase_of lock_ticks match_ticks NotBegun p q h k = let first : p ≡ 0 = h in let second : q ≡ 0 = k in omega arith
 one_phase_of lock_ticks match_ticks (Begun cor0 bytes) p q h k = one_phase (wait_of lock_ticks match_ticks cor0) (bytes / 4) p q h k
 
--- a list of calls has one phase
+-- a list of calls has at most one phase
 pub one_phase_after : (lock_ticks match_ticks : ℕ) (calls : List Call) (p q : ℕ) → IsPhaseOf lock_ticks match_ticks (progress_of calls) p → IsPhaseOf lock_ticks match_ticks (progress_of calls) q → p ≡ q
 one_phase_after lock_ticks match_ticks calls p q h k = one_phase_of lock_ticks match_ticks (progress_of calls) p q h k

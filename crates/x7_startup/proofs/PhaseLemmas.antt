@@ -41,7 +41,7 @@ phase_first w = record {
   ];
 }
 
--- below the wait of its phase a startup stays
+-- up to the wait of its phase a startup stays in it
 pub phase_stays : (w : ℕ → ℕ) (t k p : ℕ) → IsPhase w t p → t + k ≤ w p → IsPhase w (t + k) p
 phase_stays w t k p s h = record {
   most = s.most;

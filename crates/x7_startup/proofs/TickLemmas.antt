@@ -1,4 +1,4 @@
--- How ticks pass, one by one.
+-- How ticks pass: in the loop of `pass_ticks`, many at once or one, and in `tick`.
 use Rattle.std.proofs.Common.{◌≡◌, ℕ, ◌+◌, ◌-◌, ◌<◌, ◌≤◌, min, arith, ◌^◌, ◌⊎◌, inl, inr}
 use Rattle.x7_startup.specs.Phases.{IsPhase, tick_limit}
 use Rattle.x7_startup.specs.Ticks.{PassesTicks, reached}

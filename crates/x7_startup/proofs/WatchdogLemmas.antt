@@ -1,8 +1,9 @@
 -- One call more at the end of a list of calls of a watchdog.
-use Rattle.std.proofs.Common.{◌≡◌, ◌==◌, ℕ, zero, suc, ◌+◌, ◌-◌, ◌*◌, ◌^◌, ◌<◌, ◌≤◌, min, Bool, true, false, not, List, [], ◌∷◌, ◌++◌, if◌then◌else◌, refl, sym, ap, ◌∙◌, arith, add_assoc, IsTrue, ◌↔◌, ◌&&◌, inl, inr, eq-eqb}
+use Rattle.std.proofs.Common.{◌≡◌, ◌==◌, ℕ, zero, suc, ◌+◌, ◌-◌, ◌*◌, ◌^◌, ◌<◌, ◌≤◌, min, Bool, true, false, not, List, [], ◌∷◌, ◌++◌, if◌then◌else◌, refl, sym, ap, ◌∙◌, arith, add_assoc, IsTrue, ◌↔◌, ◌&&◌, inl, inr, eq-eqb, eqb-true}
 use Rattle.std.proofs.lemmas.Bool.Decides.{eqb_tells}
 use Rattle.std.proofs.Math.Nat.{suc-mul}
 use Rattle.x7_startup.specs.Watchdog.{WatchCall, Load, Reload, Watched, cfg_mon_of, timer_value_of, is_on, timer_after, has_load, since_load, bytes_on, watched_count, firing_count, WatchdogState, WatchesFor, FiresNext, bytes_alike}
+use Rattle.x7_startup.proofs.CallLemmas.{choice}
 
 pub timer_watched : (t : ℕ) (calls : List WatchCall) (e : Bool) → timer_after t (calls ++ Watched e ∷ []) ≡ timer_after t calls
 timer_watched t [] e = refl
@@ -34,10 +35,6 @@ loads (Load m ∷ calls) c h = refl
 loads (Reload ∷ calls) c h = refl
 loads (Watched x ∷ calls) c h = loads calls c h
 
-choice : (b : Bool) (x y z : List WatchCall) → (if b then x ++ z else y ++ z) ≡ (if b then x else y) ++ z
-choice true x y z = refl
-choice false x y z = refl
-
 since_watched : (calls : List WatchCall) (e : Bool) → since_load (calls ++ Watched e ∷ []) ≡ since_load calls ++ Watched e ∷ []
 since_watched [] e = refl
 since_watched (c ∷ calls) e =
@@ -66,9 +63,6 @@ count_watched off t calls e =
 pub count_loaded : (off : Bool) (t : ℕ) (calls : List WatchCall) (c : WatchCall) → has_load (c ∷ []) ≡ true → watched_count off t (calls ++ c ∷ []) ≡ 0
 count_loaded off t calls c h = ap (bytes_on off (timer_after t (calls ++ c ∷ []))) (since_loaded calls c h)
 
-equal : (x y : ℕ) → IsTrue (x == y) → x ≡ y
-equal x y t = elim (eqb_tells x y) [ inl e ↦ e.1 | inr e ↦ absurd (cc (e.0, t)) ]
-
 -- ---- the count at which it fires
 
 full_if : (a b off eos : Bool) (x : ℕ) → IsTrue (a && (not b && (not eos && not off))) → (if a && not off then x else 0) ≡ x
@@ -81,7 +75,7 @@ full_if false b off eos x h = absurd (cc)
 value_small : (timer : ℕ) → timer_value_of timer < 2 ^ 30
 value_small timer = omega arith
 
--- where a byte counts, the full count is four times the value
+-- where the watchdog is on at a byte, the count at which it fires is four times TIMER's value
 pub full_on : (off : Bool) (timer : ℕ) (eos : Bool) → IsTrue (is_on off timer eos) → firing_count off timer ≡ timer_value_of timer * 4
 full_on off timer eos h = full_if (cfg_mon_of timer == 1) (timer_value_of timer == 0) off eos (timer_value_of timer * 4) h
 
@@ -100,7 +94,7 @@ on_if true true false eos v h = rw h refl
 on_if true false false true v h = rw h refl
 on_if true false false false v h = rw h refl
 
--- a byte counts where the full count isn't 0 and the phase isn't 7
+-- the watchdog is on at a byte just where the count at which it fires isn't 0 and the phase isn't 7
 pub on_by_full : (off : Bool) (timer : ℕ) (eos : Bool) → is_on off timer eos ≡ (not (firing_count off timer == 0) && not eos)
 on_by_full off timer eos = on_if (cfg_mon_of timer == 1) (timer_value_of timer == 0) off eos (timer_value_of timer) (four_times (timer_value_of timer))
 
@@ -168,7 +162,7 @@ alike_watches off first w calls e on n count k o h =
       count_is = omega arith;
     }
 
--- byte n + 1 of bytes alike fires where bytes count and it brings the count to its end
+-- the watchdog fires at byte n + 1 of bytes alike where it is on at them and that byte brings the count to the limit
 pub alike_fires : (off : Bool) (first : ℕ) (w : WatchdogState) (calls : List WatchCall) (e on : Bool) (n : ℕ) → WatchesFor off first w calls →
     on ≡ (not (w.limit == 0) && not e) → IsTrue on → w.count + suc n ≡ w.limit → FiresNext off first (calls ++ bytes_alike n e) e
 alike_fires off first w calls e on n k o t full =
@@ -202,7 +196,7 @@ alike_quiet off first w calls e on n k o not' (now', full') =
     let small : timer_value_of timer < 2 ^ 30 = value_small timer in
     not' (on_kept off first w calls e on k o ∙ now) (omega arith)
 
--- what bytes alike leave where the last one fires
+-- what `n` bytes alike leave where the watchdog fires at the last of them
 pub alike_fired : (off : Bool) (first : ℕ) (w : WatchdogState) (calls : List WatchCall) (e on : Bool) (n count : ℕ) → WatchesFor off first w calls →
     on ≡ (not (w.limit == 0) && not e) → 0 < n → n ≤ count → IsTrue on → w.count + n ≡ w.limit →
     (0 < n) × (n ≤ count) × FiresNext off first (calls ++ bytes_alike (n - 1) e) e × WatchesFor off first (record w { count = w.limit }) (calls ++ bytes_alike n e)
@@ -222,7 +216,7 @@ alike_fired off first w calls e on n count k o some most t at =
 
 -- ---- one byte
 
--- a byte that doesn't count
+-- a byte at which the watchdog isn't on
 pub idle_watches : (off : Bool) (first : ℕ) (w : WatchdogState) (calls : List WatchCall) (e on : Bool) → WatchesFor off first w calls →
     on ≡ (not (w.limit == 0) && not e) → on ≡ false → WatchesFor off first w (calls ++ Watched e ∷ [])
 idle_watches off first w calls e on k o f =
@@ -235,7 +229,7 @@ pub idle_fires : (off : Bool) (first : ℕ) (w : WatchdogState) (calls : List Wa
 idle_fires off first w calls e on k o f =
     (λ t. absurd (cc), λ g. sym f ∙ on_kept off first w calls e on k o ∙ g.0)
 
--- a byte that counts
+-- a byte at which the watchdog is on
 pub byte_watches : (off : Bool) (first : ℕ) (w : WatchdogState) (calls : List WatchCall) (e on : Bool) (count : ℕ) → WatchesFor off first w calls →
     on ≡ (not (w.limit == 0) && not e) → IsTrue on → count ≡ min (w.count + 1) (2 ^ 32 - 1) →
     WatchesFor off first (record w { count = count }) (calls ++ Watched e ∷ [])
@@ -255,7 +249,7 @@ byte_fires off first w calls e on count result k o t c r =
     let reached : count ≡ min (watched_count off first (calls ++ Watched e ∷ [])) (2 ^ 32 - 1) = after.count_is in
     let small : timer_value_of timer < 2 ^ 30 = value_small timer in
     rw r (
-      (λ t'. let q : count ≡ w.limit = equal count w.limit t' in (now, omega arith)),
+      (λ t'. let q : count ≡ w.limit = eqb-true count w.limit t' in (now, omega arith)),
       (λ f. let g : watched_count off first (calls ++ Watched e ∷ []) ≡ timer_value_of timer * 4 = f.1 in
           let q : count ≡ w.limit = omega arith in
           rw (eq-eqb count w.limit q) refl),

@@ -1,5 +1,5 @@
--- The phases in which the lines DONE, GTS_CFG_B and GWE rise (UG470, startup; codes 6 and 7 are this project's
--- choice).
+-- The phases in which the lines DONE, GTS_CFG_B and GWE rise, and these lines in a phase (UG470, startup; codes 6 and 7
+-- are this project's choice).
 --
 --     code             0  1  2  3  4  5  6             7
 --     DONE             1  2  3  4  5  6  6             6
@@ -20,17 +20,17 @@ abbrev pub has_risen : Option ℕ → ℕ → Bool
 has_risen None phase = false
 has_risen (Some rise) phase = not (nat_lt phase rise)
 
--- DONE by the COR0 that startup began with, if it has begun, and the phase
+-- DONE in a phase, by the COR0 that startup began with; 0 where startup hasn't begun
 abbrev pub done_line : Option ℕ → ℕ → Bool
 done_line None phase = false
 done_line (Some cor0) phase = has_risen (Some (done_phase (done_cycle_of cor0))) phase
 
--- GTS_CFG_B by the COR0 that startup began with, if it has begun, and the phase
+-- GTS_CFG_B in a phase, by the COR0 that startup began with; 0 where startup hasn't begun
 abbrev pub gts_line : Option ℕ → ℕ → Bool
 gts_line None phase = false
 gts_line (Some cor0) phase = has_risen (line_phase (done_phase (done_cycle_of cor0)) (gts_cycle_of cor0)) phase
 
--- GWE by the COR0 that startup began with, if it has begun, and the phase
+-- GWE in a phase, by the COR0 that startup began with; 0 where startup hasn't begun
 abbrev pub gwe_line : Option ℕ → ℕ → Bool
 gwe_line None phase = false
 gwe_line (Some cor0) phase = has_risen (line_phase (done_phase (done_cycle_of cor0)) (gwe_cycle_of cor0)) phase

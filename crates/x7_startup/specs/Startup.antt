@@ -1,4 +1,5 @@
--- What a list of calls of a `Startup` means: where startup begins (UG470, startup; arming is this project's choice).
+-- What a list of calls of a `Startup` means: where startup begins and how far it is, and what is stored of that (UG470,
+-- startup; arming is this project's choice).
 use Rattle.std.specs.Prelude.{◌++◌, ◌≡◌, ℕ, ◌+◌, ◌/◌, ◌%◌, min, Bool, true, false, List, [], ◌∷◌, Option, Some, None, if◌then◌else◌}
 use Rattle.x7_startup.specs.Phases.{wait_of, tick_limit, tick_size, IsPhase}
 
@@ -26,7 +27,8 @@ bytes_among [] = 0
 bytes_among (Byte ∷ calls) = bytes_among calls + 1
 bytes_among (_ ∷ calls) = bytes_among calls
 
--- whether START came after the last DESYNC; without one, whether it came or `armed` is given
+-- whether START came after the last DESYNC; where there is no DESYNC, whether START came or `armed` is true; a shutdown
+-- changes nothing here
 abbrev pub is_armed : Bool → List Call → Bool
 is_armed armed [] = armed
 is_armed armed (Arm ∷ calls) = is_armed true calls
@@ -65,7 +67,8 @@ bytes_since_begun (Begun cor0 bytes) = bytes
 abbrev pub ticks_of : StartupProgress → ℕ
 ticks_of progress = bytes_since_begun progress / tick_size
 
--- the phase of a startup, by the ticks that its part's clocks need to lock and its impedance to match
+-- this is the phase of a startup, by the ticks that its part's clocks need to lock and its impedance to match; 0 where
+-- it hasn't begun
 abbrev pub IsPhaseOf : ℕ → ℕ → StartupProgress → ℕ → Type 0
 IsPhaseOf lock_ticks match_ticks NotBegun phase = phase ≡ 0
 IsPhaseOf lock_ticks match_ticks (Begun cor0 bytes) phase = IsPhase (wait_of lock_ticks match_ticks cor0) (bytes / tick_size) phase

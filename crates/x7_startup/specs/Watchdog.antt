@@ -22,7 +22,8 @@ timer_value_of = field_of 0 30
 abbrev pub timer_step : ℕ
 timer_step = 4
 
--- whether the watchdog is on at a byte, and counts it: `off` is for an attempt that has none, `eos` is phase 7
+-- whether the watchdog is on at a byte, and counts it: CFG_MON is 1, TIMER's value isn't 0, the phase isn't 7 (`eos`)
+-- and the attempt has a watchdog (`off` is false)
 abbrev pub is_on : Bool → ℕ → Bool → Bool
 is_on off timer eos = (cfg_mon_of timer == 1) && (not (timer_value_of timer == 0) && (not eos && not off))
 
@@ -89,7 +90,7 @@ pub record WatchesFor (off : Bool) (first : ℕ) (w : WatchdogState) (calls : Li
   pub limit_is : w.limit ≡ firing_count off (timer_after first calls)
   pub count_is : w.count ≡ min (watched_count off first calls) (2 ^ 32 - 1)
 
--- `Fact` holds of each word of TIMER at first, and each list of calls, that the watchdog stands for
+-- `Fact` holds of each `off`, word of TIMER at first and list of calls that the watchdog stands for
 abbrev pub ForEachCalls : WatchdogState → (Bool → ℕ → List WatchCall → Type 0) → Type 0
 ForEachCalls w Fact = (off : Bool) (first : ℕ) (calls : List WatchCall) → WatchesFor off first w calls → Fact off first calls
 

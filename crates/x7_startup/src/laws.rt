@@ -1,8 +1,9 @@
-//! Laws of the definitions, for the proofs of crates above.
+//! The law of phases. The function does nothing: its contract is the law.
 ghost use Rattle.std.specs.Prelude.{◌≡◌, ◌≤◌, ◌++◌, ℕ, List, replicate};
 ghost use Rattle.x7_startup.specs.Startup.{Byte, Call, IsPhaseOf, progress_of};
 
-/// After a list of calls there is at most one phase, and bytes alone never lower it: so phase 7 lasts.
+/// After a list of calls there is at most one phase, and bytes alone never lower it: so phase 7 lasts as long as only
+/// bytes come.
 pub fn phases_never_fall()
     ensures one_phase { (lock_ticks match_ticks : ℕ) (calls : List Call) (one other : ℕ) → IsPhaseOf lock_ticks match_ticks (progress_of calls) one
         → IsPhaseOf lock_ticks match_ticks (progress_of calls) other → one ≡ other }

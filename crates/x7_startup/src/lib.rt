@@ -1,4 +1,5 @@
-//! The startup sequence, its three lines and its ticks, and the configuration watchdog, byte by byte.
+//! The startup sequence, its three lines and its ticks, and the configuration watchdog, byte by byte (UG470, startup,
+//! watchdog).
 #![tactic(auto)]
 
 mod laws;

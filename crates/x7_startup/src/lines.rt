@@ -4,7 +4,7 @@ ghost use Rattle.x7_startup.specs.Lines.{done_phase, line_phase, has_risen, done
 
 use x7_regs::{DONE_CYCLE, GTS_CYCLE, GWE_CYCLE};
 
-/// The three lines that startup releases.
+/// The three lines that startup releases (UG470, startup).
 #[derive(Clone, Copy, PartialEq, Eq)]
 pub struct Lines {
     /// DONE.
@@ -15,7 +15,7 @@ pub struct Lines {
     pub gwe: bool,
 }
 
-/// The phase in which DONE rises, by its code (codes 6 and 7 are this project's choice).
+/// The phase in which DONE rises, by the code of DONE_CYCLE (codes 6 and 7 are this project's choice).
 #[rattlefmt::skip]
 fn done_phase(code: u32) -> u8
     requires code { code < 8 }
@@ -32,8 +32,8 @@ fn done_phase(code: u32) -> u8
     }
 }
 
-/// The phase in which GTS_CFG_B or GWE rises, by its code and by DONE's phase; none for a line that never rises (codes
-/// 6 and 7 are this project's choice).
+/// The phase in which GTS_CFG_B or GWE rises, by the code of GTS_CYCLE or GWE_CYCLE and by DONE's phase; none for a
+/// line that never rises (codes 6 and 7 are this project's choice).
 #[rattlefmt::skip]
 fn line_phase(code: u32, done: u8) -> Option<u8>
     requires code { code < 8 }

@@ -11,7 +11,7 @@ pub const TICK_SIZE: u64 = 4;
 /// How many ticks are counted at most, the greatest number of 16 bits: no part waits for more.
 const TICK_LIMIT: u64 = 65_535;
 
-/// The number of the last phase of startup, in which it has ended.
+/// The number of the last phase of startup, in which startup has ended (UG470, startup).
 pub const LAST_PHASE: u8 = 7;
 
 /// A phase of at most `LAST_PHASE`, and the ticks since startup began, at most `TICK_LIMIT`.
@@ -21,7 +21,7 @@ pub(crate) struct Reached {
     pub(crate) phase: u8,
 }
 
-/// The ticks since startup began that must have passed before the phase is left.
+/// The ticks since startup began that must have passed before the phase is left, 0 where it waits for nothing.
 fn wait_of(cor0: u32, phase: u8, lock_ticks: u16, match_ticks: u16) -> u16
     ensures { result ≡ wait_of lock_ticks match_ticks cor0 phase }
 {

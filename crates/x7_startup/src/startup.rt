@@ -47,7 +47,7 @@ impl Startup {
         }
     }
 
-    /// START: the next DESYNC begins startup.
+    /// START: the next DESYNC begins startup, unless it has begun already or a shutdown is taken first.
     pub fn arm(&mut self)
         ensures stands { (lock_ticks match_ticks : ℕ) → AddsCalls lock_ticks match_ticks self.old self.new (Arm ∷ []) }
     {
@@ -118,14 +118,14 @@ impl Startup {
         self.phase = 0;
     }
 
-    /// Whether startup has begun. Until then bytes leave it as it is.
+    /// Whether startup has begun, since the last shutdown taken. Until then bytes leave it as it is.
     pub fn has_begun(&self) -> bool
         ensures { result ≡ is_some self.now.begun_with }
     {
         self.begun_with.is_some()
     }
 
-    /// The phase, 0 to 7.
+    /// The phase of startup, 0 to 7, and 0 where it hasn't begun.
     pub fn phase(&self) -> u8
         ensures value { result ≡ self.now.phase }
         ensures most { result ≤ last_phase }
@@ -135,7 +135,7 @@ impl Startup {
         self.phase
     }
 
-    /// The ticks since startup began, as far as they are counted: `tick_limit` at most.
+    /// The ticks since startup began, 0 where it hasn't: they are counted up to 65,535 (`tick_limit`).
     pub fn ticks(&self) -> u16
         ensures value { result ≡ self.now.ticks }
         ensures stands { (lock_ticks match_ticks : ℕ) (calls : List Call) → StandsForCalls lock_ticks match_ticks self.now calls

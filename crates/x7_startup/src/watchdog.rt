@@ -16,7 +16,8 @@ const TIMER_STEP: u32 = 4;
 /// The number up to which bytes are counted, the last of 32 bits, which is above each count at which a watchdog fires.
 const COUNT_LIMIT: u64 = 0xFFFF_FFFF;
 
-/// The watchdog of one attempt, as the calls so far have left it.
+/// The watchdog of one attempt, as the calls so far have left it (UG470, watchdog; that it counts bytes is this
+/// project's choice).
 #[derive(Clone, Copy)]
 pub struct Watchdog {
     // whether the attempt has no watchdog
@@ -47,7 +48,8 @@ impl Watchdog {
         }
     }
 
-    /// A word was written to TIMER.
+    /// A word was written to TIMER: the word says after how many counted bytes the watchdog fires, if the watchdog is
+    /// on, and the count begins anew.
     pub fn load(&mut self, timer: u32)
         ensures stands { ForEachCalls self.old (λ off first calls. WatchesFor off first self.new (calls ++ Load timer ∷ [])) }
     {
@@ -65,9 +67,10 @@ impl Watchdog {
         self.count = 0;
     }
 
-    /// Whether the watchdog runs: TIMER turns it on with a value other than 0, in an attempt that has one. Else bytes
-    /// leave it as it is.
-    pub fn is_running(&self) -> bool
+    /// Whether the watchdog has a count at which it fires: in an attempt that has a watchdog, where CFG_MON (bit 30 of
+    /// TIMER) is 1 and TIMER's value (bits 29:0) isn't 0. Without such a count, bytes leave the watchdog as it is; with
+    /// one, it counts the bytes before phase 7.
+    pub fn has_limit(&self) -> bool
         ensures { result ≡ not (self.now.limit == 0) }
     {
         self.limit != 0
@@ -123,7 +126,8 @@ fn is_on(limit: u32, eos: bool) -> bool
     limit != 0 && !eos
 }
 
-/// How many more bytes, `bytes` at most, bring the count to the limit; none where that many don't.
+/// How many more bytes, `bytes` at most, bring the count to the limit; none where that many don't, or where the
+/// watchdog isn't on at them.
 fn firing_within(on: bool, count: u32, limit: u32, bytes: u64) -> Option<u64>
     ensures fires { IfSome result (λ n. (0 < n) × (n ≤ bytes) × IsTrue on × (count + n ≡ limit)) }
     ensures none_fires { IfNone result ((k : ℕ) → k < bytes → IsTrue on → ¬ (count + (k + 1) ≡ limit)) }
@@ -135,7 +139,7 @@ fn firing_within(on: bool, count: u32, limit: u32, bytes: u64) -> Option<u64>
     }
 }
 
-/// The count after `bytes` more, at all of which the watchdog is on, or at none.
+/// The count after `bytes` more, at all of which the watchdog is on, or at none; it stops at `COUNT_LIMIT`.
 fn count_after(on: bool, count: u32, bytes: u64) -> u32
     ensures { result ≡ min (count + bytes * (if on then 1 else 0)) (2 ^ 32 - 1) }
 {

@@ -30,7 +30,7 @@ abbrev pub NearBy : Option (List ℕ → Option (List ℕ)) → List ℕ → Opt
 NearBy contents stream rest old new =
     (inputs : List ℕ → Option (List ℕ)) (bytes left before after : List ℕ) → contents ≡ Some inputs → inputs stream ≡ Some bytes → rest ≡ Some left → old ≡ Some before → new ≡ Some after → ReadsNear bytes left before after
 
--- few more were given of it
+-- few bytes more were given of the stream than are listed
 abbrev pub GivenBy : Option (List ℕ → Option (List ℕ)) → List ℕ → ℕ → Option (List ℕ) → Option (List ℕ) → Type 0
 GivenBy contents stream given old new =
     (inputs : List ℕ → Option (List ℕ)) (bytes before after : List ℕ) → contents ≡ Some inputs → inputs stream ≡ Some bytes → old ≡ Some before → new ≡ Some after → GivesNear bytes given before after
@@ -41,7 +41,7 @@ SoonBy contents stream rest =
     (inputs : List ℕ → Option (List ℕ)) (bytes left : List ℕ) (place : ℕ) → contents ≡ Some inputs → inputs stream ≡ Some bytes → rest ≡ Some left → stream_listing bytes ≡ Err place
     → length bytes ≤ length left + (place + 1)
 
--- the byte at which the header is refused was not given
+-- the byte at which the header is refused, where it is one of the stream's, was not given
 abbrev pub UnjudgedBy : Option (List ℕ → Option (List ℕ)) → List ℕ → ℕ → Type 0
 UnjudgedBy contents stream given =
     (inputs : List ℕ → Option (List ℕ)) (bytes : List ℕ) (place : ℕ) → contents ≡ Some inputs → inputs stream ≡ Some bytes → AreBytes bytes → stream_listing bytes ≡ Err place → place < length bytes → given ≤ place
@@ -65,7 +65,7 @@ stays_by s stream old new h = tt
 pub stays_near : (event : Event) (stream : List ℕ) (old new : Outside) → StaysBy (status_of_event event) old.inputs.contents stream new.inputs.given new.inputs.rest old.out.written new.out.written → StaysNear (status_of_event event) (Some (Listing stream)) old new
 stays_near event stream old new h = stays_by (status_of_event event) stream old new h
 
--- what has become longer
+-- ---- what has become longer
 
 -- what is listed begins with what was listed
 abbrev pub Longer : Option (List ℕ) → Option (List ℕ) → Type 0

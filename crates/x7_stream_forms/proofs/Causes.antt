@@ -22,15 +22,16 @@ use Rattle.x7_forms.specs.declared.refusal.Why.{Why}
 use Rattle.x7_forms.specs.declared.refusal.Why.TheVariants as why
 use Rattle.x7_forms.specs.Known.{Absent, Answer, Broken, Failing, Found, Held, Known, Lacking, Mishap, broken_at, bytes_found, input_found, known_of, stream_limit, with_inputs}
 use Rattle.x7_outcome.specs.Outcome.{listed, listed_bytes, listed_found}
-use Rattle.x7_forms.specs.Turn.{IsRefused, FollowsUnlessLast, UnreadBeginning, Unopened}
+use Rattle.x7_forms.specs.Turn.{IsHeaderRefused, FollowsUnlessLast, UnreadBeginning, Unopened}
 use Rattle.x7_outcome.specs.Outside.{Outside, known_in}
 use Rattle.x7_outcome.specs.Ahead.{StaysNear}
 use Rattle.x7_outcome.specs.Ending.{EndIsCaused, CommandEnds, CommandEndsAs, GetsPrefixOfText, IsPrefixOfInput, OutputByCause, ListingAfterReason, ListsSoFar}
 use Rattle.x7_forms.specs.Step.{CameIn, DueBy, FailsAmong, IsCaused, result_by, step_over}
 use Rattle.x7_forms.proofs.BeginningLemmas.{raw_listed}
-use Rattle.x7_forms.proofs.ReadLemmas.{absence_from, at_fault, at_open, fault_from, known_all, name_is}
+use Rattle.x7_forms.proofs.ReadLemmas.{absence_from, at_fault, at_open, fault_from, known_all}
 use Rattle.x7_outcome.proofs.FlashLemmas.{answers_over}
 use Rattle.x7_outcome.proofs.EndingLemmas.{has_cause}
+use Rattle.x7_words.proofs.ListLemmas.{same_as_itself}
 
 -- ---- how a listing ends, by what is known of its stream and by what failed
 
@@ -42,7 +43,7 @@ PutsListed bytes old new = (text : List ℕ) × ((stream_listing bytes ≡ Ok te
 abbrev pub PutsPrefixOf : Option Known → List ℕ → Option (List ℕ) → Option (List ℕ) → Type 0
 PutsPrefixOf known stream old new = (new ≡ old) ⊎ ((bytes : List ℕ) × (IsPrefixOfInput known stream bytes × ListsSoFar bytes old new))
 
--- what is left by a reason
+-- what a listing that ended for a reason wrote of its text
 abbrev pub LeftAs : Why → Option Known → List ℕ → Option (List ℕ) → Option (List ℕ) → Type 0
 LeftAs why.ReadFault known stream old new = PutsPrefixOf known stream old new
 LeftAs why.TooLarge known stream old new = PutsPrefixOf known stream old new
@@ -107,11 +108,11 @@ broken_by (Broken bytes) stream given h = let short : nat_lt stream_limit (lengt
 
 broken_due : (contents : Option (List ℕ → Option (List ℕ))) (flash : Option (List ℕ)) (stream : List ℕ) (given : ℕ) → given ≤ stream_limit → DueBy {A = Answer} (with_inputs contents flash) (Failing stream given) (λ t r. listed t stream ≡ r) (reading_failed stream)
 broken_due None flash stream given h = tt
-broken_due (Some inputs) flash stream given h = let here = name_is stream in rw here (broken_by (input_found (inputs stream)) stream given h)
+broken_due (Some inputs) flash stream given h = let here = same_as_itself stream in rw here (broken_by (input_found (inputs stream)) stream given h)
 
 absent_due : (contents : Option (List ℕ → Option (List ℕ))) (flash : Option (List ℕ)) (stream : List ℕ) → DueBy {A = Answer} (with_inputs contents flash) (Lacking stream) (λ t r. listed t stream ≡ r) (missing stream)
 absent_due None flash stream = tt
-absent_due (Some inputs) flash stream = let here = name_is stream in rw here refl
+absent_due (Some inputs) flash stream = let here = same_as_itself stream in rw here refl
 
 -- a name that isn't there
 pub absent : (old new : InputsState) (flash : Option (List ℕ)) (name : List ℕ) → AsksForName name new → new.selected ≡ false → MissesInput old name new
@@ -192,7 +193,7 @@ oversized (Some inputs) flash C stream taken listed_prefix rest more Full old no
 
 -- a stream whose header is refused
 pub refused : (contents : Option (List ℕ → Option (List ℕ))) (flash : Option (List ℕ)) (C : Mishap → Type 0) (stream taken : List ℕ) (rest : Option (List ℕ)) (last : Bool) (place : ℕ) (Full : Type 0) (old : Option (List ℕ))
-    → RestIsWhole contents stream (preceded taken rest) → (last ≡ true → AtEnd rest) → IsRefused taken last place → Ended (with_inputs contents flash) C stream Full old old (Err (bad_input stream (input.Byte place)))
+    → RestIsWhole contents stream (preceded taken rest) → (last ≡ true → AtEnd rest) → IsHeaderRefused taken last place → Ended (with_inputs contents flash) C stream Full old old (Err (bad_input stream (input.Byte place)))
 refused None flash C stream taken rest last place Full old s e r = (inr tt, refl)
 refused (Some inputs) flash C stream taken rest last place Full old s e r =
     let all = known_all inputs stream taken rest s in

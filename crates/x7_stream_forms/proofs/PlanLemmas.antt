@@ -29,7 +29,7 @@ use Rattle.std.specs.declared.alloc.Global.{Global}
 use Rattle.x7_outcome.specs.Feeding.{LinesGive}
 use Rattle.x7_outcome.proofs.TextLemmas.{texts_read, texts_unread}
 
--- all its addresses are the part's
+-- all addresses of a text's plan are the part's
 pub plan_addressed : (part : PartData) (text : List ℕ) (plan : PlanData) → IsPlanOf part text (Ok plan) → AreAddressed part plan.rows
 plan_addressed part text plan p = All-permutation (λ (row : PlanRow). Contains (addresses_in part) row.far) p.rows plan.rows p.same p.good.addresses
 

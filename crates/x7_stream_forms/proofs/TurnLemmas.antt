@@ -90,7 +90,7 @@ whole_text l fed done content text stands feeds ends same =
     let f = ends [] [] content (feeds [] [] [] stands) in
     same ∙ f.listed ∙ listing_is content f.listing f.listing_is
 
--- what was put is a prefix of the listing of the stream's bytes
+-- a line that was put, and a prefix of a text after it, are a prefix of the line and the text
 pub line_prefix : (first now : Option (List ℕ)) (line text : List ℕ) → PutsPrefix (appended first line) text now → PutsPrefix first (line ++ text) now
 line_prefix first now line text p = subst (λ t. PutsPrefix first (line ++ t) now) (append-nil text) (prefix_more first (appended first line) now line text [] refl p)
 
@@ -98,15 +98,11 @@ line_prefix first now line text p = subst (λ t. PutsPrefix first (line ++ t) no
 pub stream_whole : (bytes line content : List ℕ) → stream_listing (bytes ++ []) ≡ Ok (line ++ listing_of (content ++ [])) → stream_listing bytes ≡ Ok (line ++ listing_of content)
 stream_whole bytes line content e = ap stream_listing (sym (append-nil bytes)) ∙ e ∙ ap (λ s. Ok (line ++ listing_of s)) (append-nil content)
 
--- a line that was written in part, and what would follow it
-pub line_part : (first now : Option (List ℕ)) (line more : List ℕ) → PutsPrefix first line now → PutsPrefix first (line ++ more) now
-line_part first now line more p = (p.0, (p.1.0 ++ more, ap (λ t. t ++ more) p.1.1 ∙ append_assoc p.0 p.1.0 more, p.1.2))
-
 -- a lister that begins after a line
 pub begins_after : (l : ListerState) (old mid : Option (List ℕ)) (line : List ℕ) → ListerStandsFor l [] [] [] → l.text ≡ [] → mid ≡ appended old line → ListsInTurns l (appended old line) mid []
 begins_after l old mid line stands clear e = record { given = []; stands = stands; put = e ∙ sym (appended_nil (appended old line)); clear = clear }
 
--- a prefix and then its listing
+-- a line and then a text that were put are the line and the text
 pub line_then : (first now : Option (List ℕ)) (line text : List ℕ) → now ≡ appended (appended first line) text → now ≡ appended first (line ++ text)
 line_then first now line text e = e ∙ appended_appended first line text
 

@@ -11,8 +11,8 @@ pub record PlanFor : Type 0 where
   pub part : PartData
   pub plan : PlanData
 
--- the plan is one for the part, and `capacity`, in bytes, is room for a piece of its stream
-pub record IsPlanned (t : PlanFor) (capacity : ℕ) : Type 0 where
+-- a full text fits: its plan is one for its part, and its buffer of `capacity` bytes has room for a piece
+pub record FullTextFits (t : PlanFor) (capacity : ℕ) : Type 0 where
   pub width : t.plan.width ≡ frame_words t.part
   pub addresses : AreAddressed t.part t.plan.rows
   pub room : piece_limit ≤ capacity

@@ -14,8 +14,8 @@ use Rattle.x7_outcome.specs.Outcome.{frames_event}
 abbrev pub HasNoPlan : List ℕ → PartData → List ℕ → Event → Type 0
 HasNoPlan name part text event = (f : FramesFault) × IsPlanOf part text (Err f) × (frames_event name f ≡ event)
 
--- by the result of reading a frames text: its plan for a part; or the event why the input wasn't read whole, or why the
--- text has no plan
+-- what a step that reads a frames text for its plan for a part comes to: the plan, or the event of an input that wasn't
+-- read whole, or of a text that has no plan
 abbrev pub ReadsPlan : InputsState → InputsState → PartData → List ℕ → Result PlanData Event → Type 0
 ReadsPlan old new part name (Ok plan) = (text : List ℕ) × ReadsWhole old new text_limit name (Ok text) × IsPlanOf part text (Ok plan)
 ReadsPlan old new part name (Err event) =

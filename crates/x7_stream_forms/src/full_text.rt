@@ -37,17 +37,17 @@ impl Drop for FullText {
 
 impl Model for FullText {
     ghost use Rattle.std.specs.Prelude.{vec_capacity};
-    ghost use Rattle.x7_stream_forms.specs.FullText.{IsPlanned, PlanFor};
+    ghost use Rattle.x7_stream_forms.specs.FullText.{FullTextFits, PlanFor};
 
     ghost Value = { PlanFor };
 
     ghost view = { λ t. record { part = t.part; plan = t.plan } };
 
-    ghost invariant = { λ t. IsPlanned record { part = t.part; plan = t.plan } (vec_capacity t.piece) };
+    ghost invariant = { λ t. FullTextFits record { part = t.part; plan = t.plan } (vec_capacity t.piece) };
 }
 
 impl FullText {
-    /// The full stream of a plan at the part's addresses.
+    /// The full stream of a plan at the part's addresses, ready to be written, or want of memory for a piece of it.
     pub fn new<'w>(alloc: Global, part: Part, plan: Plan) -> Result<FullText, Refusal<'w>>
         requires width { plan.width ≡ frame_words part }
         requires addresses { AreAddressed part plan.rows }

@@ -39,21 +39,21 @@ impl Drop for Streams {
 fn read_streams<'w, I: Inputs>(
     alloc: Global,
     inputs: &mut I,
-    golden: &'w str,
-    update: &'w str,
+    golden_name: &'w str,
+    update_name: &'w str,
 ) -> Result<Streams, Refusal<'w>>
-    ensures caused { AnswersAs (step_over (golden.now ∷ update.now ∷ []) (I.state inputs.old) (I.state inputs.new))
-        (λ known. image_streams known golden.now update.now) (result_by streams_of result) }
-    ensures last_asked { IfOk result (λ streams. IsLastAsked update.now stream_limit (I.state inputs.new)) }
-    ensures stops { IfErr result (λ r. StopsAmong (limited stream_limit golden.now ∷ limited stream_limit update.now ∷ [])
+    ensures caused { AnswersAs (step_over (golden_name.now ∷ update_name.now ∷ []) (I.state inputs.old) (I.state inputs.new))
+        (λ known. image_streams known golden_name.now update_name.now) (result_by streams_of result) }
+    ensures last_asked { IfOk result (λ streams. IsLastAsked update_name.now stream_limit (I.state inputs.new)) }
+    ensures stops { IfErr result (λ r. StopsAmong (limited stream_limit golden_name.now ∷ limited stream_limit update_name.now ∷ [])
         (I.state inputs.old) (I.state inputs.new) (event_of r)) }
     ensures golden { IfOk result (λ streams. streams.golden.start ≤ length streams.golden.bytes.items) }
     ensures update { IfOk result (λ streams. streams.update.start ≤ length streams.update.bytes.items) }
     ensures asks { AsksAtMost (I.state inputs.old) 2 (I.state inputs.new) }
     ensures inputs { InputsStay (I.state inputs.old) (I.state inputs.new) }
 {
-    let golden = read_stream(alloc, inputs, golden)?;
-    let update = read_stream(alloc, inputs, update)?;
+    let golden = read_stream(alloc, inputs, golden_name)?;
+    let update = read_stream(alloc, inputs, update_name)?;
     Ok(Streams { golden, update })
 }
 
@@ -67,7 +67,8 @@ fn too_long<'w>(name: &'w str) -> Refusal<'w>
     }
 }
 
-/// The image of two streams for parts whose start address counts bytes.
+/// The image of two streams for parts whose start address counts bytes; or the refusal of the update stream, which has
+/// this name, where the image would be too long; or want of memory.
 fn image_by_bytes<'w>(
     alloc: Global,
     streams: &Streams,
@@ -88,7 +89,8 @@ fn image_by_bytes<'w>(
     }
 }
 
-/// The image of two streams for a part.
+/// The image of two streams for a part; or the refusal of the update stream, which has this name, where the image would
+/// be too long; or want of memory.
 fn image_by_part<'w>(
     alloc: Global,
     part: &Part,
@@ -114,26 +116,26 @@ fn image_by_part<'w>(
 pub fn image<'w, I: Inputs>(
     alloc: Global,
     inputs: &mut I,
-    golden: &'w str,
-    update: &'w str,
+    golden_name: &'w str,
+    update_name: &'w str,
 ) -> Result<Vec<u8>, Refusal<'w>>
-    ensures { MakesReady (Imaging golden.now update.now) (I.state inputs.old) (I.state inputs.new) (result_by bytes_answer result) }
+    ensures { MakesReady (Imaging golden_name.now update_name.now) (I.state inputs.old) (I.state inputs.new) (result_by bytes_answer result) }
 {
-    let streams = read_streams(alloc, inputs, golden, update)?;
-    image_by_bytes(alloc, &streams, update)
+    let streams = read_streams(alloc, inputs, golden_name, update_name)?;
+    image_by_bytes(alloc, &streams, update_name)
 }
 
 /// The image of `image PART GOLDEN UPDATE`.
 pub fn image_for<'w, I: Inputs>(
     alloc: Global,
     inputs: &mut I,
-    part: &'w str,
-    golden: &'w str,
-    update: &'w str,
+    part_name: &'w str,
+    golden_name: &'w str,
+    update_name: &'w str,
 ) -> Result<Vec<u8>, Refusal<'w>>
-    ensures { MakesReady (ImagingFor part.now golden.now update.now) (I.state inputs.old) (I.state inputs.new) (result_by bytes_answer result) }
+    ensures { MakesReady (ImagingFor part_name.now golden_name.now update_name.now) (I.state inputs.old) (I.state inputs.new) (result_by bytes_answer result) }
 {
-    let part = read_part(alloc, inputs, part)?;
-    let streams = read_streams(alloc, inputs, golden, update)?;
-    image_by_part(alloc, &part, &streams, update)
+    let part = read_part(alloc, inputs, part_name)?;
+    let streams = read_streams(alloc, inputs, golden_name, update_name)?;
+    image_by_part(alloc, &part, &streams, update_name)
 }

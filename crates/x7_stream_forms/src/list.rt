@@ -105,12 +105,12 @@ pub fn list<'w, I: Inputs, O: Sink>(
     alloc: Global,
     inputs: &mut I,
     out: &mut O,
-    stream: &'w str,
+    stream_name: &'w str,
 ) -> Result<(), Refusal<'w>>
-    ensures { AnsweredListing stream.now (transfer (I.state inputs.old) (O.state out.old)) (transfer (I.state inputs.new) (O.state out.new)) (result_by (λ _. false) result) }
+    ensures { AnsweredListing stream_name.now (transfer (I.state inputs.old) (O.state out.old)) (transfer (I.state inputs.new) (O.state out.new)) (result_by (λ _. false) result) }
 {
-    open(inputs, stream)?;
-    let beginning = read_beginning(alloc, inputs, stream)?;
+    open(inputs, stream_name)?;
+    let beginning = read_beginning(alloc, inputs, stream_name)?;
     let mut lister = Lister::new(alloc);
     let line: &[u8] = &beginning.line;
     let content = &beginning.bytes[beginning.start..];
@@ -123,7 +123,7 @@ pub fn list<'w, I: Inputs, O: Sink>(
     drop(beginning);
     let mut piece = [0u8; TURN_SIZE];
     loop {
-        let turn = next_turn(inputs, stream, left, &mut piece)?;
+        let turn = next_turn(inputs, stream_name, left, &mut piece)?;
         let bytes = &piece[..turn.count];
         are_bytes(bytes);
         put_turn(&mut lister, out, bytes)?;

@@ -35,11 +35,11 @@ fn refusal_of<'w>(name: &'w str, fault: McsFault) -> Refusal<'w>
 pub fn mcs<'w, I: Inputs>(
     alloc: Global,
     inputs: &mut I,
-    image: &'w str,
+    image_name: &'w str,
 ) -> Result<McsText, Refusal<'w>>
-    ensures { MakesReady (ToMcs image.now) (I.state inputs.old) (I.state inputs.new) (result_by mcs_answer result) }
+    ensures { MakesReady (ToMcs image_name.now) (I.state inputs.old) (I.state inputs.new) (result_by mcs_answer result) }
 {
-    let bytes = read_whole(alloc, inputs, image, IMAGE_LIMIT)?;
+    let bytes = read_whole(alloc, inputs, image_name, IMAGE_LIMIT)?;
     Ok(McsText::new(alloc, bytes)?)
 }
 

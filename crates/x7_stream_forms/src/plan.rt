@@ -80,37 +80,38 @@ fn read_plan<'w, I: Inputs>(
     }
 }
 
-/// The stream of `plan full PART FRAMES`.
+/// The stream of `plan full PART FRAMES`, ready to be made as it is written: reads the part file and the frames text of
+/// these names.
 pub fn plan_full<'w, I: Inputs>(
     alloc: Global,
     inputs: &mut I,
-    part: &'w str,
-    frames: &'w str,
+    part_name: &'w str,
+    frames_name: &'w str,
 ) -> Result<FullText, Refusal<'w>>
-    ensures { MakesReady (PlanningFull part.now frames.now) (I.state inputs.old) (I.state inputs.new) (result_by full_answer result) }
+    ensures { MakesReady (PlanningFull part_name.now frames_name.now) (I.state inputs.old) (I.state inputs.new) (result_by full_answer result) }
 {
-    let part = read_part(alloc, inputs, part)?;
-    let plan = read_plan(alloc, inputs, &part, frames)?;
+    let part = read_part(alloc, inputs, part_name)?;
+    let plan = read_plan(alloc, inputs, &part, frames_name)?;
     FullText::new(alloc, part, plan)
 }
 
-/// The partial stream of the plan of a frames text.
+/// The partial stream of a plan. `frames_name` names the frames text that gave the plan, for a refusal.
 fn partial_text<'w>(
     alloc: Global,
     part: &Part,
     plan: &Plan,
-    frames: &'w str,
+    frames_name: &'w str,
 ) -> Result<Vec<u8>, Refusal<'w>>
     requires { plan.now.width ≡ frame_words part.now }
-    ensures text { IfOk result (λ end. (text : List ℕ) → IsPlanOf part.now text (Ok plan.now)
-        → PlannedPartial frames.now (Ok (record { part = part.now; text = text })) (Ok (bytes_answer end))) }
+    ensures text { IfOk result (λ stream. (frames_text : List ℕ) → IsPlanOf part.now frames_text (Ok plan.now)
+        → PlannedPartial frames_name.now (Ok (record { part = part.now; text = frames_text })) (Ok (bytes_answer stream))) }
     ensures refused { IfErr result (λ r. (event_of r ≡ no_memory)
-        ⊎ ((text : List ℕ) → IsPlanOf part.now text (Ok plan.now) → PlannedPartial frames.now (Ok (record { part = part.now; text = text })) (Err (event_of r)))) }
-    ensures named { IfErr result (λ r. IsAbout frames.now (event_of r)) }
+        ⊎ ((frames_text : List ℕ) → IsPlanOf part.now frames_text (Ok plan.now) → PlannedPartial frames_name.now (Ok (record { part = part.now; text = frames_text })) (Err (event_of r)))) }
+    ensures named { IfErr result (λ r. IsAbout frames_name.now (event_of r)) }
 {
     match partial(alloc, part, plan) {
         Ok(text) => Ok(text),
-        Err(fault) => Err(planner_refusal(frames, fault)),
+        Err(fault) => Err(planner_refusal(frames_name, fault)),
     }
 }
 
@@ -118,17 +119,18 @@ fn partial_text<'w>(
 pub fn plan_partial<'w, I: Inputs>(
     alloc: Global,
     inputs: &mut I,
-    part: &'w str,
-    frames: &'w str,
+    part_name: &'w str,
+    frames_name: &'w str,
 ) -> Result<Vec<u8>, Refusal<'w>>
-    ensures { MakesReady (PlanningPartial part.now frames.now) (I.state inputs.old) (I.state inputs.new) (result_by bytes_answer result) }
+    ensures { MakesReady (PlanningPartial part_name.now frames_name.now) (I.state inputs.old) (I.state inputs.new) (result_by bytes_answer result) }
 {
-    let part = read_part(alloc, inputs, part)?;
-    let plan = read_plan(alloc, inputs, &part, frames)?;
-    partial_text(alloc, &part, &plan, frames)
+    let part = read_part(alloc, inputs, part_name)?;
+    let plan = read_plan(alloc, inputs, &part, frames_name)?;
+    partial_text(alloc, &part, &plan, frames_name)
 }
 
-/// The read stream of `slot_count` slots from the frame address `far` on.
+/// The stream that reads back `slot_count` slots from the frame address `far` on, or why there is none. `name` is that
+/// of the part file, for a refusal.
 fn readback_text<'w>(
     alloc: Global,
     part: &Part,

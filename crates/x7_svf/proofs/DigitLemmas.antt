@@ -7,7 +7,8 @@ use Rattle.std.proofs.lemmas.Nat.{div-mul-add, pow-add, pow_pos}
 use Rattle.x7_words.specs.Characters.{digit_number, is_hex_digit}
 use Rattle.x7_svf.specs.Bits.{bit_of}
 use Rattle.x7_svf.specs.Fields.{are_hex, hex_value}
-use Rattle.x7_svf.proofs.ValueLemmas.{both, value_below}
+use Rattle.x7_svf.proofs.ValueLemmas.{value_below}
+use Rattle.x7_words.proofs.CaseLemmas.{both_true}
 
 turned : (d p q : ℕ) → d * (2 * p * q) ≡ d * p * 2 * q
 turned d p q = grind arith
@@ -59,7 +60,7 @@ no_digit ds i l =
 pub value_bit : (ds : List ℕ) (i : ℕ) → are_hex ds ≡ true → bit_of ds i ≡ (hex_value ds / 2 ^ i % 2 == 1)
 value_bit [] i h = no_digit [] i (omega arith) ∙ sym (past_bit 0 i (pow_pos i))
 value_bit (c ∷ cs) i h =
-    let parts : (is_hex_digit c ≡ true) × (are_hex cs ≡ true) = both (is_hex_digit c) (are_hex cs) h in
+    let parts : (is_hex_digit c ≡ true) × (are_hex cs ≡ true) = both_true (is_hex_digit c) (are_hex cs) h in
     let n : ℕ = 4 * length cs in
     elim (cases_lt (i / 4) (length cs)) [
       | inl l ↦

@@ -15,7 +15,7 @@ use Rattle.x7_svf.specs.declared.token.NextToken.TheVariants as next_token
 use Rattle.x7_svf.proofs.ScannerLemmas.{fields_after_step, scan_from}
 use Rattle.x7_svf.proofs.SpanLemmas.{more_stays, option_stays}
 
--- a step as that at this place and of this token
+-- a step at an equal place and of an equal token is the same
 pub step_at : (kept rest : List ℕ) (g : FieldSpans) (p q : ScannerPlace) (t u : NextToken) → p ≡ q → t ≡ u → scan_step (scan_place_of kept q) (fields_of kept g) (token_of u rest) ≡ scan_step (scan_place_of kept p) (fields_of kept g) (token_of t rest)
 step_at kept rest g p q t u e f = sym (λ i. scan_step (scan_place_of kept (e i)) (fields_of kept g) (token_of (f i) rest))
 
@@ -51,7 +51,7 @@ fields_stay a b f g w = λ i. record {
 pub fields_more : (n m : ℕ) (g : FieldSpans) → n ≤ m → AreWithin n g → AreWithin m g
 fields_more n m g l w = (omega (arith, l, w.0), omega (arith, l, w.1), omega (arith, l, w.2), omega (arith, l, w.3))
 
--- digits more
+-- more digits are kept inside brackets: they come after the field's digits before
 pub digits_more : (kept more : List ℕ) (b : List ℕ) (g : FieldSpans) (k : ScanField) (from : ℕ) → b ≡ kept ++ more → from ≤ length kept → AreWithin (length kept) g → are_hex more ≡ true
     → ◌≡◌ {A = Option Scanning} (Some (record { at = Inside k (drop from b); fields = fields_of b g })) (if are_hex more then Some (record { at = Inside k (drop from kept ++ more); fields = fields_of kept g }) else None)
 digits_more kept more b g k from e l w h =

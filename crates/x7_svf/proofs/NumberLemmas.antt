@@ -7,7 +7,8 @@ use Rattle.std.specs.Str.Parse.{digits_value, digits_value_after}
 use Rattle.x7_words.specs.Characters.{is_decimal_digit}
 use Rattle.x7_svf.specs.Words.{number_within}
 
--- the number of digits after those that are read as n, where it is within a limit
+-- the number that is read where these digits come after some that were read as n, digit by digit; none where a byte is
+-- no digit, or the number passes a limit
 abbrev pub number_from : ℕ → ℕ → List ℕ → Option ℕ
 number_from limit n [] = Some n
 number_from limit n (c ∷ cs) = if is_decimal_digit c && nat_le (n * 10 + (c - 48)) limit then number_from limit (n * 10 + (c - 48)) cs else None
@@ -32,7 +33,7 @@ none_past : (a b : Bool) (v : ℕ) → b ≡ false → (if a && b then Some v el
 none_past true b v e = ap (λ (t : Bool). if t then Some v else None) e
 none_past false b v e = refl
 
--- the number of digits after those that are read as n, by its value
+-- the number that is read where these digits come after some that were read as n, by its value
 abbrev pub number_by : ℕ → ℕ → List ℕ → Option ℕ
 number_by limit n cs = if list_all is_decimal_digit cs && nat_le (digits_value_after 10 n cs) limit then Some (digits_value_after 10 n cs) else None
 

@@ -10,7 +10,7 @@ use Rattle.x7_svf.specs.Fields.{ScanFields, are_hex, digits_before, field_by_nam
 use Rattle.x7_svf.specs.Scanner.{ScanPlace, Between, Named, Inside, Scanning, after_field, after_name, closed_field, scan_step}
 use Rattle.x7_svf.specs.declared.fields.ScanField.{ScanField}
 use Rattle.x7_svf.specs.declared.fields.ScanField.TheVariants as field
-use Rattle.x7_svf.proofs.ValueLemmas.{both}
+use Rattle.x7_words.proofs.CaseLemmas.{both_true}
 
 -- ---- token by token
 
@@ -94,7 +94,7 @@ none_by false false false false p q r s e f g h = refl
 no_name : (w : List ℕ) → are_hex w ≡ true → field_by_name w ≡ None
 no_name [] h = refl
 no_name (c ∷ cs) h =
-    let parts : (is_hex_digit c ≡ true) × (are_hex cs ≡ true) = both (is_hex_digit c) (are_hex cs) h in
+    let parts : (is_hex_digit c ≡ true) × (are_hex cs ≡ true) = both_true (is_hex_digit c) (are_hex cs) h in
     none_by _ _ _ _ _ _ _ _ (other_letter c 116 parts.0 (omega arith)) (other_letter c 116 parts.0 (omega arith)) (other_letter c 109 parts.0 (omega arith)) (other_letter c 115 parts.0 (omega arith))
 
 -- ---- one token more
@@ -103,7 +103,7 @@ module _ (f : ScanFields) (w : List ℕ) where
   no_field : (v : List ℕ) (ts : List Token) (b : Bool) → are_hex w && are_hex v ≡ b → None ≡ with_fields (Some f) (if b then Word (w ++ v) ∷ ts else Word w ∷ Word v ∷ ts)
   no_field v ts false e = refl
   no_field v ts true e =
-      let parts : (are_hex w ≡ true) × (are_hex v ≡ true) = both (are_hex w) (are_hex v) e in
+      let parts : (are_hex w ≡ true) × (are_hex v ≡ true) = both_true (are_hex w) (are_hex v) e in
       let hex : are_hex (w ++ v) ≡ true = list_all-append is_hex_digit w v ∙ e in
       sym (none_on f ts) ∙ sym (ap (λ (o : Option ScanField). named_on f o ts) (no_name (w ++ v) hex)) ∙ name_on f (w ++ v) ts
 

@@ -1,5 +1,5 @@
 -- The value of hexadecimal digits, and the least count of bits that it fits.
-use Rattle.std.proofs.Common.{◌≡◌, inl, inr, ℕ, zero, suc, ◌+◌, ◌-◌, ◌*◌, ◌^◌, ◌<◌, ◌≤◌, ◌&&◌, nat_le, nat_lt, Bool, true, false, List, [], ◌∷◌, length, take, drop, get_or, refl, ap, sym, subst, ◌∙◌, arith}
+use Rattle.std.proofs.Common.{◌≡◌, inl, inr, ℕ, zero, suc, ◌+◌, ◌-◌, ◌*◌, ◌^◌, ◌<◌, ◌≤◌, nat_le, nat_lt, true, false, List, [], ◌∷◌, length, take, drop, get_or, ap, sym, subst, ◌∙◌, arith}
 use Rattle.std.proofs.Math.Pow.{pow_mono}
 use Rattle.std.proofs.Math.Nat.{mul-le-mul_right}
 use Rattle.std.proofs.Math.Seq.{take_all}
@@ -9,10 +9,7 @@ use Rattle.std.proofs.lemmas.Nat.{pow-add}
 use Rattle.x7_words.specs.Characters.{digit_number, is_hex_digit}
 use Rattle.x7_svf.specs.Fields.{are_hex, hex_value}
 use Rattle.x7_svf.specs.Scanner.{IsWidth}
-
-pub both : (a b : Bool) → (a && b) ≡ true → (a ≡ true) × (b ≡ true)
-both true b e = (refl, e)
-both false b e = absurd cc
+use Rattle.x7_words.proofs.CaseLemmas.{both_true}
 
 pub digit_below : (c : ℕ) → is_hex_digit c ≡ true → digit_number c < 16
 digit_below c h = grind (arith, h)
@@ -30,7 +27,7 @@ below_by d k r l m =
 pub value_below : (ds : List ℕ) → are_hex ds ≡ true → hex_value ds < 2 ^ (4 * length ds)
 value_below [] h = omega arith
 value_below (c ∷ cs) h =
-    let parts : (is_hex_digit c ≡ true) × (are_hex cs ≡ true) = both (is_hex_digit c) (are_hex cs) h in
+    let parts : (is_hex_digit c ≡ true) × (are_hex cs ≡ true) = both_true (is_hex_digit c) (are_hex cs) h in
     let e : 4 + 4 * length cs ≡ 4 * length (c ∷ cs) = omega arith in
     let s : digit_number c * 2 ^ (4 * length cs) + hex_value cs < 2 ^ (4 + 4 * length cs) = below_by (digit_number c) (length cs) (hex_value cs) (digit_below c parts.0) (value_below cs parts.1) in
     subst (λ n. digit_number c * 2 ^ (4 * length cs) + hex_value cs < 2 ^ n) e s
@@ -84,7 +81,7 @@ first_width c cs (suc v) h d l =
 pub width_at : (xs : List ℕ) (value w all : ℕ) → 1 ≤ length xs → are_hex xs ≡ true → IsWidth (digit_number (get_or xs 0 0)) w → 0 < w → value ≡ hex_value xs → all ≡ 4 * length (take (length xs - 1) (drop 1 xs)) + w → IsWidth value all
 width_at [] value w all n h d l e f = absurd (omega (arith, n))
 width_at (c ∷ cs) value w all n h d l e f =
-    let parts : (is_hex_digit c ≡ true) × (are_hex cs ≡ true) = both (is_hex_digit c) (are_hex cs) h in
+    let parts : (is_hex_digit c ≡ true) × (are_hex cs ≡ true) = both_true (is_hex_digit c) (are_hex cs) h in
     let long : length (take (length (c ∷ cs) - 1) cs) ≡ length (c ∷ cs) - 1 = length-take-le (length (c ∷ cs) - 1) cs (omega arith) in
     let bits : 4 * length cs + w ≡ all = omega (arith, f, long) in
     subst (λ v. IsWidth v all) (sym e) (subst (λ b. IsWidth (hex_value (c ∷ cs)) b) bits (first_width c cs w parts.1 d l))
@@ -94,7 +91,7 @@ pub rest_on : (xs : List ℕ) (value w : ℕ) → 1 ≤ length xs → are_hex xs
     → (value ≡ hex_value (take (length xs - 1) (drop 1 xs))) × (are_hex (take (length xs - 1) (drop 1 xs)) ≡ true)
 rest_on [] value w n h d l e = absurd (omega (arith, n))
 rest_on (c ∷ cs) value w n h d l e =
-    let parts : (is_hex_digit c ≡ true) × (are_hex cs ≡ true) = both (is_hex_digit c) (are_hex cs) h in
+    let parts : (is_hex_digit c ≡ true) × (are_hex cs ≡ true) = both_true (is_hex_digit c) (are_hex cs) h in
     let all : take (length (c ∷ cs) - 1) cs ≡ cs = take_all (length (c ∷ cs) - 1) cs (omega arith) in
     let none : w ≡ 0 = omega (arith, l) in
     let below : digit_number c < 2 ^ 0 = subst (λ (k : ℕ). digit_number c < 2 ^ k) none d.above in

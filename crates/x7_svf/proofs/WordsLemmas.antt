@@ -1,4 +1,4 @@
--- The words of a statement, one by one; no statement has more than four.
+-- The words after a keyword, one by one; no statement whose words are kept has more than four.
 use Rattle.std.proofs.Common.{◌≡◌, ℕ, ◌||◌, ◌≤◌, Bool, true, false, if◌then◌else◌, List, [], ◌∷◌, ◌++◌, length, take, Option, Some, None, codes, refl, ap, sym, ◌∙◌, append_assoc, append-nil, arith}
 use Rattle.std.specs.Char.{to_ascii_lowercase}
 use Rattle.std.specs.List.{list_all}
@@ -16,7 +16,7 @@ use Rattle.x7_svf.specs.declared.span.Span.{Span}
 use Rattle.x7_svf.specs.declared.statement.Statement.{Statement}
 use Rattle.x7_svf.specs.declared.words.KeptWords.{KeptWords}
 use Rattle.x7_svf.specs.declared.words.KeptWords.TheVariants as words
-use Rattle.x7_svf.proofs.ValueLemmas.{both}
+use Rattle.x7_words.proofs.CaseLemmas.{both_true}
 
 -- words after words
 abbrev pub after_words : List (List ℕ) → Option (List (List ℕ)) → Option (List (List ℕ))
@@ -62,7 +62,7 @@ module _ (ms : Option (List (List ℕ))) (ws : List (List ℕ)) (tokens : List T
       let grown : more ≡ ws ++ take n here.rest ∷ [] = g ∙ ap (λ (x : List ℕ). ws ++ x ∷ []) w in
       word_next ∙ one_more ws (take n here.rest) (words_of (tokens_before_end (left_after here (next_token.Word n)))) ∙ sym (λ i. after_words (grown i) (words_of (tokens_before_end (l i))))
 
--- all words
+-- no token is left: the words so far are all
 pub all_said : (key : List ℕ) (ms : Option (List (List ℕ))) (ws : List (List ℕ)) (tokens : List Token) → ms ≡ after_words ws (words_of tokens) → tokens ≡ [] → statement_if_words key ms ≡ statement_of_words key ws
 all_said key ms ws tokens same e = ap (statement_if_words key) (same ∙ ap (λ (xs : List Token). after_words ws (words_of xs)) e) ∙ ap (statement_of_words key) (append-nil ws)
 
@@ -72,14 +72,14 @@ free_on m ms e = rw e refl
 
 -- ---- words that are kept
 
--- a keyword is one alone
+-- a word that is RUNTEST isn't STATE
 other_value : (n : ℕ) → nat_eq n 114 ≡ true → nat_eq n 115 ≡ false
 other_value n h = grind (arith, common_steps)
 
 not_state : (k : List ℕ) → is_keyword k (codes "RUNTEST") ≡ true → is_keyword k (codes "STATE") ≡ false
 not_state [] h = refl
 not_state (c ∷ cs) h =
-    let parts = both (nat_eq (to_ascii_lowercase c) 114) _ h in
+    let parts = both_true (nat_eq (to_ascii_lowercase c) 114) _ h in
     and_left (nat_eq (to_ascii_lowercase c) 115) _ (other_value (to_ascii_lowercase c) parts.0)
 
 second : (a b : Bool) (x y z : Option Statement) → a ≡ false → b ≡ true → (if a then x else (if b then y else z)) ≡ y

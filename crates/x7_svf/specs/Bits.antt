@@ -3,16 +3,16 @@ use Rattle.std.specs.Prelude.{ℕ, zero, suc, ◌+◌, ◌-◌, ◌/◌, ◌%◌
 use Rattle.std.specs.List.{flat_map}
 use Rattle.x7_words.specs.Characters.{digit_number}
 
--- bit i of digits, four a digit, the last of which is the lowest; 0 past the first
+-- bit i, from 0, of digits, each of which has four: the last digit has the four lowest; 0 past the first digit
 abbrev pub bit_of : List ℕ → ℕ → Bool
 bit_of ds i = if nat_lt (i / 4) (length ds) then digit_number (slice_index ds (length ds - 1 - i / 4)) / 2 ^ (i % 4) % 2 == 1 else false
 
--- a count of bits from bit i on
+-- n bits of digits from bit i on, the lowest first
 abbrev pub bits_from : List ℕ → ℕ → ℕ → List Bool
 bits_from ds i zero = []
 bits_from ds i (suc n) = bit_of ds i ∷ bits_from ds (i + 1) n
 
--- the first n bits of digits
+-- the n lowest bits of digits
 abbrev pub bits_of : ℕ → List ℕ → List Bool
 bits_of n ds = bits_from ds 0 n
 
@@ -27,6 +27,6 @@ byte_bits b =
 abbrev pub bytes_bits : List ℕ → List Bool
 bytes_bits bytes = flat_map byte_bits bytes
 
--- four bits, the lowest of which becomes the highest
+-- four bits in reverse order: the lowest becomes the highest
 abbrev pub mirrored_digit : ℕ → ℕ
 mirrored_digit n = n % 2 * 8 + n / 2 % 2 * 4 + n / 4 % 2 * 2 + n / 8 % 2

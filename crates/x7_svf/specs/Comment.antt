@@ -16,7 +16,8 @@ abbrev pub is_inside : Bool → ℕ → List ℕ → Bool
 is_inside true byte after = not (byte == line_end_byte)
 is_inside false byte after = begins_comment byte after
 
--- what stands for a byte, by whether it is one of a comment: a blank for those of comments and for 0D before 0A
+-- what stands for a byte, by whether it is one of a comment: a blank for those of comments and for 0D before 0A, and
+-- else the byte itself
 abbrev pub stand_in : Bool → ℕ → List ℕ → ℕ
 stand_in is_in_comment byte after = if is_in_comment then space_byte else (if byte == return_byte && begins_with line_end_byte after then space_byte else byte)
 

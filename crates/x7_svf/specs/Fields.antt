@@ -1,5 +1,5 @@
--- The fields of a scan, and what it says (this project's profile of SVF). After the number of bits come the fields, in
--- any order and each at most once: a field's name, `(`, hexadecimal digits, at least one, which blanks may
+-- The fields of a scan, and what the scan says (this project's profile of SVF). After the number of bits come the
+-- fields, in any order and each at most once: a field's name, `(`, hexadecimal digits, at least one, which blanks may
 -- part, and `)`.
 use Rattle.std.specs.Prelude.{ℕ, ◌+◌, ◌*◌, ◌^◌, ◌==◌, ◌&&◌, nat_lt, Bool, true, false, if◌then◌else◌, List, [], ◌∷◌, ◌++◌, Option, Some, None, codes, length}
 use Rattle.std.specs.List.{list_all}
@@ -13,7 +13,7 @@ use Rattle.x7_svf.specs.declared.statement.Statement.TheVariants as statement
 use Rattle.x7_svf.specs.declared.fields.ScanField.{ScanField}
 use Rattle.x7_svf.specs.declared.fields.ScanField.TheVariants as field
 
--- the field of a name, in either case
+-- the field of a name, in either case; none where the word is no field's name
 abbrev pub field_by_name : List ℕ → Option ScanField
 field_by_name w =
     if is_keyword w (codes "TDI") then Some field.Tdi
@@ -41,7 +41,7 @@ abbrev pub is_none : Option (List ℕ) → Bool
 is_none None = true
 is_none (Some ds) = false
 
--- the fields with one more, and none where it is among them
+-- the fields with one more; none where that field is among them already
 abbrev pub with_field : ScanFields → ScanField → List ℕ → Option ScanFields
 with_field f field.Tdi ds = if is_none f.tdi then Some (record f { tdi = Some ds }) else None
 with_field f field.Tdo ds = if is_none f.tdo then Some (record f { tdo = Some ds }) else None
@@ -63,19 +63,21 @@ joined_digits (Open ∷ ts) = Open ∷ joined_digits ts
 joined_digits (Close ∷ ts) = Close ∷ joined_digits ts
 joined_digits (End ∷ ts) = End ∷ joined_digits ts
 
--- the fields with one more, if its name is one: its digits are hexadecimal, one at least, and it isn't among them
+-- the fields with one more; none where its name is no field's, its digits aren't hexadecimal or are none, or the field
+-- is among them already
 abbrev pub with_named_field : ScanFields → Option ScanField → List ℕ → Option ScanFields
 with_named_field f None ds = None
 with_named_field f (Some k) ds = if are_hex ds && nat_lt 0 (length ds) then with_field f k ds else None
 
--- the fields with those of tokens, each at most once and in any order: its name, `(`, its digits and `)`
+-- the fields with those of tokens, each at most once and in any order: its name, `(`, its digits and `)`; none where
+-- the tokens aren't such fields
 abbrev pub with_fields : Option ScanFields → List Token → Option ScanFields
 with_fields None ts = None
 with_fields (Some f) [] = Some f
 with_fields (Some f) (Word name ∷ Open ∷ Word digits ∷ Close ∷ ts) = with_fields (with_named_field f (field_by_name name) digits) ts
 with_fields (Some f) _ = None
 
--- the fields that the tokens after the number of bits say
+-- the fields that the tokens after the number of bits say; none where they aren't fields, or one stands twice
 abbrev pub scan_fields : List Token → Option ScanFields
 scan_fields ts = with_fields (Some no_fields) (joined_digits ts)
 
@@ -95,17 +97,17 @@ fits n (Some ds) = nat_lt (hex_value ds) (2 ^ n)
 abbrev pub all_fit : ℕ → ScanFields → Bool
 all_fit n f = fits n f.tdi && fits n f.tdo && fits n f.mask && fits n f.smask
 
--- the bits of a field that may be left out
+-- the n lowest bits of a field; none where it is left out
 abbrev pub bits_if : ℕ → Option (List ℕ) → Option (List Bool)
 bits_if n None = None
 bits_if n (Some ds) = Some (bits_of n ds)
 
--- the scan of fields by the digits of TDI
+-- the scan of n bits by its fields and the digits of TDI; none where TDI is left out. SMASK isn't looked at
 abbrev pub with_tdi : ScannedRegister → ℕ → ScanFields → Option (List ℕ) → Option Statement
 with_tdi register n f None = None
 with_tdi register n f (Some ds) = Some (statement.Scan (record { register = register; tdi = bits_of n ds; tdo = bits_if n f.tdo; mask = bits_if n f.mask }))
 
--- the scan of fields: TDI is required
+-- the scan of n bits by its fields; none where the value of one doesn't fit, or TDI is left out
 abbrev pub scan_by : ScannedRegister → ℕ → Option ScanFields → Option Statement
 scan_by register n None = None
 scan_by register n (Some f) = if all_fit n f then with_tdi register n f f.tdi else None
@@ -114,12 +116,12 @@ scan_by register n (Some f) = if all_fit n f then with_tdi register n f f.tdi el
 abbrev pub most_scan_bits : ℕ
 most_scan_bits = 2 ^ 29
 
--- a number that is not 0: how many bits a scan has
+-- how many bits a scan has, by the number that was read; none for 0, and where no number was read
 abbrev pub positive_count : Option ℕ → Option ℕ
 positive_count None = None
 positive_count (Some n) = if n == 0 then None else Some n
 
--- the scan of this many bits, where a count of bits was read, by the tokens after it
+-- the scan of this many bits, by the tokens after their number; none where no number was read
 abbrev pub scan_if : ScannedRegister → Option ℕ → List Token → Option Statement
 scan_if register None ts = None
 scan_if register (Some n) ts = scan_by register n (scan_fields ts)

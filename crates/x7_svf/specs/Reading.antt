@@ -1,4 +1,5 @@
--- What a step of the reader leaves of the text that it reads (this project's choice).
+-- What a step of the reader leaves of its text, and of the bytes that it keeps of it (this project's choice). The bytes
+-- kept are `kept` of `SourceState`.
 use Rattle.std.specs.Prelude.{◌≡◌, ◌<◌, ◌≤◌, ℕ, length, drop}
 use Rattle.x7_svf.specs.Token.{token_size}
 use Rattle.x7_svf.specs.Source.{SourceState, tokens_left}
@@ -12,18 +13,20 @@ pub record PassesBlanks (old new : SourceState) : Type 0 where
   pub kept : new.kept ≡ old.kept
   pub passed : length new.rest ≤ length old.rest
 
--- the rest of the text begins with a token's bytes, of which there is one at least
+-- the token has one byte at least, and the rest of the text as many bytes as the token at least; that the rest begins
+-- with the token, `left_from` says
 pub record TokenComesNext (s : SourceState) (t : NextToken) : Type 0 where
   pub not_empty : 0 < token_size t
   pub within : token_size t ≤ length s.rest
 
--- `count` bytes were passed, none of them a line end, and some of them may be kept
+-- `count` bytes were passed on the same line; what was kept stays, and more may be kept after it
 pub record StepsOver (count : ℕ) (old new : SourceState) : Type 0 where
   pub prefix : StaysKept old.kept new.kept
   pub line : new.line ≡ old.line
   pub rest : new.rest ≡ drop count old.rest
 
--- words and brackets of the statement that comes next were passed, or nothing was, and some of their bytes may be kept
+-- words and brackets before the next `;` were passed, or nothing was: the tokens after this `;` are as before; what was
+-- kept stays, and more may be kept after it
 pub record ReadsOn (old new : SourceState) : Type 0 where
   pub prefix : StaysKept old.kept new.kept
   pub after : tokens_after_end (tokens_left old) ≡ tokens_after_end (tokens_left new)

@@ -15,12 +15,12 @@ pub record Scanning : Type 0 where
   pub at : ScanPlace
   pub fields : ScanFields
 
--- after a field's name its brackets come next
+-- after a field's name its brackets come next; none where the word named no field
 abbrev pub after_name : ScanFields → Option ScanField → Option Scanning
 after_name f None = None
 after_name f (Some k) = Some (record { at = Named k; fields = f })
 
--- the fields with one more, which has at least one digit
+-- the fields with one more; none where that field has no digit, or is among them already
 abbrev pub closed_field : ScanFields → ScanField → List ℕ → Option ScanFields
 closed_field f k ds = if nat_lt 0 (length ds) then with_field f k ds else None
 

@@ -7,7 +7,7 @@ use Rattle.x7_svf.specs.declared.token.NextToken.{NextToken}
 abbrev pub svf_text_limit : ℕ
 svf_text_limit = 2 ^ 29
 
--- the bytes kept of what was read, and the rest with the line on which it begins
+-- the bytes kept of what was read, and the rest with the line, from 1, on which it begins
 pub record SourceState : Type 0 where
   pub kept : List ℕ
   pub line : ℕ

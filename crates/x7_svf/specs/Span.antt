@@ -54,17 +54,18 @@ abbrev pub span_end_if : Option Span → ℕ
 span_end_if None = 0
 span_end_if (Some s) = span_end s
 
--- the digits of all fields are among the first n bytes
+-- the digits of all fields are among the first n bytes kept
 abbrev pub AreWithin : ℕ → FieldSpans → Type 0
 AreWithin n g = (span_end_if g.tdi ≤ n) × (span_end_if g.tdo ≤ n) × (span_end_if g.mask ≤ n) × (span_end_if g.smask ≤ n)
 
--- the open field, if there is one, begins among the first n bytes
+-- the digits of the open field, if there is one, begin among the first n bytes kept, or at their end
 abbrev pub IsPlaceWithin : ℕ → ScannerPlace → Type 0
 IsPlaceWithin n place.Between = ⊤
 IsPlaceWithin n (place.Named k) = ⊤
 IsPlaceWithin n (place.Inside k from) = from ≤ n
 
--- the digits of all fields, and of the open one, are among the first n bytes
+-- the digits of all fields are among the first n bytes kept, and those of the open field begin there, or at their
+-- end
 abbrev pub IsWithin : ℕ → Scanner → Type 0
 IsWithin n s = IsPlaceWithin n s.place × AreWithin n s.spans
 
@@ -78,7 +79,7 @@ words_kept kept (words.Two a b) = bytes_in kept a ∷ bytes_in kept b ∷ []
 words_kept kept (words.Three a b c) = bytes_in kept a ∷ bytes_in kept b ∷ bytes_in kept c ∷ []
 words_kept kept (words.Four a b c d) = bytes_in kept a ∷ bytes_in kept b ∷ bytes_in kept c ∷ bytes_in kept d ∷ []
 
--- the words are among the first n bytes
+-- the words are among the first n bytes kept
 abbrev pub AreWordsWithin : ℕ → KeptWords → Type 0
 AreWordsWithin n words.None = ⊤
 AreWordsWithin n (words.One a) = span_end a ≤ n

@@ -16,7 +16,7 @@ other_statement k ts = if is_keyword k (codes "FREQUENCY") then some_if (list_al
 abbrev pub statement_by : List ℕ → List Token → Option Statement
 statement_by k ts = if is_keyword k (codes "SIR") then scan_of scanned.Instruction ts else (if is_keyword k (codes "SDR") then scan_of scanned.Data ts else other_statement k ts)
 
--- the statement of its tokens without the `;`
+-- the statement of the tokens before its `;`; none where the profile has no such statement
 abbrev pub statement_of : List Token → Option Statement
 statement_of [] = None
 statement_of (Word k ∷ ts) = statement_by k ts

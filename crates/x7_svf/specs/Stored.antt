@@ -31,12 +31,12 @@ stored_if kept (Some s) = Some (statement_in kept s)
 abbrev pub statements_in : List ℕ → List StoredStatement → List Statement
 statements_in kept ss = map (statement_in kept) ss
 
--- the digits of a stored statement are among the first n bytes
+-- the digits of a stored statement are among the first n bytes kept
 abbrev pub IsStoredWithin : ℕ → StoredStatement → Type 0
 IsStoredWithin n (stored.Scan s) = (span_end s.tdi ≤ n) × (span_end_if s.tdo ≤ n) × (span_end_if s.mask ≤ n)
 IsStoredWithin n _ = ⊤
 
--- the digits of all stored statements are among the first n bytes
+-- the digits of all stored statements are among the first n bytes kept
 abbrev pub AreStoredWithin : ℕ → List StoredStatement → Type 0
 AreStoredWithin n ss = AllByRecursion (IsStoredWithin n) ss
 

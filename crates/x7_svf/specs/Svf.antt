@@ -18,7 +18,7 @@ tokens_before_end (t ∷ ts) = elim t.token as (λ t. List Token) [
   | End ↦ []
 ]
 
--- the tokens after the first `;`
+-- the tokens after the first `;`; none where there is no `;`
 abbrev pub tokens_after_end : List TokenOnLine → Option (List TokenOnLine)
 tokens_after_end [] = None
 tokens_after_end (t ∷ ts) = elim t.token as (λ t. Option (List TokenOnLine)) [
@@ -33,7 +33,7 @@ abbrev pub if_ended : Option (List TokenOnLine) → Option Statement → Option 
 if_ended None s = None
 if_ended (Some after) s = s
 
--- the statement that tokens begin with
+-- the statement that tokens begin with; none where it is bad or lacks its `;`
 abbrev pub first_statement : List TokenOnLine → Option Statement
 first_statement ts = if_ended (tokens_after_end ts) (statement_of (tokens_before_end ts))
 
@@ -48,7 +48,7 @@ with_first line None more = Err (fault.Line line)
 with_first line (Some s) (Ok ss) = Ok (s ∷ ss)
 with_first line (Some s) (Err f) = Err f
 
--- what tokens come to, at most n statements of which are read
+-- what tokens come to, where at most n statements are read and any token after these is at fault
 abbrev pub outcome_by : ℕ → List TokenOnLine → Result (List Statement) SvfFault
 outcome_by n [] = Ok []
 outcome_by zero (t ∷ ts) = Err (fault.Line t.line)
@@ -62,7 +62,7 @@ outcome ts = outcome_by (length ts) ts
 abbrev pub BeginWithStatement : List TokenOnLine → Type 0
 BeginWithStatement ts = (one : Statement) × (first_statement ts ≡ Some one)
 
--- the tokens of a text with comments
+-- the tokens of a text that may have comments; its lines count from 1
 abbrev pub tokens_of : List ℕ → List TokenOnLine
 tokens_of text = tokens 1 (clean_text false text)
 

@@ -16,13 +16,13 @@ pub record TokenOnLine : Type 0 where
   pub line : ℕ
   pub token : Token
 
--- a byte may stand in a word: it is no space, tab or line end, no bracket and no `;`
-abbrev pub is_word_byte : ℕ → Bool
-is_word_byte c = not (c == space_byte || c == tab_byte || c == line_end_byte || c == open_bracket_byte || c == close_bracket_byte || c == semicolon_byte)
-
 -- a byte is a blank: a space, a tab or a line end
 abbrev pub is_blank_byte : ℕ → Bool
 is_blank_byte c = c == space_byte || c == tab_byte || c == line_end_byte
+
+-- a byte may stand in a word: it is no blank, no bracket and no `;`
+abbrev pub is_word_byte : ℕ → Bool
+is_word_byte c = not (is_blank_byte c || c == open_bracket_byte || c == close_bracket_byte || c == semicolon_byte)
 
 -- the token of a byte that is no word's and no blank
 abbrev pub byte_token : ℕ → Token
@@ -57,7 +57,7 @@ abbrev pub tokens : ℕ → List ℕ → List TokenOnLine
 tokens line [] = []
 tokens line (c ∷ cs) = if is_word_byte c then with_word_byte line c cs (tokens (line_after c line) cs) else with_other_byte line c (tokens (line_after c line) cs)
 
--- the token that a text begins with
+-- the token that a text begins with, by its kind and, of a word, its count of bytes
 abbrev pub token_of : NextToken → List ℕ → Token
 token_of (next_token.Word n) text = Word (take n text)
 token_of next_token.Open text = Open

@@ -58,7 +58,7 @@ abbrev pub run_by : Option ℕ → Option Statement
 run_by None = None
 run_by (Some count) = Some (statement.Run count)
 
--- a run of as many clocks as the digits say, where the condition is met
+-- a run of as many clocks as the digits say, where the condition is met and they are a decimal number of 2^24 at most
 abbrev pub run_if : Bool → List ℕ → Option Statement
 run_if is_met digits = if is_met then run_by (number_within most_run_clocks digits) else None
 
@@ -80,8 +80,8 @@ abbrev pub end_state_statement : List (List ℕ) → Option Statement
 end_state_statement (word ∷ []) = some_if (is_keyword word (codes "IDLE")) statement.Nothing
 end_state_statement _ = None
 
--- the statement of the words after HIR, HDR, TIR or TDR, the bits of other devices in the chain: 0 alone, as none
--- stands in it
+-- the statement of the words after HIR, HDR, TIR or TDR, the bits of other devices in the chain: 0 alone, as no other
+-- device stands in the chain
 abbrev pub chain_statement : List (List ℕ) → Option Statement
 chain_statement (word ∷ []) = some_if (is_keyword word (codes "0")) statement.Nothing
 chain_statement _ = None
@@ -105,7 +105,7 @@ abbrev pub statement_if_words : List ℕ → Option (List (List ℕ)) → Option
 statement_if_words key None = None
 statement_if_words key (Some words) = statement_of_words key words
 
--- a token that is a bracket, or a word without 0D
+-- a token that is a word without 0D, or no word
 abbrev pub is_free_token : Token → Bool
 is_free_token (Word word) = is_free_word word
 is_free_token _ = true

@@ -49,7 +49,7 @@ fn bit_of(digits: &[u8], index: u32) -> bool
     (digit_number(digits[digits.len() - 1 - place]) >> (index % 4)) % 2 == 1
 }
 
-/// The four bits of the digit at this place from the last, and 0 past the first digit.
+/// The four bits of the digit at this place, where the last digit stands at 0; 0 past the first digit.
 fn four_bits(digits: &[u8], place: usize) -> u8
     ensures bits { (k : ℕ) → k < 4 → (result / 2 ^ k % 2 == 1) ≡ bit_of digits.now (4 * place + k) }
     ensures most { result < 16 }
@@ -79,8 +79,9 @@ fn byte_from(digits: &[u8], at: u32) -> u8
     mirrored_digit(first) * 16 + mirrored_digit(second)
 }
 
-/// The bytes of the bits of digits from bit `from` on, a multiple of eight: those that end before the last of `count`
-/// bits, and at most 1,024.
+/// The bytes of the bits of digits from bit `from` on, a multiple of eight, where more than eight of the `count` bits
+/// are left: one byte at least and 1,024 at most, and the last bit is in none of them. The first of eight bits is the
+/// highest of its byte.
 fn bytes_of(digits: &[u8], count: u32, from: u32) -> ArrayVec<u8, MOST_BYTES_AT_ONCE>
     requires whole { from % 8 ≡ 0 }
     requires more_than_a_byte { from + 8 < count }
@@ -98,7 +99,7 @@ fn bytes_of(digits: &[u8], count: u32, from: u32) -> ArrayVec<u8, MOST_BYTES_AT_
 }
 
 impl<'t> Bits<'t> {
-    /// The first `count` bits of digits.
+    /// The `count` lowest bits of digits.
     pub(crate) fn new(count: u32, digits: &'t [u8]) -> Bits<'t>
         ensures { result ≡ bits_of count digits.now }
     {
@@ -122,8 +123,9 @@ impl<'t> Bits<'t> {
         Some(bit_of(self.digits, index))
     }
 
-    /// The bytes of the bits from bit `from` on, a multiple of eight: those that end before the last bit, which
-    /// goes out by itself, and at most 1,024. The first of eight bits is the highest of its byte.
+    /// The bytes of the bits from bit `from` on, a multiple of eight, where more than eight bits are left: one byte at
+    /// least and 1,024 at most. The last bit is in none of them, as it goes out by itself. The first of eight bits is
+    /// the highest of its byte.
     pub fn bytes_from(&self, from: u32) -> ArrayVec<u8, MOST_BYTES_AT_ONCE>
         requires whole { from % 8 ≡ 0 }
         requires more_than_a_byte { from + 8 < length self.now }

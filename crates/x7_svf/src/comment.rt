@@ -1,4 +1,4 @@
-//! Blanks in place of comments.
+//! Blanks in place of comments, and of 0D before 0A.
 ghost use Rattle.std.specs.Prelude.{◌≡◌, ◌+◌, false, length};
 ghost use Rattle.x7_svf.specs.Comment.{begins_with, clean_text, is_inside, stand_in};
 
@@ -12,7 +12,8 @@ fn begins_with(text: &[u8], byte: u8) -> bool
     }
 }
 
-/// Whether a byte is one of a comment, by whether the byte before it was one. A comment begins at `!`, or at `//`.
+/// Whether a byte is one of a comment, by whether the byte before it was one. A comment begins at `!`, or at `//`, and
+/// ends before 0A.
 fn is_inside(after_comment_byte: bool, byte: u8, after: &[u8]) -> bool
     ensures { result ≡ is_inside after_comment_byte byte after.now }
 {
@@ -23,7 +24,8 @@ fn is_inside(after_comment_byte: bool, byte: u8, after: &[u8]) -> bool
     }
 }
 
-/// The byte that stands in the place of one: a blank for a byte of a comment, and for 0D before 0A.
+/// The byte that stands in the place of one: a blank for a byte of a comment, and for 0D before 0A; else the byte
+/// itself.
 fn stand_in(is_in_comment: bool, byte: u8, after: &[u8]) -> u8
     ensures { result ≡ stand_in is_in_comment byte after.now }
 {

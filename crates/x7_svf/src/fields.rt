@@ -32,7 +32,7 @@ pub(crate) enum ScannerPlace {
     Inside(ScanField, usize),
 }
 
-/// Where the digits of each field are kept.
+/// Where the digits of each field are kept; `None` for a field that is left out.
 #[derive(Clone, Copy)]
 pub(crate) struct FieldSpans {
     pub(crate) tdi: Option<Span>,
@@ -48,7 +48,7 @@ pub(crate) struct Scanner {
     pub(crate) spans: FieldSpans,
 }
 
-/// The field of this name, in either case.
+/// The field of this name, in either case; none where the word is no field's name.
 fn field_by_name(word: &[u8]) -> Option<ScanField>
     ensures { result ≡ field_by_name word.now }
 {
@@ -88,7 +88,7 @@ fn are_hex(word: &[u8]) -> bool
     )
 }
 
-/// The fields with one more; none where it is among them.
+/// The fields with one more; none where that field is among them already.
 fn with_field(spans: FieldSpans, field: ScanField, digits: Span) -> Option<FieldSpans>
     ensures fields { (kept : List ℕ) → fields_if kept result ≡ with_field (fields_of kept spans) field (bytes_in kept digits) }
     ensures within { (n : ℕ) → AreWithin n spans → span_end digits ≤ n → IfSome result (AreWithin n) }
@@ -114,7 +114,8 @@ fn with_field(spans: FieldSpans, field: ScanField, digits: Span) -> Option<Field
     }
 }
 
-/// The fields with the one whose digits were kept from `from` on; none where it has no digit, or is among them.
+/// The fields with the one whose digits were kept from `from` on; none where that field has no digit, or is among them
+/// already.
 fn closed_field(
     source: &Source,
     spans: FieldSpans,
@@ -132,8 +133,8 @@ fn closed_field(
     with_field(spans, field, Span::new(from, end))
 }
 
-/// The reader of a scan after one token more, which is passed, or kept where it is digits; none where no scan goes on
-/// so.
+/// The reader of a scan after one token more: the token is passed, or kept where it is digits. `None` where no scan has
+/// such a token there; what was read of the source is then not promised.
 fn scan_step(source: &mut Source, scanner: Scanner, token: NextToken) -> Option<Scanner>
     requires token { token_size token ≤ length source.old.rest }
     requires within { IsWithin (length source.old.kept) scanner }
@@ -177,7 +178,8 @@ fn scan_step(source: &mut Source, scanner: Scanner, token: NextToken) -> Option<
     }
 }
 
-/// The fields of a statement that come next, each at most once. Their digits are kept.
+/// The fields of a scan that come next, up to its `;`; none where anything but fields comes, or a field comes twice.
+/// Their digits are kept.
 pub(crate) fn fields(source: &mut Source) -> Option<FieldSpans>
     ensures fields { fields_if source.new.kept result ≡ scan_fields (tokens_before_end (tokens_left source.old)) }
     ensures within { IfSome result (AreWithin (length source.new.kept)) }

@@ -1,5 +1,5 @@
 //! One statement of a text.
-ghost use Rattle.std.specs.Prelude.{◌≡◌, ◌<◌, ◌≤◌, ◌+◌, ◌*◌, true, false, length, take, IfSome, Option, Some, None};
+ghost use Rattle.std.specs.Prelude.{◌≡◌, ◌<◌, ◌≤◌, ◌+◌, ◌*◌, true, length, take, IfSome, Option, Some, None};
 ghost use Rattle.std.specs.List.{list_all};
 ghost use Rattle.x7_words.specs.Characters.{digit_number, is_hex_digit};
 ghost use Rattle.x7_svf.specs.Fields.{all_fit, are_hex, fits, hex_value, scan_by, scan_if, scan_of};
@@ -29,7 +29,7 @@ use crate::words::{
 /// The most bits of a scan.
 const MOST_SCAN_BITS: u32 = 1 << 29;
 
-/// Whether a token that a text begins with is a bracket, or a word without 0D.
+/// Whether a token that a text begins with is a word without 0D, or no word.
 fn is_free_token(token: NextToken, text: &[u8]) -> bool
     requires { token_size token ≤ length text.now }
     ensures { result ≡ is_free_token (token_of token text.now) }
@@ -40,7 +40,8 @@ fn is_free_token(token: NextToken, text: &[u8]) -> bool
     }
 }
 
-/// The statement of tokens without meaning that come next, which are passed: brackets, and words without 0D.
+/// The statement of tokens without meaning that come next, which are passed: brackets, and words without 0D; none where
+/// a word has 0D.
 fn free_statement(source: &mut Source) -> Option<StoredStatement>
     ensures says { IsStored source.new.kept result (some_if (list_all is_free_token (tokens_before_end (tokens_left source.old))) StatementData.Nothing) }
     ensures reads_on { IfSome result (λ s. ReadsOn source.old source.new) }
@@ -66,7 +67,8 @@ fn keep_word(source: &mut Source, size: usize) -> Span
     Span::new(from, source.kept().len())
 }
 
-/// The statement of a keyword, which is kept, and of the words that come next, which are kept too.
+/// The statement of a keyword, which is kept, and of the words that come next, which are kept too; none where a bracket
+/// stands among them or the profile has no such statement.
 fn words_statement(source: &mut Source, key: Span) -> Option<StoredStatement>
     requires key { span_end key ≤ length source.old.kept }
     ensures says { IsStored source.new.kept result (if_words (bytes_in source.old.kept key) (words_of (tokens_before_end (tokens_left source.old)))) }
@@ -105,7 +107,8 @@ fn digit_width(digit: u8) -> u64
     }
 }
 
-/// How many bits a value has whose first digit that isn't 0 has `bits` of them and has `after` digits after it.
+/// How many bits a value has: `bits` for its first digit that isn't 0, and four for each of the `after` digits after
+/// that one.
 fn width_with(after: usize, bits: u64) -> u128
     ensures { result ≡ 4 * after + bits }
 {
@@ -152,7 +155,8 @@ fn all_fit(kept: &[u8], count: u32, spans: FieldSpans) -> bool
         && fits(kept, count, spans.smask)
 }
 
-/// The scan of this many bits with these fields, whose digits are kept.
+/// The scan of this many bits with these fields, whose digits are kept; none where the value of one doesn't fit, or TDI
+/// is left out.
 fn scan_of_fields(
     kept: &[u8],
     register: ScannedRegister,
@@ -176,7 +180,8 @@ fn scan_of_fields(
     }))
 }
 
-/// How many bits the scan has whose keyword was passed; none where no such number comes next.
+/// How many bits the scan has whose keyword was passed, by the number that comes next and is passed; none where no
+/// number from 1 to 2^29 comes.
 fn scan_count(source: &mut Source) -> Option<u32>
     ensures count { (register : Register) → scan_of register (tokens_before_end (tokens_left source.old)) ≡ scan_if register result (tokens_before_end (tokens_left source.new)) }
     ensures reads_on { IfSome result (λ n. ReadsOn source.old source.new) }
@@ -192,7 +197,7 @@ fn scan_count(source: &mut Source) -> Option<u32>
     Some(count)
 }
 
-/// The scan whose keyword was passed. Its digits are kept.
+/// The scan whose keyword was passed, up to its `;`; none where it is bad. Its digits are kept.
 fn scan(source: &mut Source, register: ScannedRegister) -> Option<StoredStatement>
     ensures says { IsStored source.new.kept result (scan_of register (tokens_before_end (tokens_left source.old))) }
     ensures reads_on { IfSome result (λ s. ReadsOn source.old source.new) }
@@ -202,7 +207,7 @@ fn scan(source: &mut Source, register: ScannedRegister) -> Option<StoredStatemen
     scan_of_fields(source.kept(), register, count, spans)
 }
 
-/// The statement of a keyword, which is kept, and of what comes next.
+/// The statement of a keyword, which is kept, and of what comes next, up to its `;`; none where it is bad.
 fn statement_by(source: &mut Source, key: Span) -> Option<StoredStatement>
     requires key { span_end key ≤ length source.old.kept }
     ensures says { IsStored source.new.kept result (statement_by (bytes_in source.old.kept key) (tokens_before_end (tokens_left source.old))) }
@@ -221,8 +226,8 @@ fn statement_by(source: &mut Source, key: Span) -> Option<StoredStatement>
     words_statement(source, key)
 }
 
-/// The statement that comes next, up to its `;`. Its keyword, and the digits of a scan or the words of another, are
-/// kept.
+/// The statement that comes next, up to its `;`; none where it is bad. Its keyword, and the digits of a scan or the
+/// words of another but FREQUENCY, are kept.
 fn statement(source: &mut Source) -> Option<StoredStatement>
     ensures says { IsStored source.new.kept result (statement_of (tokens_before_end (tokens_left source.old))) }
     ensures reads_on { IfSome result (λ s. ReadsOn source.old source.new) }
@@ -235,7 +240,7 @@ fn statement(source: &mut Source) -> Option<StoredStatement>
     statement_by(source, key)
 }
 
-/// The statement that comes next, with its `;`.
+/// The statement that comes next, with its `;`; none where it is bad or lacks its `;`.
 pub(crate) fn first_statement(source: &mut Source) -> Option<StoredStatement>
     ensures says { IsStored source.new.kept result (first_statement (tokens_left source.old)) }
     ensures prefix { IfSome result (λ s. StaysKept source.old.kept source.new.kept) }

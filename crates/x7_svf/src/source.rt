@@ -5,7 +5,7 @@ ghost use Rattle.x7_svf.specs.Token.{line_after};
 
 use std::marker::Model;
 
-/// A text that is being read. The bytes that are kept stand at its front, in the place of bytes that were read.
+/// A text that is being read. The bytes that are kept stand at its beginning, in the place of bytes that were read.
 #[derive(Drop)]
 pub(crate) struct Source {
     text: Vec<u8>,
@@ -57,7 +57,7 @@ impl Source {
         &self.text[self.at..]
     }
 
-    /// The line on which the rest begins.
+    /// The line on which the rest begins, from 1.
     pub(crate) fn line(&self) -> u64
         ensures { result ≡ self.now.line }
     {
@@ -81,7 +81,7 @@ impl Source {
         self.at += 1;
     }
 
-    /// Passes this many bytes, none of which is a line end.
+    /// Passes this many bytes and stays on the line: none of them is to be a line end.
     pub(crate) fn skip(&mut self, count: usize)
         requires { count ≤ length self.old.rest }
         ensures { self.new ≡ record { kept = self.old.kept; line = self.old.line; rest = drop count self.old.rest } }
@@ -89,7 +89,7 @@ impl Source {
         self.at += count;
     }
 
-    /// Keeps this many bytes that come next, none of which is a line end.
+    /// Passes and keeps this many bytes, and stays on the line: none of them is to be a line end.
     pub(crate) fn keep(&mut self, count: usize)
         requires { count ≤ length self.old.rest }
         ensures { self.new ≡ record { kept = self.old.kept ++ take count self.old.rest; line = self.old.line; rest = drop count self.old.rest } }

@@ -18,7 +18,7 @@ pub(crate) enum StoredStatement {
     Nothing,
 }
 
-/// A scan: how many bits each of its fields has, and where the digits of each are kept.
+/// A scan: how many bits each of its fields has, and where the digits of each but SMASK are kept.
 #[derive(Clone, Copy)]
 pub(crate) struct StoredScan {
     pub(crate) register: ScannedRegister,
@@ -28,7 +28,7 @@ pub(crate) struct StoredScan {
     pub(crate) mask: Option<Span>,
 }
 
-/// The bits of a field that may be left out.
+/// The `count` lowest bits of a field; none where it is left out.
 fn bits_if(kept: &[u8], count: u32, digits: Option<Span>) -> Option<Bits<'_>>
     requires { span_end_if digits ≤ length kept.now }
     ensures { result ≡ bits_if count (digits_if kept.now digits) }

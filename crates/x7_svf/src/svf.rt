@@ -16,7 +16,7 @@ use crate::token::next;
 use std::alloc::Global;
 use std::marker::Model;
 
-/// How many bytes a text may have at most: 512 MiB.
+/// How many bytes a text may have at most: 512 MiB (this project's choice).
 pub const SVF_TEXT_LIMIT: usize = 1 << 29;
 
 /// The statements of a text, fewer than the bytes that a text may have.
@@ -68,8 +68,8 @@ impl Svf {
     }
 }
 
-/// The statements of a text without comments, or the line on which the first bad one begins. The digits of their scans
-/// are kept.
+/// The statements of a text without comments, or the line on which the first bad one begins; `NoMemory` only where the
+/// text begins with a statement. The digits of their scans are kept.
 fn statements(alloc: Global, source: &mut Source) -> Result<Vec<StoredStatement>, SvfFault>
     requires none_kept { source.old.kept ≡ [] }
     requires within_limit { length source.old.rest ≤ svf_text_limit }
@@ -92,9 +92,9 @@ fn statements(alloc: Global, source: &mut Source) -> Result<Vec<StoredStatement>
     Ok(out)
 }
 
-/// The statements of a text that is given up for them, or the line on which its first bad statement begins. The digits
-/// of the scans stay in the text's bytes, at most `SVF_TEXT_LIMIT`. Memory is wanting only for a text that begins with
-/// a statement.
+/// The statements of a text that is given up for them (this project's profile of SVF), or the line on which its first
+/// bad statement begins. The text has at most `SVF_TEXT_LIMIT` bytes, in which the digits of the scans stay. `NoMemory`
+/// comes only for a text that begins with a statement.
 pub fn svf_from(alloc: Global, text: Vec<u8>) -> Result<Svf, SvfFault>
     requires { vec_len text ≤ svf_text_limit }
     ensures statements { IfOk result (λ svf. IsSvfOf text.items (Ok svf)) }
@@ -111,8 +111,9 @@ pub fn svf_from(alloc: Global, text: Vec<u8>) -> Result<Svf, SvfFault>
     })
 }
 
-/// The statements of a text, or the line on which its first bad statement begins. A text has at most `SVF_TEXT_LIMIT`
-/// bytes.
+/// The statements of a text (this project's profile of SVF), or the line on which its first bad statement begins;
+/// `NoMemory` where there is no memory for the statements or for a copy of the text. A text has at most
+/// `SVF_TEXT_LIMIT` bytes.
 pub fn svf_of(alloc: Global, text: &[u8]) -> Result<Svf, SvfFault>
     requires { length text.now ≤ svf_text_limit }
     ensures statements { IfOk result (λ svf. IsSvfOf text.now (Ok svf)) }

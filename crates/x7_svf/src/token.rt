@@ -1,4 +1,4 @@
-//! The next word, bracket or end of a text without comments.
+//! The next word, bracket or `;` of a text without comments.
 ghost use Rattle.std.specs.Prelude.{◌≡◌, ◌+◌, ◌<◌, ◌≤◌, ◌∷◌, [], ℕ, List, true, false, length, MatchOption, IfSome, Some, None, slice_index, drop, take};
 ghost use Rattle.x7_svf.specs.Token.{byte_token, is_blank_byte, is_word_byte, token_of, tokens, token_size, Word};
 ghost use Rattle.x7_svf.specs.Reading.{TokenComesNext, PassesBlanks};
@@ -28,16 +28,14 @@ impl NextToken {
     }
 }
 
-/// Whether a byte may stand in a word.
+/// Whether a byte may stand in a word: it is no blank, no bracket and no `;`.
 fn is_word_byte(byte: u8) -> bool
     ensures { result ≡ is_word_byte byte }
 {
-    let blank = (byte == b' ') | (byte == b'\t') | (byte == b'\n');
-    let other = (byte == b'(') | (byte == b')') | (byte == b';');
-    !(blank | other)
+    !(is_blank_byte(byte) || byte == b'(' || byte == b')' || byte == b';')
 }
 
-/// How many bytes the word has that a text begins with.
+/// How many bytes the word has that a text begins with; 0 where it begins with none.
 fn word_length(text: &[u8]) -> usize
     ensures within { result ≤ length text.now }
     ensures first { (line : ℕ) → 0 < result → tokens line text.now ≡ record { line = line; token = Word (take result text.now) } ∷ tokens line (drop result text.now) }
@@ -50,14 +48,14 @@ fn word_length(text: &[u8]) -> usize
     end
 }
 
-/// Whether a byte is a blank, a tab or a line end.
+/// Whether a byte is a blank: a space, a tab or a line end (0A).
 fn is_blank_byte(byte: u8) -> bool
     ensures { result ≡ is_blank_byte byte }
 {
     byte == b' ' || byte == b'\t' || byte == b'\n'
 }
 
-/// The bracket or end that a byte is.
+/// The bracket that a byte is, and the end of a statement for any other byte.
 fn bracket_or_end(byte: u8) -> NextToken
     ensures token { (text : List ℕ) → token_of result text ≡ byte_token byte }
     ensures size { token_size result ≡ 1 }
@@ -71,7 +69,7 @@ fn bracket_or_end(byte: u8) -> NextToken
     }
 }
 
-/// The token that a text begins with, which begins with no blank.
+/// The token that a text begins with, where the text has a byte and its first is no blank.
 fn first_token(text: &[u8]) -> NextToken
     requires not_empty { 0 < length text.now }
     requires begins { is_blank_byte (slice_index text.now 0) ≡ false }
@@ -127,7 +125,7 @@ pub(crate) fn next_within(source: &mut Source) -> Option<NextToken>
     }
 }
 
-/// Passes the rest of a statement with its `;`; false where there is none.
+/// Passes the rest of a statement with its `;`; false where no `;` comes.
 pub(crate) fn pass_end(source: &mut Source) -> bool
     ensures found { result ≡ true → tokens_after_end (tokens_left source.old) ≡ Some (tokens_left source.new) }
     ensures no_end { result ≡ false → tokens_after_end (tokens_left source.old) ≡ None }

@@ -34,7 +34,7 @@ fn is_time_byte(byte: u8) -> bool
     is_decimal_digit(byte) || byte == b'.' || byte == b'E' || byte == b'+' || byte == b'-'
 }
 
-/// The number of a word of decimal digits, where it is within the limit.
+/// The number of a word of decimal digits; none where it is above the limit, and for any other word.
 pub(crate) fn number_within(word: &[u8], limit: u32) -> Option<u32>
     ensures { result ≡ number_within limit word.now }
 {
@@ -113,7 +113,7 @@ fn nothing_if(is_met: bool) -> Option<StoredStatement>
     }
 }
 
-/// The statement of the word after STATE.
+/// The statement of the word after STATE; none where it is neither RESET nor IDLE.
 fn state_statement(word: &[u8]) -> Option<StoredStatement>
     ensures { IsStored [] result (state_statement (word.now ∷ [])) }
 {
@@ -140,7 +140,7 @@ fn are_timed_clocks(unit: &[u8], time: &[u8], second: &[u8]) -> bool
     is_keyword(unit, b"TCK") && is_time(time) && is_keyword(second, b"SEC")
 }
 
-/// The statement of two words after RUNTEST: a count of clocks, or a time.
+/// The statement of two words after RUNTEST: a count of clocks and TCK, or a time and SEC; none for any others.
 fn run_or_time(count: &[u8], unit: &[u8]) -> Option<StoredStatement>
     ensures { IsStored [] result (runtest_statement (count.now ∷ unit.now ∷ [])) }
 {
@@ -185,7 +185,7 @@ fn statement_of_word(key: &[u8], word: &[u8]) -> Option<StoredStatement>
     }
 }
 
-/// The words after a keyword by where they are kept. No statement has more than four.
+/// The words after a keyword by where they are kept. No statement whose words are kept has more than four.
 #[derive(Clone, Copy)]
 pub(crate) enum KeptWords {
     None,
@@ -195,7 +195,7 @@ pub(crate) enum KeptWords {
     Four(Span, Span, Span, Span),
 }
 
-/// One word more, where there are fewer than four.
+/// The words with one more after them; none where there are four already.
 pub(crate) fn with_word(words: KeptWords, word: Span) -> Option<KeptWords>
     ensures one_more { (kept : List ℕ) → IfSome result (λ r. words_kept kept r ≡ words_kept kept words ++ bytes_in kept word ∷ []) }
     ensures full_at_four { (kept : List ℕ) → IfNone result (length (words_kept kept words) ≡ 4) }
@@ -210,7 +210,7 @@ pub(crate) fn with_word(words: KeptWords, word: Span) -> Option<KeptWords>
     }
 }
 
-/// The statement of the words after RUNTEST, which are kept.
+/// The statement of the words after RUNTEST, which are kept; none where the profile has no such statement.
 fn runtest_statement(kept: &[u8], words: KeptWords) -> Option<StoredStatement>
     requires { AreWordsWithin (length kept.now) words }
     ensures { IsStored [] result (runtest_statement (words_kept kept.now words)) }
@@ -230,7 +230,7 @@ fn runtest_statement(kept: &[u8], words: KeptWords) -> Option<StoredStatement>
     }
 }
 
-/// The statement of a keyword and the words after it, which are kept.
+/// The statement of a keyword and the words after it, which are kept; none where the profile has no such statement.
 pub(crate) fn statement_of_kept(kept: &[u8], key: Span, words: KeptWords) -> Option<StoredStatement>
     requires key { span_end key ≤ length kept.now }
     requires words { AreWordsWithin (length kept.now) words }

@@ -14,7 +14,7 @@ use Rattle.x7_text.specs.Row.{line}
 digit_step : (x : ℕ) → x < 16 → (x + cond (top 7 (cond (ltb 9 x) 255 0)) 55 48) % 256 ≡ hex_digit x
 digit_step x h = grind (arith, common_steps)
 
--- what the select and the sum of hex_digits give
+-- what the select and the sum of `eight_hex_digits` and `sixteen_hex_digits` give
 pub digits_are : (xs : List ℕ) (n : ℕ) → length xs ≡ n → Each1 (λ x. x < 16) xs
     → zip2 (λ a b. (a + b) % 256) xs (sel_l (map (top 7) (zip2 (λ a b. cond (ltb a b) 255 0) (replicate n 9) xs)) (replicate n 55) (replicate n 48)) ≡ map hex_digit xs
 digits_are [] zero e h = refl
@@ -115,7 +115,7 @@ four_woven bs e = let h : FourWoven (pick_l 0 bs (range_with_len 0 4)) = refl in
 pub four_halves : (bs : List ℕ) → length bs ≡ 4 → pick_l 0 (zip2 (λ a b. a / 2 ^ b) bs (replicate 4 4) ++ zip2 bit_and bs (replicate 4 15)) (0 ∷ 4 ∷ 1 ∷ 5 ∷ 2 ∷ 6 ∷ 3 ∷ 7 ∷ []) ≡ halves bs
 four_halves bs e = four_woven bs e ∙ masked_are bs
 
--- a `bytes` line, its digits stored over line ends after its word
+-- a `bytes` line, its digits stored over line ends after its keyword and a space
 pub bytes_line : (bs digits : List ℕ) → digits ≡ flat_map hex_byte bs → length bs ≡ 32
     → codes "bytes " ++ (put_chunk 0 (replicate 65 10) digits ++ []) ≡ line (codes "bytes ") hex_byte bs
 bytes_line bs digits e long =
@@ -128,7 +128,8 @@ bytes_line bs digits e long =
     length_hex [] = refl
     length_hex (x ∷ xs) = omega (arith, length_hex xs)
 
--- ---- a `data` line by sixteen bytes: its digits, of which five parts are made with the bytes of what stands beside them
+-- ---- a `data` line by sixteen bytes: its digits, of which five parts are made with the bytes of what stands beside
+-- them
 
 abbrev pub beside : List ℕ
 beside = codes "data \n          "

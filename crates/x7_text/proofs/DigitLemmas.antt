@@ -18,12 +18,13 @@ use Rattle.std.specs.Simd.{first_chunks}
 use Rattle.x7_words.specs.Word.{AreBytes, bytes_of_word}
 use Rattle.x7_text.specs.Digits.{hex_byte, hex_word}
 use Rattle.x7_text.specs.DigitValue.{bytes_value, digit_value, pairs_value}
-use Rattle.x7_text.proofs.ValueLemmas.{bytes_back, word_bytes, word_digits}
+use Rattle.x7_text.proofs.ValueLemmas.{bytes_back, word_digits}
+use Rattle.x7_words.proofs.WordLemmas.{word_bytes}
 
 number_step : (x : ℕ) → x < 256 → (bit_and x 15 + x / 2 ^ 6 * 9 % 256) % 256 ≡ digit_value x
 number_step x h = let low : bit_and x 15 ≡ x % 2 ^ 4 = and_high x 4 0 ∙ omega arith in omega (arith, low)
 
--- what the sum of numbers_of gives
+-- what the sum of `numbers_of` and `numbers_of_eight` gives
 pub numbers_are : (xs : List ℕ) (n : ℕ) → length xs ≡ n → Each1 (λ c. c < 256) xs
     → zip2 (λ a b. (a + b) % 256) (zip2 bit_and xs (replicate n 15)) (zip2 (λ a b. a * b % 256) (zip2 (λ a b. a / 2 ^ b) xs (replicate n 6)) (replicate n 9)) ≡ map digit_value xs
 numbers_are [] zero e h = refl
@@ -106,7 +107,7 @@ no_word ds chunk known r b whole e f n is w h k =
 pub yes_word : (ds known r : List ℕ) (w : ℕ) → known ≡ ds → known ≡ flat_map hex_byte r → bytes_of_word w ≡ r → w < 2 ^ 32 → ds ≡ hex_word w
 yes_word ds known r w same f back h = sym same ∙ f ∙ ap (flat_map hex_byte) (sym back) ∙ sym (word_digits w h)
 
--- a text that no number leads to is no decimal number
+-- decimal digits are UTF-8 and parse; a text that does not parse, or to another number, is no number's decimal digits
 pub utf8_decimal : (ds : List ℕ) (n : ℕ) → n < 2 ^ 32 → ds ≡ decimal n → IsUtf8 ds
 utf8_decimal ds n h e = let P : List ℕ → Type 0 = λ t. IsUtf8 t in subst P (sym e) (IsUtf8-from_ascii (decimal n) (IsAscii-decimal n (omega arith)))
 

@@ -5,7 +5,7 @@ mod ByteLemmas
 pub mod CaseLemmas
 mod DecodeLemmas
 pub mod DigitLemmas
-mod PrefixLemmas
+pub mod PrefixLemmas
 pub mod LineLemmas
 pub mod LineReaderLemmas
 pub mod PieceLemmas

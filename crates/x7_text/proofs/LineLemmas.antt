@@ -42,7 +42,7 @@ full_glue o b t r c l R e f = rw (e, ← f) (simp append_assoc)
 more_glue : (o b t r c l R : List ℕ) → l ≡ o ++ b ++ t → l ++ r ++ c ≡ R → o ++ (b ++ t ++ [] ++ r) ++ c ≡ R
 more_glue o b t r c l R e f = rw (← f, e) (simp (append_assoc, append-nil))
 
--- what the lines are, after those elements of an open line
+-- what stands in an open line, the text that xs add to it, and the end of the line then open, are the lines of the rows
 abbrev pub Closes : ℕ → List ℕ → (ℕ → List ℕ) → List ℕ → ℕ → List ℕ → Type 0
 Closes n keyword text open_row k xs = opened keyword text open_row ++ open_text n keyword text k xs ++ close (in_line_after n k xs) ≡ flat_map (line keyword text) (rows_from n open_row xs)
 

@@ -18,7 +18,7 @@ ended ls = flat_map (λ (l : List ℕ). l ++ 10 ∷ []) ls
 abbrev pub AreFree : List (List ℕ) → Type 0
 AreFree ls = AllByRecursion (λ line. has_no_end line ≡ true) ls
 
-left_some : (ls ts : List (List ℕ)) → (ts ≡ [] → ⊥) → ls ++ ts ≡ [] → ⊥
+pub left_some : (ls ts : List (List ℕ)) → (ts ≡ [] → ⊥) → ls ++ ts ≡ [] → ⊥
 left_some [] ts h e = h e
 left_some (l ∷ ls) ts h e = cc
 
@@ -59,7 +59,7 @@ module _ (text rest : List ℕ) (ls : List (List ℕ)) (e : split text ≡ ls ++
   pub prefix_long : length ls + length rest ≤ length text
   prefix_long = omega (arith, ended_long ls, ap length prefix_is, length-append (ended ls) rest)
 
--- a text whose whole lines are these, where what is left has no end
+-- what is left after the whole lines of a text holds no line end
 pub cut_free : (text rest : List ℕ) (ls : List (List ℕ)) → IsCut text ls rest → has_no_end rest ≡ true
 cut_free text rest ls e = free_last ls rest (subst AreFree e (split_free text))
 
@@ -94,7 +94,7 @@ module _ {B : Type 0} (taken : B → List (List ℕ) → Type 0) (ls : List (Lis
     counts = omega (arith, next, h.counts, length-append (ls ++ h.more) (line ∷ []), ap length (append_assoc ls h.more (line ∷ [])));
   }
 
-  -- few lines were taken yet
+  -- the lines taken in all and the bytes left are at most the lines before the text and its bytes
   pub few_taken : (b : B) (n k : ℕ) → k ≡ length ls → HasTaken taken ls text rest b n → n + length rest ≤ k + length text
   few_taken b n k e h = omega (arith, prefix_long text rest h.more h.texts, h.counts, length-append ls h.more)
 
@@ -146,7 +146,7 @@ module _ {B : Type 0} (taken : B → List (List ℕ) → Type 0) where
   pub view_count : (r q : ReaderState B) (n : ℕ) → r ≡ q → q.count ≡ n → r.count ≡ n
   view_count r q n e h = ap (λ (x : ReaderState B). x.count) e ∙ h
 
-  -- how many lines a reader took
+  -- the lines that a reader took and the bytes that it holds are at most the bytes of its text
   pub few_lines : (r : ReaderState B) (text : List ℕ) → StandsFor taken r text → r.count + length r.held ≤ length text
   few_lines r text s = omega (arith, cut_long text r.held s.lines s.cut, s.count)
 
@@ -188,7 +188,7 @@ module _ {B : Type 0} (taken : B → List (List ℕ) → Type 0) where
       ∙ ap (λ x. split (text ++ x)) (sym (ap (λ x. x ++ more) p.0 ∙ append_assoc line (10 ∷ rest) more)) ∙ ap split (sym (append_assoc text piece more)))
       (f (rest ++ more))
 
-  -- the lines of a piece are taken where none is held
+  -- where no beginning of a line is held, the lines of a text and more are those taken and those of `more`
   lines_of : (r : ReaderState B) (text more : List ℕ) (s : StandsFor taken r text) → r.held ≡ [] → split (text ++ more) ≡ s.lines ++ split more
   lines_of r text more s clear = cut_on text r.held s.lines more s.cut ∙ ap (λ h. s.lines ++ split (h ++ more)) clear
 

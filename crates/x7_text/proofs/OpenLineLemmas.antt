@@ -7,7 +7,7 @@ use Rattle.x7_text.specs.Digits.{hex_byte}
 use Rattle.x7_text.specs.Row.{element_text, in_line_after, next_in_line, open_text, spaced}
 use Rattle.x7_text.proofs.LineLemmas.{open_text_append, in_line_after_append}
 
--- after the elements xs, which were given after `start` of an open line, to a text that was `old`
+-- the text and the count after the elements xs, put to the text `old` where `start` elements stood in the open line
 pub record WrittenSoFar (n : ℕ) (keyword : List ℕ) (text : ℕ → List ℕ) (start : ℕ) (old xs items : List ℕ) (count : ℕ) : Type 0 where
   pub text_is : items ≡ old ++ open_text n keyword text start xs
   pub count_is : count ≡ in_line_after n start xs
@@ -30,7 +30,7 @@ words_step : (i k rest : ℕ) → rest ≤ 12 * k + (if (if i + 1 == 8 then 0 el
     → (if i == 0 then 4 else 0) + 9 + (if i + 1 == 8 then 1 else 0) + rest ≤ 12 * suc k + (if i == 0 then 1 else 0)
 words_step i k rest h = grind (arith, common_steps)
 
--- a word's line takes at most twelve bytes a word, and one more where it begins
+-- words add at most twelve bytes of text each, and one more where no line is open
 pub words_length : (i : ℕ) (ws : List ℕ) → length (open_text 8 (codes "data") spaced i ws) ≤ 12 * length ws + (if i == 0 then 1 else 0)
 words_length i [] = omega arith
 words_length i (w ∷ ws) = rw (element_length 8 (codes "data") spaced i w (open_text 8 (codes "data") spaced (next_in_line 8 i) ws)) (words_step i (length ws) (length (open_text 8 (codes "data") spaced (next_in_line 8 i) ws)) (words_length (next_in_line 8 i) ws))
@@ -39,7 +39,8 @@ bytes_step : (i k rest : ℕ) → rest ≤ 3 * k + (if (if i + 1 == 32 then 0 el
     → (if i == 0 then 6 else 0) + 2 + (if i + 1 == 32 then 1 else 0) + rest ≤ 3 * suc k + (if i == 0 then 5 else i - 26)
 bytes_step i k rest h = grind (arith, common_steps)
 
--- a byte's line takes at most three bytes a byte, and five more where it begins
+-- bytes add at most three bytes of text each, and five more where no line is open; in an open line, as many more as it
+-- has bytes past 26
 pub bytes_length : (i : ℕ) (bs : List ℕ) → length (open_text 32 (codes "bytes ") hex_byte i bs) ≤ 3 * length bs + (if i == 0 then 5 else i - 26)
 bytes_length i [] = omega arith
 bytes_length i (b ∷ bs) = rw (element_length 32 (codes "bytes ") hex_byte i b (open_text 32 (codes "bytes ") hex_byte (next_in_line 32 i) bs)) (bytes_step i (length bs) (length (open_text 32 (codes "bytes ") hex_byte (next_in_line 32 i) bs)) (bytes_length (next_in_line 32 i) bs))

@@ -23,7 +23,7 @@ same_step : (b : Bool) (n r x y : ℕ) (xs ys : List ℕ) → (b ≡ true → x 
 same_step true n r x y xs ys e h more = let s = e refl in ap (λ (k : ℕ). k ∷ take n xs) s ∙ ap (λ t. y ∷ t) (more (omega (arith, h)))
 same_step false n r x y xs ys e h more = absurd (omega (arith, h))
 
-same_so_far : (n : ℕ) (xs ys : List ℕ) → n ≤ prefix_len (λ b. not b) (zip2 differs xs ys) → take n xs ≡ take n ys
+pub same_so_far : (n : ℕ) (xs ys : List ℕ) → n ≤ prefix_len (λ b. not b) (zip2 differs xs ys) → take n xs ≡ take n ys
 same_so_far zero xs ys h = refl
 same_so_far (suc n) [] ys h = absurd (omega (arith, h))
 same_so_far (suc n) (x ∷ xs) [] h = absurd (omega (arith, h))

@@ -3,7 +3,7 @@ use Rattle.std.proofs.Common.{◌≡◌, ℕ, ◌+◌, ◌*◌, ◌/◌, ◌%◌
 use Rattle.std.proofs.lemmas.Grind.{common_steps}
 use Rattle.std.specs.List.{flat_map}
 use Rattle.x7_words.specs.Word.{AreBytes, bytes_of_word, word_of_bytes}
-use Rattle.x7_words.proofs.WordLemmas.{word_whole}
+use Rattle.x7_words.proofs.WordLemmas.{word_whole, word_bytes}
 use Rattle.x7_text.specs.Digits.{hex_byte, hex_digit, hex_word}
 use Rattle.x7_text.specs.DigitValue.{byte_value, bytes_value, digit_value, word_value}
 
@@ -35,9 +35,6 @@ word_digits w h =
     let e7 : w / 2 ^ 4 % 16 ≡ w % 256 / 2 ^ 4 % 16 = omega arith in
     let e8 : w % 16 ≡ w % 256 % 16 = omega arith in
     cc
-
-pub word_bytes : (w : ℕ) → AreBytes (bytes_of_word w)
-word_bytes w = (omega arith, (omega arith, (omega arith, (omega arith, tt))))
 
 pub word_back : (w : ℕ) → w < 2 ^ 32 → word_value (hex_word w) ≡ w
 word_back w h = ap word_value (word_digits w h) ∙ ap word_of_bytes (bytes_back (bytes_of_word w) (word_bytes w)) ∙ word_whole w h

@@ -4,7 +4,8 @@ use Rattle.std.specs.declared.alloc.Global.{Global}
 
 -- what is read: values that fit, the text of each, and the bytes that it stands for
 module _ {A : Type 0} (fits : A → Type 0) (text bytes : A → List ℕ) where
-  -- the text is that of some x that fits, whose bytes were appended; or that of none, and nothing was
+  -- `true`: the text is that of some x that fits, whose bytes were appended; `false`: it is that of none, and nothing
+  -- was appended
   abbrev pub AppendsIfRead : Bool → List ℕ → List ℕ → List ℕ → Type 0
   AppendsIfRead true t old new = (x : A) × fits x × (t ≡ text x) × (new ≡ old ++ bytes x)
   AppendsIfRead false t old new = ((x : A) → fits x → t ≡ text x → ⊥) × (new ≡ old)

@@ -69,7 +69,7 @@ line_start keyword in_line = if in_line == 0 then keyword else []
 abbrev pub line_end : ℕ → ℕ → List ℕ
 line_end n in_line = if in_line + 1 == n then line_end_byte ∷ [] else []
 
--- the count of elements in the open line after one more
+-- the count of elements in the open line after one more: 0 where that fills the line
 abbrev pub next_in_line : ℕ → ℕ → ℕ
 next_in_line n in_line = if in_line + 1 == n then 0 else in_line + 1
 
@@ -95,27 +95,27 @@ open_data in_line ws = open_text row_words (codes "data") spaced in_line ws
 abbrev pub open_bytes : ℕ → List ℕ → List ℕ
 open_bytes in_line bs = open_text bytes_row_size (codes "bytes ") hex_byte in_line bs
 
--- the most bytes of text that one word adds: the line's keyword, a space and eight digits, and the line end
+-- a bound on the bytes of text that one word adds: the line's keyword, a space and eight digits, and the line end
 abbrev pub word_text_limit : ℕ
 word_text_limit = 14
 
--- the most bytes of text that one byte adds: the line's keyword and a space, two digits, and the line end
+-- a bound on the bytes of text that one byte adds: the line's keyword and a space, two digits, and the line end
 abbrev pub byte_text_limit : ℕ
 byte_text_limit = 9
 
--- the most bytes of text that n bytes add to rows, whatever stands in the open line: three for each, and sixteen
+-- a bound on the bytes of text that n bytes add to rows, whatever stands in the open line: three for each, and sixteen
 abbrev pub rows_text_limit : ℕ → ℕ
 rows_text_limit n = 3 * n + 16
 
--- bytes were put to `bytes` lines, as text of at most this size: the open line had
--- `in_line` bytes, and now has `next` of them
+-- bytes were put to `bytes` lines, as text of at most `most` bytes: the open line had `in_line` bytes, and now has
+-- `next` of them
 pub record PutsBytes (in_line : ℕ) (bytes : List ℕ) (old new : Vec ℕ Global) (most next : ℕ) : Type 0 where
   pub count : next ≡ in_line_after bytes_row_size in_line bytes
   pub below : next < bytes_row_size
   pub appends : Appends old new (open_bytes in_line bytes) most
 
--- words were put to `data` lines, as text of at most this size: the open line had
--- `in_line` words, and now has `next` of them
+-- words were put to `data` lines, as text of at most `most` bytes: the open line had `in_line` words, and now has
+-- `next` of them
 pub record PutsWords (in_line : ℕ) (words : List ℕ) (old new : Vec ℕ Global) (most next : ℕ) : Type 0 where
   pub count : next ≡ in_line_after row_words in_line words
   pub below : next < row_words
@@ -125,10 +125,10 @@ pub record PutsWords (in_line : ℕ) (words : List ℕ) (old new : Vec ℕ Globa
 abbrev pub close : ℕ → List ℕ
 close in_line = if in_line == 0 then [] else line_end_byte ∷ []
 
--- the bytes of one `bytes` line
+-- one to 32 bytes, as one `bytes` line shows them
 abbrev pub IsByteRow : List ℕ → Type 0
 IsByteRow bytes = AreBytes bytes × (0 < length bytes) × (length bytes ≤ bytes_row_size)
 
--- the words of one `data` line
+-- one to eight words, as one `data` line shows them
 abbrev pub IsWordRow : List ℕ → Type 0
 IsWordRow words = AreWords words × (0 < length words) × (length words ≤ row_words)

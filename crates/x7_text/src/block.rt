@@ -11,7 +11,7 @@ use std::simd::prelude::*;
 /// The sixteen digits, once for each sixteen lanes of a block.
 const DIGITS: [u8; 64] = *b"0123456789ABCDEF0123456789ABCDEF0123456789ABCDEF0123456789ABCDEF";
 
-/// The digits of numbers below 16, each looked up.
+/// The upper-case digits of 64 numbers below 16, each looked up.
 #[inline(always)]
 fn hex_digits(numbers: u8x64) -> u8x64
     requires lanes { length numbers ≡ 64 }
@@ -38,7 +38,7 @@ fn halves_of(bytes: u8x32) -> u8x64
     )
 }
 
-/// The two upper-case digits of each byte.
+/// The two upper-case digits of each of 32 bytes.
 #[inline(always)]
 pub fn hex_of_block(bytes: &[u8; 32]) -> [u8; 64]
     ensures { result ≡ flat_map hex_byte bytes.now }
@@ -57,7 +57,7 @@ pub(crate) fn hex_of_short_block(bytes: &[u8]) -> [u8; 64]
     hex_of_block(&block)
 }
 
-/// The digits of eight numbers below 16.
+/// The upper-case digits of eight numbers below 16.
 #[inline(always)]
 fn eight_hex_digits(numbers: u8x8) -> u8x8
     requires lanes { length numbers ≡ 8 }
@@ -86,7 +86,7 @@ pub(crate) fn hex_of_four(bytes: &[u8; 4]) -> [u8; 8]
     eight_hex_digits(halves_of_four(u8x4::from_array(*bytes))).to_array()
 }
 
-/// The digits of sixteen numbers below 16.
+/// The upper-case digits of sixteen numbers below 16.
 #[inline(always)]
 fn sixteen_hex_digits(numbers: u8x16) -> u8x16
     requires lanes { length numbers ≡ 16 }
@@ -130,7 +130,7 @@ const WIDE_LINE_SIZE: usize = 80;
 /// What a `data` line has beside digits: its keyword, a space and the line end.
 const BESIDE: [u8; 16] = *b"data \n          ";
 
-/// Sixteen of the 64 digits of a block, from digit `at` on.
+/// Sixteen of the 64 digits of a block, from digit `at` on, counted from 0.
 #[inline(always)]
 fn sixteen_of(digits: &[u8; 64], at: usize) -> u8x16
     requires { at + 16 ≤ 64 }
@@ -173,7 +173,7 @@ fn wide_line(bytes: &[u8; 32]) -> [u8; WIDE_LINE_SIZE]
     text
 }
 
-/// The `data` line of eight words, with its line end.
+/// The `data` line of eight words, with its line end. The words are given as bytes, the highest of each first.
 #[inline(always)]
 pub fn data_line(bytes: &[u8; 32]) -> [u8; DATA_LINE_SIZE]
     ensures { result ≡ line (codes "data") spaced (words_of_bytes bytes.now) }

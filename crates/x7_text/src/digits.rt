@@ -1,4 +1,4 @@
-//! Digits of words, bytes and counts.
+//! Hexadecimal digits of words and bytes, and decimal ones of numbers.
 ghost use Rattle.std.specs.Prelude.{◌≡◌, decimal};
 ghost use Rattle.x7_text.specs.Appends.{Appends, HasSpareRoom};
 ghost use Rattle.x7_text.specs.Digits.{hex_byte, hex_word, most_digits};
@@ -8,7 +8,7 @@ use crate::room::put;
 use itoa::Buffer;
 use x7_words::bytes_of;
 
-/// The eight upper-case digits of a word.
+/// The eight upper-case digits of a word, the highest first.
 #[inline(always)]
 pub fn hex_of_word(word: u32) -> [u8; 8]
     ensures { result ≡ hex_word word }
@@ -37,7 +37,7 @@ static BYTE_DIGITS: [[u8; 2]; 256] = [
     *b"F0", *b"F1", *b"F2", *b"F3", *b"F4", *b"F5", *b"F6", *b"F7", *b"F8", *b"F9", *b"FA", *b"FB", *b"FC", *b"FD", *b"FE", *b"FF",
 ];
 
-/// The two upper-case digits of a byte.
+/// The two upper-case digits of a byte, the higher first.
 #[inline(always)]
 pub fn hex_of_byte(byte: u8) -> [u8; 2]
     ensures { result ≡ hex_byte byte }

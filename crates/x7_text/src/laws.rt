@@ -1,5 +1,5 @@
-//! Laws of rows and their lines, for the proofs of crates above.
-ghost use Rattle.std.specs.Prelude.{◌≡◌, ℕ, List, [], ◌∷◌, ◌<◌, ◌+◌, ◌^◌, ◌⊎◌, ◌++◌, length, true, Some, decimal};
+//! Laws of rows, lines and digits. The functions do nothing: their contracts are the laws.
+ghost use Rattle.std.specs.Prelude.{◌≡◌, ℕ, List, [], ◌∷◌, ◌<◌, ◌+◌, ◌^◌, ◌⊎◌, ◌++◌, true, Some, decimal};
 ghost use Rattle.std.specs.List.{flat_map, AllByRecursion};
 ghost use Rattle.x7_words.specs.Word.{AreBytes};
 ghost use Rattle.x7_text.specs.Digits.{hex_byte, hex_digit, hex_word};
@@ -23,16 +23,8 @@ pub fn lines_in_parts()
     ensures count { (n i : ℕ) (xs ys : List ℕ) → in_line_after n i (xs ++ ys) ≡ in_line_after n (in_line_after n i xs) ys }
 {}
 
-/// A row of as many elements as a line takes, at least one, adds its line where no line is open. What follows adds what
-/// it adds to a new line, and leaves the same count in the open line.
-pub fn whole_rows()
-    ensures text { (n : ℕ) (keyword : List ℕ) (text : ℕ → List ℕ) (row rest : List ℕ) → length row ≡ n → 0 < n
-        → open_text n keyword text 0 (row ++ rest) ≡ line keyword text row ++ open_text n keyword text 0 rest }
-    ensures count { (n : ℕ) (row rest : List ℕ) → length row ≡ n → 0 < n → in_line_after n 0 (row ++ rest) ≡ in_line_after n 0 rest }
-{}
-
-/// The rows joined are the elements. Where a row takes at least one element, all rows but the last are full, and none
-/// is empty.
+/// The rows joined are the elements. Where a row takes at least one element, all rows but the last are full, and the
+/// last is neither empty nor longer.
 pub fn rows_are_the_elements()
     ensures joined { (n : ℕ) (xs : List ℕ) → flat_map (λ (row : List ℕ). row) (rows n xs) ≡ xs }
     ensures full { (n : ℕ) (xs : List ℕ) → 0 < n → AreFullButLast n (rows n xs) }
@@ -54,8 +46,8 @@ pub fn either_case_leads_back()
     ensures bytes { (bs : List ℕ) → AreBytes bs → bytes_of_pairs (flat_map hex_byte bs) ≡ Some bs }
 {}
 
-/// The lines of a text joined are the text, and none holds a line end. A text of lines that each have their end is
-/// split into these and an empty one.
+/// The lines of a text joined are the text, and none holds a line end. A text of lines that hold no line end, each with
+/// its end after it, is split into these and an empty one.
 pub fn lines_lead_back()
     ensures joined { (text : List ℕ) → joined_lines (split text) ≡ text }
     ensures no_ends { (text : List ℕ) → AllByRecursion (λ line. has_no_end line ≡ true) (split text) }

@@ -19,7 +19,7 @@ pub use either_case::read_pairs;
 pub use growing::{put_number, put_text};
 pub use laws::{
     digits_lead_back, either_case_leads_back, lines_in_parts, lines_lead_back, lines_one_by_one,
-    rows_are_the_elements, whole_rows,
+    rows_are_the_elements,
 };
 pub use line_reader::{LineReader, TakesLines, read_lines};
 pub use lines::{after, first_line, means_nothing};

@@ -1,5 +1,5 @@
 //! A text that comes in pieces, line by line.
-ghost use Rattle.std.specs.Prelude.{◌≡◌, ◌+◌, ◌<◌, ◌++◌, ◌∷◌, [], List, ℕ, length, IfErr, MatchOption, MatchResult};
+ghost use Rattle.std.specs.Prelude.{◌≡◌, ◌+◌, ◌<◌, ◌++◌, ◌∷◌, [], List, ℕ, length, IfErr, MatchResult};
 ghost use Rattle.x7_text.specs.LineReader.{CompletesLine, StandsFor, TakesEndedLine, TakesEndedLines, TakesTextPiece, WantsAt, WantsOnlyIn};
 ghost use Rattle.x7_text.specs.Lines.{split};
 ghost use Rattle.x7_words.specs.Input.{taken_bytes_limit};
@@ -27,7 +27,7 @@ pub trait TakesLines: Drop {
     /// A text of these lines, the last of which has no end, gives this.
     ghost gives: { Self → Self.Out → List (List ℕ) → Type 0 };
 
-    /// The fault is want of memory.
+    /// The fault is want of memory. Where an impl says nothing, each fault counts as that.
     ghost is_want: { Self.Fault → Type 0 } = { λ _. Unit {0} };
 
     /// After these lines memory may be wanting at this line. Where an impl says nothing, it may be wanting at each.
@@ -44,8 +44,9 @@ pub trait TakesLines: Drop {
         ensures memory { (first : Self) (lines : List (List ℕ)) → line_number ≡ length lines + 1 → took first self.old lines
             → IfErr result (λ fault. is_want fault → wants first lines line.now) };
 
-    /// Takes the lines of a text that have their end, after `line_count` lines. Answers what is left of the text, and
-    /// how many lines were taken in all. After an error nothing more may be taken.
+    /// Takes the lines of a text that have their end, after `line_count` lines; these and the bytes of the text are to
+    /// be fewer than 2^63 together. Answers what is left of the text, and how many lines were taken in all. After an
+    /// error nothing more may be taken.
     fn take_lines<'t>(
         &mut self,
         line_count: u64,
@@ -77,7 +78,8 @@ pub trait TakesLines: Drop {
             → IfErr result (λ fault. is_want fault → wants first lines line.now) };
 }
 
-/// What a text gives that is there whole, or its fault. No line of it is copied: memory is wanting only at a line.
+/// What a text that is there whole gives, by a taker of no line yet, or its fault. No line is copied: memory is wanting
+/// only at a line, where `wants` says so.
 pub fn read_lines<T: TakesLines>(taker: T, text: &[u8]) -> Result<T::Out, T::Fault>
     ensures read { T.took taker taker [] → MatchResult result (λ out. T.gives taker out (split text.now)) (λ fault. T.fails taker fault (split text.now)) }
     ensures memory { T.took taker taker [] → IfErr result (λ fault. T.is_want fault → WantsAt (T.wants taker) [] text.now) }
@@ -128,7 +130,7 @@ impl<T: TakesLines> LineReader<T> {
     }
 
     /// Takes the line whose beginning is held, if a piece completes it, and answers the text after it. Else the piece
-    /// is held too.
+    /// is held too, and the answer is `None`.
     fn complete<'t>(&mut self, piece: &'t [u8]) -> Result<Option<&'t [u8]>, T::Fault>
         ensures { (first : T) → CompletesLine (T.took first) (T.fails first) (λ rest. rest.now) self.old piece.now result self.new }
     {
@@ -187,7 +189,7 @@ impl<T: TakesLines> LineReader<T> {
         Ok(reader)
     }
 
-    /// Ends the text: what it gives, or its fault. Memory is wanting only at its last line.
+    /// Ends a text of fewer than 2^63 bytes: what it gives, or its fault. Memory is wanting only at its last line.
     pub fn finish(self) -> Result<T::Out, T::Fault>
         ensures read { (first : T) (text : List ℕ) → length text < taken_bytes_limit → StandsFor (T.took first) self text
             → MatchResult result (λ out. T.gives first out (split text)) (λ fault. T.fails first fault (split text)) }

@@ -4,7 +4,7 @@ ghost use Rattle.x7_text.specs.Lines.{means_nothing, split};
 
 use memchr::memchr;
 
-/// The text before the first line end, and the text after it: `None` where no line end stands.
+/// The text before the first line end, and the text after it: all of the text and `None` where no line end stands.
 pub fn first_line(text: &[u8]) -> (&[u8], Option<&[u8]>)
     ensures { MatchOption result.1 (split text.now ≡ result.0.now ∷ [])
         (λ more. (split text.now ≡ result.0.now ∷ split more.now) × (length more.now < length text.now)) }

@@ -23,7 +23,8 @@ fn padded(digits: &[u8]) -> [u8; 64]
     all
 }
 
-/// Appends the bytes of one to 32 pairs of digits, exactly where they are digits.
+/// Appends the bytes of one to 32 pairs of upper-case digits, the higher first. For any other text it appends nothing
+/// and answers `false`.
 pub fn read_byte_row(out: &mut Vec<u8>, digits: &[u8]) -> bool
     requires { HasSpareRoom out.old bytes_row_size }
     ensures reads { AppendsIfRead IsByteRow (flat_map hex_byte) (λ (bs : List ℕ). bs) result digits.now out.old.items out.new.items }
@@ -50,7 +51,8 @@ fn write_digits(digits: &mut [u8; 64], at: usize, word: &[u8; 9])
     digits[at..at + 8].copy_from_slice(&word[1..]);
 }
 
-/// The digits of up to eight words, of which a space stands before each in the text, and other digits after them.
+/// The digits of up to eight words, before each of which a byte for a space stands in the text, and other digits after
+/// them.
 #[inline(always)]
 fn gathered(text: &[u8]) -> [u8; 64]
     requires { length text.now ≤ 72 }
@@ -65,7 +67,8 @@ fn gathered(text: &[u8]) -> [u8; 64]
     digits
 }
 
-/// Appends the bytes of one word, exactly where a space and its eight digits stand.
+/// Appends the four bytes of one word, the highest first, where a space and its eight upper-case digits stand. Else it
+/// appends nothing and answers `false`.
 #[inline(always)]
 fn read_one_word(out: &mut Vec<u8>, text: &[u8]) -> bool
     requires room { HasSpareRoom out.old bytes_row_size }
@@ -85,7 +88,8 @@ fn read_one_word(out: &mut Vec<u8>, text: &[u8]) -> bool
     }
 }
 
-/// Appends the bytes of one to eight words, exactly where a space and eight digits stand for each.
+/// Appends the bytes of one to eight words, the highest of each first, where a space and eight upper-case digits stand
+/// for each. For any other text it appends nothing and answers `false`.
 pub fn read_word_row(out: &mut Vec<u8>, text: &[u8]) -> bool
     requires { HasSpareRoom out.old bytes_row_size }
     ensures reads { AppendsIfRead IsWordRow (flat_map spaced) (flat_map bytes_of_word) result text.now out.old.items out.new.items }

@@ -42,7 +42,7 @@ fn bytes_of_eight(digits: &[u8; 8]) -> [u8; 4]
     bytes_of_four_pairs(numbers_of_eight(u8x8::from_array(*digits))).to_array()
 }
 
-/// The word of eight digits, exactly where they are the digits of a word.
+/// The word of eight upper-case digits, the highest first: `None` for any other text.
 pub fn word_of_hex(digits: &[u8]) -> Option<u32>
     ensures { MatchOption result ((w : ℕ) → w < 2 ^ 32 → digits.now ≢ hex_word w) (λ w. digits.now ≡ hex_word w) }
 {
@@ -60,7 +60,7 @@ pub fn word_of_hex(digits: &[u8]) -> Option<u32>
     None
 }
 
-/// The number of decimal digits, exactly where they are those of a number of 32 bits: no leading zero.
+/// The number of 32 bits that these are the decimal digits of, without leading zeros: `None` where there is none.
 pub fn number_of_decimal(digits: &[u8]) -> Option<u32>
     ensures { IsDecimalBelow (2 ^ 32) digits.now result }
 {
@@ -81,7 +81,7 @@ pub fn number_of_decimal(digits: &[u8]) -> Option<u32>
     }
 }
 
-/// The number that these are the decimal digits of, without leading zeros, if it is below the limit.
+/// The number below the limit that these are the decimal digits of, without leading zeros: `None` where there is none.
 pub fn decimal_below(digits: &[u8], limit: u32) -> Option<u32>
     ensures { IsDecimalBelow limit digits.now result }
 {
@@ -134,7 +134,7 @@ pub(crate) fn bytes_of_digits(digits: &[u8; 64]) -> [u8; 32]
     bytes_of_halves(numbers_of(u8x64::from_array(*digits))).to_array()
 }
 
-/// The bytes of 64 digits, exactly where they are digits.
+/// The 32 bytes of 64 upper-case digits, the higher of each byte first: `None` where one is no such digit.
 #[inline(always)]
 pub fn block_of_hex(digits: &[u8; 64]) -> Option<[u8; 32]>
     ensures { MatchOption result ((bs : List ℕ) → AreBytes bs → digits.now ≢ flat_map hex_byte bs) (λ bs. digits.now ≡ flat_map hex_byte bs) }

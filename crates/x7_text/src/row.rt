@@ -1,5 +1,5 @@
 //! Lines of a row, written as the elements come: an open line takes more elements until it is full.
-ghost use Rattle.std.specs.Prelude.{◌≡◌, [], ◌∷◌, ◌<◌, ◌+◌, ◌*◌, ◌%◌, length, codes};
+ghost use Rattle.std.specs.Prelude.{◌≡◌, [], ◌∷◌, ◌<◌, ◌+◌, ◌*◌, length, codes};
 ghost use Rattle.std.specs.List.{flat_map};
 ghost use Rattle.x7_text.specs.Appends.{Appends, HasSpareRoom};
 ghost use Rattle.x7_text.specs.Digits.{hex_byte};
@@ -17,7 +17,8 @@ const ROW_WORDS: usize = 8;
 /// How many bytes a full `bytes` line has.
 pub const BYTES_ROW_SIZE: usize = 32;
 
-/// Appends the keyword that a line begins with, where no line is open.
+/// Appends the keyword that a line begins with, where no line is open: `in_line`, the count of elements in the open
+/// line, is 0.
 fn put_line_start(text: &mut Vec<u8>, keyword: &[u8], in_line: usize)
     requires { HasSpareRoom text.old (length keyword.now) }
     ensures appends { Appends text.old text.new (line_start keyword.now in_line) (length keyword.now) }
@@ -27,7 +28,8 @@ fn put_line_start(text: &mut Vec<u8>, keyword: &[u8], in_line: usize)
     }
 }
 
-/// Appends the end of a line that one more element filled. Gives the count of elements in the open line after it.
+/// Appends the end of a line that has `in_line` elements and one more, if the line is full with `full` of them. Gives
+/// the count of elements in the open line afterwards.
 fn put_line_end(text: &mut Vec<u8>, full: usize, in_line: usize) -> usize
     requires open { in_line < full }
     requires room { HasSpareRoom text.old 1 }
@@ -67,7 +69,8 @@ fn put_byte(text: &mut Vec<u8>, in_line: usize, byte: u8) -> usize
     put_line_end(text, BYTES_ROW_SIZE, in_line)
 }
 
-/// Appends the end of an open line, and nothing where none is open.
+/// Appends the end of an open line, and nothing where none is open. `in_line` counts what the line has so far, 0 where
+/// none is open.
 pub fn put_close(text: &mut Vec<u8>, in_line: usize)
     requires { HasSpareRoom text.old 1 }
     ensures appends { Appends text.old text.new (close in_line) 1 }
@@ -97,8 +100,8 @@ fn put_bytes_lines(text: &mut Vec<u8>, lines: &[[u8; 32]])
     }
 }
 
-/// Appends the words of whole groups of four bytes to `data` lines, word by word. Gives how many words stand in the
-/// open line then.
+/// Appends the words of whole groups of four bytes to `data` lines of which the open one has `in_line` words, word by
+/// word. Gives how many words stand in the open line then.
 fn put_each_word(text: &mut Vec<u8>, in_line: usize, bytes: &[u8]) -> usize
     requires open { in_line < row_words }
     requires whole { AreWholeWords bytes.now }
@@ -113,7 +116,8 @@ fn put_each_word(text: &mut Vec<u8>, in_line: usize, bytes: &[u8]) -> usize
     count
 }
 
-/// Appends bytes to `bytes` lines, byte by byte. Gives how many bytes stand in the open line then.
+/// Appends bytes to `bytes` lines of which the open one has `in_line` bytes, byte by byte. Gives how many bytes stand
+/// in the open line then.
 fn put_each_byte(text: &mut Vec<u8>, in_line: usize, bytes: &[u8]) -> usize
     requires open { in_line < bytes_row_size }
     requires room { HasSpareRoom text.old (3 * length bytes.now + 11) }
@@ -126,7 +130,8 @@ fn put_each_byte(text: &mut Vec<u8>, in_line: usize, bytes: &[u8]) -> usize
     count
 }
 
-/// Appends bytes to a `bytes` line, which they leave open. Gives how many bytes stand in the open line then.
+/// Appends bytes to a `bytes` line that has `in_line` bytes, and that they don't fill. Gives how many bytes stand in
+/// the open line then.
 fn put_bytes_in_line(text: &mut Vec<u8>, in_line: usize, bytes: &[u8]) -> usize
     requires open { in_line + length bytes.now < bytes_row_size }
     requires room { HasSpareRoom text.old (2 * length bytes.now + 6) }
@@ -140,7 +145,8 @@ fn put_bytes_in_line(text: &mut Vec<u8>, in_line: usize, bytes: &[u8]) -> usize
     in_line + bytes.len()
 }
 
-/// Appends the words of whole groups of four bytes to new `data` lines. Gives how many stand in the open line then.
+/// Appends the words of whole groups of four bytes to new `data` lines. Gives how many words stand in the open line
+/// then.
 fn put_new_words(text: &mut Vec<u8>, bytes: &[u8]) -> usize
     requires whole { AreWholeWords bytes.now }
     requires room { HasSpareRoom text.old (3 * length bytes.now + 4) }
@@ -151,7 +157,7 @@ fn put_new_words(text: &mut Vec<u8>, bytes: &[u8]) -> usize
     put_each_word(text, 0, rest)
 }
 
-/// Appends bytes to new `bytes` lines. Gives how many stand in the open line then.
+/// Appends bytes to new `bytes` lines. Gives how many bytes stand in the open line then.
 fn put_new_bytes(text: &mut Vec<u8>, bytes: &[u8]) -> usize
     requires { HasSpareRoom text.old (3 * length bytes.now + 6) }
     ensures { PutsBytes 0 bytes.now text.old text.new (3 * length bytes.now + 6) result }

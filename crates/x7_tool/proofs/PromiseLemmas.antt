@@ -1,4 +1,4 @@
--- What planned streams do, by what was known when they were written.
+-- What the whole text of each form promises, by what was known when it was made.
 use Rattle.std.proofs.Common.{◌≡◌, ◌∙◌, ◌<◌, ◌≤◌, ℕ, List, ◌++◌, length, drop, take, Bool, true, false, if◌then◌else◌, Option, Some, Result, Ok, Err, ap, arith, refl, subst, sym}
 use Rattle.std.specs.Prelude.{Contains, nat_lt}
 use Rattle.std.proofs.lemmas.Bool.Decides.{nat_tests}
@@ -17,7 +17,7 @@ use Rattle.x7_engine.specs.State.{reads_of, taken_of}
 use Rattle.x7_boot.specs.declared.boots.BootEnd.{BootEnd}
 use Rattle.x7_boot.specs.declared.boots.BootEnd.TheVariants as boot_end
 use Rattle.x7_boot.specs.Image.{flash_limit, image_of, image_size}
-use Rattle.x7_boot.specs.Boots.{course_along}
+use Rattle.x7_boot.specs.BootCourse.{course_along}
 use Rattle.x7_recovery.specs.OpenBoot.{HasStreams}
 use Rattle.x7_recovery.specs.OpenSlot.{OpenFlash}
 use Rattle.x7_boot.proofs.CheckedLemmas.{attempt_checked, checked, last_checked}

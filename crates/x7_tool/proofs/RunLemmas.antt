@@ -1,4 +1,4 @@
--- What the end of a command says of its status.
+-- From how a command ended to what its run comes to: its status, its outcome, texts that lead back, and promises.
 use Rattle.std.proofs.Common.{◌≡◌, ◌≤◌, arith, length, ℕ, List, Bool, true, false, Option, None, Some, Result, Ok, Err, refl, ap, subst, sym, ◌∙◌, inl, inr, ◌⊎◌}
 use Rattle.std.specs.Prelude.{nat_lt}
 use Rattle.std.proofs.lemmas.Bool.Decides.{nat_tests}

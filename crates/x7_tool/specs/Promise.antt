@@ -13,7 +13,7 @@ use Rattle.x7_engine.specs.Rest.{AtRest}
 use Rattle.x7_planner.specs.FullStream.{full_stream}
 use Rattle.x7_boot.specs.Boot.{end_state}
 use Rattle.x7_boot.specs.Checked.{HasChecked}
-use Rattle.x7_boot.specs.Boots.{course_along}
+use Rattle.x7_boot.specs.BootCourse.{course_along}
 use Rattle.x7_recovery.specs.OpenBoot.{BootsOpen, HasStreams}
 use Rattle.x7_recovery.specs.OpenSlot.{IsOpenFlash, OpenFlash}
 use Rattle.x7_svf.specs.declared.statement.Statement.{Statement}
@@ -28,8 +28,8 @@ use Rattle.x7_forms.specs.Known.{Answer, Held, Known, streams_known, part_known,
 use Rattle.x7_outcome.specs.Play.{report_of}
 use Rattle.x7_outcome.specs.Outcome.{ImageStreams, PartAndText, image_streams, part_and_text, svf_answer, IsBootText}
 
--- The report of `play`: it is that of the streams' data, and startup has begun only where these made their checks
--- (`HasChecked`).
+-- The report of `play`: it is that of the streams' data, and where these are bytes, the phase of startup is above 0
+-- only where they made their checks (`HasChecked`).
 pub record PromisesPlayed (known : Known) (part : List ℕ) (streams : List (List ℕ)) (answer : Answer) : Type 0 where
   pub device : PartData
   pub bytes : List ℕ
@@ -38,8 +38,8 @@ pub record PromisesPlayed (known : Known) (part : List ℕ) (streams : List (Lis
   pub report : answer ≡ report_of device bytes
   pub checked : AreBytes bytes → 0 < (state_of device on_the_bench false bytes).phase → HasChecked device on_the_bench bytes
 
--- The text of `svf`: it is that of the statements of the SVF text, and startup has begun only where the bytes that the
--- device took made their checks.
+-- The text of `svf`: it is that of the statements of the SVF text, and the phase of startup is above 0 only where the
+-- bytes that the device took made their checks.
 pub record PromisesPort (known : Known) (part text : List ℕ) (answer : Answer) : Type 0 where
   pub texts : PartAndText
   pub statements : List Statement
@@ -74,7 +74,7 @@ pub record PromisesRead (known : Known) (part : List ℕ) (far n : ℕ) (stream 
   pub plays : (kept : Kept) (bytes : List ℕ) → AreBytes bytes → AtRest device kept bytes → PlaysRead (device_after device kept bytes) stream far n
 
 -- The text of `gen`: the full stream of the seed's plan, played on a new device, leaves the plan over zeros and ends
--- startup, and the summary is that of such a play.
+-- startup, and the text is the summary by what was planned.
 pub record PromisesSummary (known : Known) (part : List ℕ) (seed : ℕ) (text : List ℕ) : Type 0 where
   pub device : PartData
   pub read : part_known known part ≡ Ok device
@@ -98,8 +98,8 @@ pub record PromisesImageFor (known : Known) (part golden update image : List ℕ
   pub read : image_streams known golden update ≡ Ok streams
   pub boots : (more : List ℕ) → HasStreams device streams.golden streams.update (image ++ more)
 
--- a boot from a flash of these bytes: its last attempt made its checks where startup has begun in it, even if the
--- attempt failed, and where the text says that the boot started
+-- a boot from a flash of these bytes: its last attempt made its checks where the phase at the attempt's end is above 0,
+-- even if the attempt failed; and it made them where the text says that the boot started
 pub record StartsChecked (part : PartData) (flash : List ℕ) (answer : Answer) : Type 0 where
   pub boot : IsBootText part flash answer
   pub checked : 0 < (end_state part boot.last).phase → HasChecked part boot.last.kept boot.last.bytes
@@ -118,9 +118,10 @@ pub record BootsFromOpen (o : OpenFlash) (answer : Answer) : Type 0 where
   pub boot : IsBootText o.part o.flash answer
   pub comes : BootsOpen o (course_along boot.last boot.older boot.end)
 
--- The text of `boot`: over a flash whose bytes are known startup has begun in the last attempt only where that made its
--- checks. Over one with an open slot for the part the text reports what `BootsOpen` says: the update's start, or a stop
--- where CTL0 forbids a fallback, or the fallback and its start, where the golden stream is one that starts so.
+-- The text of `boot`: over a flash whose bytes are known, and are bytes, the phase at the end of the last attempt is
+-- above 0 only where that attempt made its checks. Over one with an open slot for the part the text reports what
+-- `BootsOpen` says: the update's start, or a stop where CTL0 forbids a fallback, or the fallback and its start, where
+-- the golden stream is one that starts so.
 pub record PromisesStart (known : Known) (part flash : List ℕ) (answer : Answer) : Type 0 where
   pub device : PartData
   pub read : part_known known part ≡ Ok device

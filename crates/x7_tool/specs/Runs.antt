@@ -22,9 +22,9 @@ use Rattle.x7_tool.specs.Promise.{Promise}
 use Rattle.x7_outcome.specs.Stopping.{StopsReading}
 use Rattle.x7_outcome.specs.Ending.{EndIsCaused, FailsLast, IsMeasured, JudgesFlash, OutputGets}
 
--- by the result of a call that writes: whether what it reports stopped, or the event of its refusal
-abbrev pub written_by : Result Bool Refusal → Result Bool Event
-written_by result = result_by (λ stopped. stopped) result
+-- what a call that writes a text came to: whether what the text reports stopped, or the event of the refusal
+abbrev pub stopped_or_event : Result Bool Refusal → Result Bool Event
+stopped_or_event result = result_by (λ stopped. stopped) result
 
 -- what the sink of messages got: nothing after a whole text, and else the event's
 -- line, or a prefix of it where the sink failed
@@ -41,19 +41,21 @@ abbrev pub LeadsBack : Status → Result Answer Event → List ℕ → Type 0
 LeadsBack s end bytes = (s ≡ status.NoMemory) ⊎ (end ≡ Ok (record { stopped = false; text = bytes }))
 
 -- where nothing failed, the listing of a stream of at most `stream_limit` bytes assembles to the stream, its header
--- included
+-- included, or memory was wanting
 abbrev pub ListingAssembles : List ℕ → Outside → Outside → Status → Result Answer Event → Type 0
 ListingAssembles name old new s end =
     (bytes text : List ℕ) → AreBytes bytes → length bytes ≤ stream_limit → stream_listing bytes ≡ Ok text
     → HasText old name text → NothingFailed (Some (Assembling name)) old new → LeadsBack s end bytes
 
--- where nothing failed, the Intel HEX text of an image of at most `flash_limit` bytes gives the image
+-- where nothing failed, the Intel HEX text of an image of at most `flash_limit` bytes gives the image, or memory was
+-- wanting
 abbrev pub GivesImage : List ℕ → Outside → Outside → Status → Result Answer Event → Type 0
 GivesImage name old new s end =
     (bytes : List ℕ) → AreBytes bytes → length bytes ≤ flash_limit
     → HasText old name (mcs_text bytes) → NothingFailed (Some (FromMcs name)) old new → LeadsBack s end bytes
 
--- what the text of `asm` or `unmcs` was made from comes back: of a listing the stream, of an Intel HEX text the image
+-- `asm` of a listing gives the stream, and `unmcs` of an Intel HEX text the image, as `ListingAssembles` and
+-- `GivesImage` say; of other forms nothing is said
 abbrev pub TextsLeadBack : Option AskedForm → Outside → Outside → Status → Result Answer Event → Type 0
 TextsLeadBack (Some (Assembling name)) old new s end = ListingAssembles name old new s end
 TextsLeadBack (Some (FromMcs name)) old new s end = GivesImage name old new s end
@@ -90,8 +92,8 @@ pub record Runs (form : Option AskedForm) (old new : Outside) (s : Status) : Typ
   pub stops : StopsReading form old.inputs new.inputs end
   -- no more inputs were asked for than the words name, and no more ends of inputs were read
   pub asks : AsksAtMost old.inputs (length (names_of form)) new.inputs
-  -- where the stream and the output are known and `list` ends by an event, it has read at most `most_bytes_ahead` bytes
-  -- more of its stream than it has listed, or, where the header is refused at a byte, none after that byte
+  -- where the stream and the output are known and `list` ends by an event, at most `most_bytes_ahead` bytes more of the
+  -- stream were read or given than are listed, or, where the header is refused at a byte, none after that byte was read
   pub near : StaysNear s form old new
   -- every input keeps its bytes, and the counts of faults and of absences of inputs don't fall
   pub stays : InputsStay old.inputs new.inputs
@@ -101,11 +103,11 @@ pub record Runs (form : Option AskedForm) (old new : Outside) (s : Status) : Typ
   -- inputs aren't known; one that isn't leaves the flash's bytes, unless a write or a read of the flash failed, or a
   -- byte differs
   pub updates : UpdateLeaves (updated_by form) old new end
-  -- the flash of the form is within the limit after a whole text, and over it where it is told as too large, whether
-  -- its bytes are known or not; unless an input has its name
+  -- the flash of the form is within the limit after a whole text, and over it where the event is that it is too large,
+  -- whether its bytes are known or not; the event may be that of an input of the same name
   pub measured : IsMeasured form new.flash end
   -- an update whose flash isn't there, wasn't attached or is too large asks for no stream, unless that has the flash's
-  -- name, and a boot touches its flash only once its part is good, unless memory was wanting
+  -- name, and a boot touches its flash only once its part is good, unless memory was wanting or the output failed
   pub judges : JudgesFlash form (sources old.inputs old.flash) (sources new.inputs new.flash) end
   -- a fault of a flash that is attached comes last: the flash is within the limit, and the form would have a whole text
   -- of its inputs; unless an input has its name

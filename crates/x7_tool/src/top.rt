@@ -7,7 +7,7 @@ ghost use Rattle.x7_tool.specs.PowerLoss.{EachBoots, PowerLossMayLeave};
 ghost use Rattle.x7_outcome.specs.Leaving.{CallUsesFlash};
 ghost use Rattle.x7_outcome.specs.Outside.{outside, sources};
 ghost use Rattle.x7_outcome.specs.Ending.{Answered};
-ghost use Rattle.x7_tool.specs.Runs.{Runs, written_by};
+ghost use Rattle.x7_tool.specs.Runs.{Runs, stopped_or_event};
 
 use std::alloc::Global;
 use x7_device_forms::boot::boot;
@@ -25,9 +25,9 @@ use x7_stream_forms::mcs::{mcs, unmcs};
 use x7_stream_forms::plan::{plan_full, plan_partial, plan_read};
 use x7_words::{Flash, Inputs, Sink};
 
-/// The answer of a form that reports nothing that could stop.
+/// The answer of a form that reports nothing that could stop: false, or its refusal.
 fn unstopped<'w>(done: Result<(), Refusal<'w>>) -> Result<bool, Refusal<'w>>
-    ensures { written_by result ≡ result_by (λ _. false) done.entry }
+    ensures { stopped_or_event result ≡ result_by (λ _. false) done.entry }
 {
     match done {
         Ok(()) => Ok(false),
@@ -36,7 +36,7 @@ fn unstopped<'w>(done: Result<(), Refusal<'w>>) -> Result<bool, Refusal<'w>>
 }
 
 /// Does what a form asks for, writes its whole text, and answers whether what the text reports stopped
-/// (`Status::Stopped`).
+/// (`Status::Stopped`), or the refusal in place of it.
 fn answer<'w, I: Inputs, O: Sink, F: Flash>(
     alloc: Global,
     form: Form<'w>,
@@ -45,7 +45,7 @@ fn answer<'w, I: Inputs, O: Sink, F: Flash>(
     out: &mut O,
 ) -> Result<bool, Refusal<'w>>
     ensures answered { (before after : SinkState) → Answered (asked_by form.entry) (outside (I.state inputs.old) (F.state flash.old) (O.state out.old) before)
-        (outside (I.state inputs.new) (F.state flash.new) (O.state out.new) after) (written_by result) }
+        (outside (I.state inputs.new) (F.state flash.new) (O.state out.new) after) (stopped_or_event result) }
     ensures flash { CallUsesFlash F.Flash (Some (asked_by form.entry)) (I.state inputs.old) flash.old flash.new }
 {
     match form {

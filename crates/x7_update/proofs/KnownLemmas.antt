@@ -118,21 +118,21 @@ moments_on a b c past mids since P Q R f m l n = record {
       (λ found w. known_map a.bytes (λ all. (mid : List ℕ) × (b.bytes ≡ Some mid) × P all mid) (λ all. R all found) (λ all e p. f all p.0 found e p.2 (known_at b.bytes (λ mid. Q mid found) w p.0 p.1)) l);
 }
 
--- an attach or a read after them, which leaves the bytes and writes nothing
+-- calls, and then an attach or a read, which leaves the bytes and writes nothing
 pub moments_read : (a b c : FlashState) (past mids since : ℕ → List ℕ → Type 0) (P : List ℕ → List ℕ → Type 0) → AtAnyMoment a b past mids P → c.bytes ≡ b.bytes → WritesNothing b c mids since → AtAnyMoment a c past since P
 moments_read a b c past mids since P m same u = record {
   leaves = known_map a.bytes (λ all. (now : List ℕ) × (b.bytes ≡ Some now) × P all now) (λ all. (now : List ℕ) × (c.bytes ≡ Some now) × P all now) (λ all e p. (p.0, same ∙ p.1, p.2)) m.leaves;
   elapses = elapses_unwritten a.moments b c past mids since (λ found. IfKnown a.bytes (λ all. P all found)) m.elapses u;
 }
 
--- an attach or a read before them
+-- an attach or a read, and then calls
 pub read_moments : (a b c : FlashState) (past mids since : ℕ → List ℕ → Type 0) (P : List ℕ → List ℕ → Type 0) → ((all : List ℕ) → a.bytes ≡ Some all → P all all) → b.bytes ≡ a.bytes → WritesNothing a b past mids → AtAnyMoment b c mids since P → AtAnyMoment a c past since P
 read_moments a b c past mids since P h kept u n =
     moments_on a b c past mids since (λ all mid. mid ≡ all) P P (λ all mid found e same p. subst (λ x. P x found) same p)
     (moments_read a a b past past mids P (moments_none a past P h) kept u)
     (known_all a.bytes (λ all. (mid : List ℕ) × (b.bytes ≡ Some mid) × (mid ≡ all)) (λ all e. (all, kept ∙ e, refl))) n
 
--- only these
+-- an attach or a read alone
 pub only_read : (a b : FlashState) (past since : ℕ → List ℕ → Type 0) (P : List ℕ → List ℕ → Type 0) → ((all : List ℕ) → a.bytes ≡ Some all → P all all) → b.bytes ≡ a.bytes → WritesNothing a b past since → AtAnyMoment a b past since P
 only_read a b past since P h kept u = moments_read a a b past past since P (moments_none a past P h) kept u
 

@@ -12,22 +12,22 @@ use Rattle.x7_update.proofs.CaseLemmas.{between_below, between_spent, open_not_f
 use Rattle.x7_update.proofs.SwitchLemmas.{length_switched, switch_other, switched_others}
 
 -- none of the bytes is AA, with which a sync word begins
-abbrev NoStart : List ℕ → Type 0
-NoStart [] = Unit {0}
-NoStart (x ∷ xs) = (x ≢ 0xAA) × NoStart xs
+abbrev NoSyncStart : List ℕ → Type 0
+NoSyncStart [] = Unit {0}
+NoSyncStart (x ∷ xs) = (x ≢ 0xAA) × NoSyncStart xs
 
 apart : (a : ℕ) → nat_eq a 0xAA ≡ false → a ≢ 0xAA
 apart a t e = true_or_false (nat_eq a 0xAA) (ap (λ n. nat_eq n 0xAA) e) t
 
-no_start : (xs : List ℕ) → NoStart xs → (i : ℕ) → i < length xs → get_or xs i 0 ≢ 0xAA
+no_start : (xs : List ℕ) → NoSyncStart xs → (i : ℕ) → i < length xs → get_or xs i 0 ≢ 0xAA
 no_start [] h i k = absurd (omega arith)
 no_start (x ∷ xs) h zero k = h.0
 no_start (x ∷ xs) h (suc i) k = no_start xs h.1 i (omega arith)
 
-prefix_apart : (flash : List ℕ) → NoStart (take 8 (drop 4 (first_slot flash)))
+prefix_apart : (flash : List ℕ) → NoSyncStart (take 8 (drop 4 (first_slot flash)))
 prefix_apart flash = (apart 0x20 refl, (apart 0 refl, (apart 0 refl, (apart 0 refl, (apart 0x30 refl, (apart 2 refl, (apart 0 refl, (apart 1 refl, tt))))))))
 
-back_apart : (flash : List ℕ) → NoStart (drop 16 (first_slot flash))
+back_apart : (flash : List ℕ) → NoSyncStart (drop 16 (first_slot flash))
 back_apart flash = (
   apart 0x30 refl,
   (

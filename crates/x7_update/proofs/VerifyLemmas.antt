@@ -94,7 +94,7 @@ switch_fails slot buffer stream old new result long seen same sized h opened r w
 
 -- ---- the end of an update
 
--- bytes that aren't known after a call that tells known ones weren't before it
+-- where a call keeps known bytes known, bytes that aren't known after it weren't known before it
 pub none_before : (P : List ℕ → List ℕ → Type 0) (old new : Option (List ℕ)) → BecomesBytes P old new → new ≡ None → old ≡ None
 none_before P None new b e = refl
 none_before P (Some all) new b e = let both : None ≡ Some b.0 = sym e ∙ b.1 in cc

@@ -18,8 +18,8 @@ pub data SpendsOpenSlot (flash spent : List ℕ) : Type 0 where
   already : HasNoOpenSlot flash → spent ≡ flash → SpendsOpenSlot flash spent
   spends : (slot : ℕ) → slot < flash_slot_count → IsOpen flash slot → spent ≡ with_switch_word slot spent_switch flash → SpendsOpenSlot flash spent
 
--- The flash after an update with a stream: its open slot, if it has one, is spent, the stream stands at U
--- with FF after it, and the first slot from which on all are free is open.
+-- The flash after an update with a stream: its open slot, if it has one, is spent, the stream, which fits in the flash,
+-- stands at the update's place with FF after it, and the first slot from which on all are free is open.
 pub record IsAfterUpdate (stream flash after : List ℕ) : Type 0 where
   pub spent : List ℕ
   pub is_spent : SpendsOpenSlot flash spent
@@ -28,9 +28,10 @@ pub record IsAfterUpdate (stream flash after : List ℕ) : Type 0 where
   pub fits : update_place flash + length stream ≤ length flash
   pub is : after ≡ with_switch_word next open_switch (with_stream (update_place flash) stream spent)
 
--- A flash that was left in an update, after its open slot, if it had one, was spent and before the next is opened: no
--- slot is open, each slot has after its switch word the bytes that it had, each switch word but the open slot's and the
--- next one's stays, the bytes from the second sector up to U stay, and from U on there may be anything.
+-- A flash as it may be left in an update, after its open slot, if it had one, was spent and before the next is opened:
+-- its size stays, no slot is open, each slot has after its switch word the bytes that it had, each switch word but that
+-- of the slot that was open and the next one's stays, the bytes from the second sector up to the update's place stay,
+-- and from there on there may be anything.
 pub record IsBetweenSlots (flash found : List ℕ) : Type 0 where
   pub size : length found ≡ length flash
   pub slots : (i : ℕ) → i < sector_size → switch_size ≤ i % flash_slot_size → get_or found i 0 ≡ get_or flash i 0

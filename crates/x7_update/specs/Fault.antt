@@ -32,7 +32,8 @@ IsGoodSlot flash slot = LeadsToUpdate flash slot × (OpensAgain flash slot → �
 abbrev pub IsBadSlotAt : List ℕ → ℕ → ℕ → Type 0
 IsBadSlotAt flash slot place = DiffersAt flash slot place ⊎ (LeadsToUpdate flash slot × OpensAgain flash slot × (place ≡ flash_slot_size * slot))
 
--- a flash can be updated by its size and its first slot: the slot leads to a place at which an update can stand
+-- the size of a flash and its first slot are as the layout has them: the slot leads to a place at which an update can
+-- stand
 pub record HasGoodBeginning (size : ℕ) (flash : List ℕ) : Type 0 where
   pub sized : IsUpdatableSize size
   pub leads : LeadsToUpdate flash 0
@@ -71,9 +72,9 @@ HasCause stream old new (Failed false) = FlashFails old new × IsUpdatableSize n
 HasCause stream old new TooLong = IfKnown old.bytes (IsTooLong stream)
 -- a flash whose bytes are known can't be updated, as the place shows
 HasCause stream old new (NoLayout place) = IfKnown old.bytes (λ flash. NoLayoutAt (length flash) flash place)
--- The bytes aren't known. A byte that was read at the place, with no write since, is another than the one written
--- there, and the first that is: of the stream and FF after it, or of the switch word, each byte before it was read as
--- it was written, with no write since.
+-- The bytes aren't known. The byte that was read at the place, with no write since, is another than the one written
+-- there. It is the first such byte of its piece, which is the stream and FF after it, or the switch word: each byte of
+-- the piece before that place was read as it was written, with no write since.
 HasCause stream old new (Differs place wrote read) =
     (wrong : IsReadWrong new.extent stream place wrote read) × (old.bytes ≡ None) × IsFirstRead new wrong.from wrong.piece place read
 -- want of memory has no cause

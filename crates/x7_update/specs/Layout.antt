@@ -45,7 +45,8 @@ start_word_offset = 12
 abbrev pub update_place : List ℕ → ℕ
 update_place flash = word_of_bytes (four_at flash start_word_offset)
 
--- the bytes of an open slot that leads to U: the first slot has to have them, and each other one after its switch word
+-- the bytes of an open slot that leads to U; of a flash that can be updated each slot has all but the first four of
+-- them, after its switch word
 abbrev pub first_slot : List ℕ → List ℕ
 first_slot flash = flash_slot open_switch (four_at flash start_word_offset)
 
@@ -73,8 +74,8 @@ IsOpen flash slot = switch_of flash slot ≡ open_switch
 abbrev pub IsFree : List ℕ → ℕ → Type 0
 IsFree flash slot = switch_of flash slot ≡ free_switch
 
--- The first sector of a flash of a size is slots that all lead to one U. At most one of them is open, and the last one
--- is free.
+-- The first sector of a flash of a size is slots that all lead to one U, a place at which an update can stand. At most
+-- one of them is open, and the last one is free.
 pub record HasSlots (size : ℕ) (flash : List ℕ) : Type 0 where
   pub place : CanStandAt size (update_place flash)
   pub leads : (slot : ℕ) → slot < flash_slot_count → LeadsToUpdate flash slot

@@ -7,19 +7,20 @@ use Rattle.x7_update.specs.Fault.{OpensAgain}
 use Rattle.x7_update.specs.declared.slots.Slots.{Slots}
 use Rattle.x7_update.specs.declared.slots.UpdateTarget.{UpdateTarget}
 
--- `first_sector` has the size of a sector, and `wanted` has, after its switch word, the bytes that each slot has to
--- have there
+-- `first_sector` has the size of a sector, and `wanted` is its `first_slot`: the bytes of an open slot that leads to U,
+-- which each slot has to have after its switch word
 pub record HasFirstSlot (first_sector wanted : List ℕ) : Type 0 where
   pub whole : length first_sector ≡ sector_size
   pub is : wanted ≡ first_slot first_sector
 
--- of the first `count` slots the one of this number is open, or none is
+-- of the first `count` slots: for a number, the slot of this number is one of them, and open; for none, no slot among
+-- them is open
 abbrev pub OpenAmong : List ℕ → ℕ → Option ℕ → Type 0
 OpenAmong flash count None = (slot : ℕ) → slot < count → switch_of flash slot ≢ open_switch
 OpenAmong flash count (Some slot) = (slot < count) × IsOpen flash slot
 
--- of the first `count` slots of a flash each leads to U, at most one is open, `open_slot`, and `next` is the first from
--- which on all of them are free, or `count` where the last of them isn't free
+-- of the first `count` slots of a flash each leads to the update's place, at most one is open, `open_slot` or none, and
+-- `next` is the first from which on all of them are free, or `count` where the last of them isn't free
 pub record SlotsAmong (flash : List ℕ) (count : ℕ) (slots : Slots) : Type 0 where
   pub leads : (slot : ℕ) → slot < count → LeadsToUpdate flash slot
   pub once : (slot : ℕ) → slot < count → OpensAgain flash slot → ⊥
@@ -28,8 +29,9 @@ pub record SlotsAmong (flash : List ℕ) (count : ℕ) (slots : Slots) : Type 0 
   pub free : (slot : ℕ) → slots.next ≤ slot → slot < count → IsFree flash slot
   pub first : (slot : ℕ) → suc slot ≡ slots.next → switch_of flash slot ≢ free_switch
 
--- where an update of a flash of this size goes: the first sector is slots as the layout has them, with this U, this
--- open slot or none, and this next one
+-- `target` says where an update goes in a flash of `size` bytes: the size is good, the first sector is slots as the
+-- layout has them, and the target has the update's place that they lead to, the open slot or none, and the next free
+-- one
 pub record IsTargetIn (size : ℕ) (flash : List ℕ) (target : UpdateTarget) : Type 0 where
   pub sized : IsUpdatableSize size
   pub has : HasSlots size flash
@@ -42,7 +44,7 @@ abbrev pub WithinSlots : Option ℕ → Type 0
 WithinSlots None = Unit {0}
 WithinSlots (Some slot) = slot < flash_slot_count
 
--- the update's place and the slots are within a flash of a size
+-- the size is good, an update can stand at the target's place, and the target's slots are of the first sector
 pub record TargetFits (size : ℕ) (target : UpdateTarget) : Type 0 where
   pub sized : IsUpdatableSize size
   pub place : CanStandAt size target.place

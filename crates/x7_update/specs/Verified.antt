@@ -23,12 +23,13 @@ module _ {F : Type 0} (state : F → FlashState) where
     pub place : IfKnown old.bytes (λ all. stream_place ≡ update_place all)
     pub ready : WasReady stream_place stream new
 
-  -- what is found may be the updated flash only where all was verified before
+  -- of a flash that can be updated, what is found may be the updated flash only where all of the update was verified
+  -- before its slot was opened
   abbrev pub OpensVerified : List ℕ → FlashState → FlashState → List ℕ → List ℕ → Type 0
   OpensVerified stream old new flash found = IsUpdatable flash → IsAfterUpdate stream flash found → IsVerified stream old new
 
-  -- An update with a stream that is done was verified, and then the switch word of the slot that it opened: as that of
-  -- an open slot, with no write since.
+  -- A finished update with a stream was verified; after that the switch word of the slot that it opened was read as
+  -- that of an open slot, with no write since.
   pub record AllVerified (stream : List ℕ) (old new : FlashState) : Type 0 where
     pub before : IsVerified stream old new
     pub slot : ℕ

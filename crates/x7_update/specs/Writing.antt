@@ -1,4 +1,4 @@
--- What the steps of an update do to the flash (this project's choice).
+-- What the steps of an update do to the flash, what they verify, and why they fail (this project's choice).
 use Rattle.std.specs.Prelude.{◌≡◌, ◌≢◌, ℕ, ◌+◌, ◌-◌, ◌*◌, ◌%◌, ◌<◌, ◌≤◌, ◌⊎◌, IsTrue, List, length, get_or, Option, Some, None, nat_lt, if◌then◌else◌, true, false}
 use Rattle.x7_words.specs.Flash.{erased_byte, TimeElapses, FlashFails, FlashState, IfKnown, OnlyWrites, WriteFails}
 use Rattle.x7_words.specs.FlashCalls.{FlashModel}
@@ -43,7 +43,7 @@ pub record OnlyUses (old new : FlashState) : Type 0 where
   pub faults : old.faults ≤ new.faults
   pub write_faults : old.write_faults ≤ new.write_faults
 
--- what is found is bytes where the flash's content was
+-- where the flash's content was bytes, so is what is found
 abbrev pub StaysBytes : List ℕ → List ℕ → Type 0
 StaysBytes old found = AreBytes old → AreBytes found
 
@@ -58,7 +58,8 @@ pub record IsWriteStep (old new : FlashState) (past since : ℕ → List ℕ →
 abbrev pub CallWrites : {F : Type 0} → FlashModel F → F → F → (List ℕ → List ℕ → Type 0) → Type 0
 CallWrites f old new Relates = IsWriteStep (f.state old) (f.state new) (f.found_since old) (f.found_since new) Relates
 
--- the switch word of a slot can be written: the flash is attached, and the slot is one of its first sector
+-- the switch word of a slot can be written: the flash is attached, the slot is one of a first sector, and its switch
+-- word is within the flash
 pub record CanSwitch (state : FlashState) (slot : ℕ) : Type 0 where
   pub attached : state.attached ≡ true
   pub among : slot < flash_slot_count
@@ -150,13 +151,13 @@ IsWrong stream_place stream place buffer (NoLayout at) = ⊥
 IsWrong stream_place stream place buffer NoMemory = ⊥
 
 -- A piece that an update with a stream writes in a flash of a size, from one place on up to another: the stream, and FF
--- after it up to the flash's end, from a place on at which the stream can stand and fits; or the switch word of the slot
--- that is opened.
+-- after it up to the flash's end, from a place on at which the stream can stand and fits; or the switch word of the
+-- slot that is opened.
 pub data IsWritten (size : ℕ) (stream piece : List ℕ) (from end : ℕ) : Type 0 where
   in_stream : CanStandAt size from → from + length stream ≤ size → piece ≡ stream → end ≡ size → IsWritten size stream piece from end
   in_switch : (slot : ℕ) → slot < flash_slot_count → from ≡ flash_slot_size * slot → piece ≡ open_switch → end ≡ from + switch_size → IsWritten size stream piece from end
 
--- a byte is another than the one that an update with this stream writes at a place of a flash of a size
+-- a byte is another than the one that an update with this stream writes at a place of a flash of a good size
 pub record IsReadWrong (size : ℕ) (stream : List ℕ) (place wrote read : ℕ) : Type 0 where
   pub sized : IsUpdatableSize size
   pub piece : List ℕ

@@ -1,4 +1,4 @@
-//! Laws of flashes that can be updated, and of updates.
+//! Laws of flashes that can be updated, and of updates. The functions do nothing: their contracts are the laws.
 ghost use Rattle.std.specs.Prelude.{◌≡◌, ◌≢◌, ◌-◌, ◌<◌, ℕ, List, length};
 ghost use Rattle.x7_packets.specs.FlashSlot.{sector_size, flash_slot_count};
 ghost use Rattle.x7_update.specs.After.{IsAfterUpdate, IsBetweenSlots, MayBeLeft};
@@ -16,8 +16,8 @@ pub fn updates_have_one_outcome()
     ensures { (stream flash one other : List ℕ) → IsUpdatable flash → IsAfterUpdate stream flash one → IsAfterUpdate stream flash other → one ≡ other }
 {}
 
-/// In a flash that could be updated, and was left after its open slot was spent and before the next was opened, no sync
-/// word begins in the first sector.
+/// In a flash that could be updated, and was left after its open slot, if it had one, was spent and before the next was
+/// opened, no sync word begins in the first sector.
 pub fn flashes_between_slots_hold_no_sync_word()
     ensures { (flash found : List ℕ) → IsUpdatable flash → IsBetweenSlots flash found
         → (place : ℕ) → place < sector_size → four_at found place ≢ open_switch }

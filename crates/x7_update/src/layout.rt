@@ -33,8 +33,8 @@ pub(crate) fn four_at(first_sector: &[u8], place: usize) -> [u8; 4]
     ]
 }
 
-/// The 32 bytes of a right first slot, by the start address that the first sector has. In a flash that can be
-/// updated every later slot has these bytes after its switch word.
+/// The 32 bytes of an open slot that leads to the start address in the first sector. In a flash that can be updated
+/// each slot has the last 28 of them after its switch word.
 pub(crate) fn first_slot(first_sector: &[u8]) -> [u8; 32]
     requires { start_word_offset + 4 ≤ length first_sector.now }
     ensures { result ≡ first_slot first_sector.now }

@@ -35,7 +35,8 @@ pub(crate) struct UpdateTarget {
     pub(crate) slots: Slots,
 }
 
-/// The first place in the flash, after the switch word of `slot`, at which the slot differs from `wanted`, if it does.
+/// The first place in the flash, in bytes from 0, after the switch word of `slot`, at which the slot differs from
+/// `wanted`, if it does.
 fn slot_difference(first_sector: &[u8], wanted: &[u8; 32], slot: usize) -> Option<u64>
     requires slot { slot < flash_slot_count }
     requires sector { HasFirstSlot first_sector.now wanted.now }
@@ -51,8 +52,8 @@ fn slot_difference(first_sector: &[u8], wanted: &[u8; 32], slot: usize) -> Optio
     None
 }
 
-/// The open slot and the next one among the slots up to and with `slot`, by those among the slots before it; or the
-/// place that shows that `slot` isn't as the layout has it.
+/// The open slot and the next one among the slots up to and with `slot`, by `before`, those among the slots before
+/// `slot`; or the place that shows that `slot` isn't as the layout has it.
 fn look_at_slot(
     first_sector: &[u8],
     wanted: &[u8; 32],
@@ -88,8 +89,8 @@ fn look_at_slot(
     })
 }
 
-/// The open slot and the next one of the first sector, or the place that shows of the first slot that
-/// isn't as the layout has it that it isn't.
+/// The open slot and the next one of the first sector; or, of the first slot that isn't as the layout has it, the place
+/// that shows this.
 fn look_at_slots(first_sector: &[u8], wanted: &[u8; 32]) -> Result<Slots, u64>
     requires { HasFirstSlot first_sector.now wanted.now }
     ensures slots { IfOk result (SlotsAmong first_sector.now flash_slot_count) }
@@ -130,7 +131,8 @@ fn target_of(first_sector: &[u8], size: u64) -> Result<UpdateTarget, u64>
     Ok(UpdateTarget { place, slots })
 }
 
-/// Reads the first sector of a flash into the buffer, and finds where an update goes.
+/// Reads the first sector of a flash into the buffer, and finds where an update goes. A size that is bad (before the
+/// read), a read that failed and a sector that no update can use are refused.
 pub(crate) fn find_target<F: Flash>(
     flash: &mut F,
     buffer: &mut [u8],

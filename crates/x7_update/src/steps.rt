@@ -76,7 +76,7 @@ fn verify_and_open<F: Flash>(
 /// verified, and the next slot is opened.
 ///
 /// Power may be lost at any moment. What is found then is the flash as it was, or a flash without an open slot, whose
-/// golden stream stands, or the updated flash.
+/// golden stream stands, or the updated flash. `HasCause` tells why an update is refused.
 pub fn update<F: Flash>(alloc: Global, flash: &mut F, stream: &[u8]) -> Result<(), UpdateFault>
     requires { (F.state flash.old).attached ≡ true }
     ensures updated { OnOk result (Becomes (F.state flash.old) (F.state flash.new) (IsAfterUpdate stream.now)) }

@@ -22,8 +22,8 @@ fn wanted(stream: &[u8], after: u64) -> u8
     }
 }
 
-/// Compares what was read, from `after` bytes after `from` on, with the piece that was written at `from` and FF after
-/// it; the first byte that differs is the fault.
+/// Compares the buffer, read from the place `from + after` on, with what is wanted there: the piece that was written at
+/// `from`, and FF after it. The fault is the first byte that differs.
 fn compare(buffer: &[u8], after: u64, from: u64, piece: &[u8]) -> Result<(), UpdateFault>
     requires { from + after + length buffer.now < 2 ^ 63 }
     ensures same { OnOk result (ReadsWanted from piece.now (from + after) buffer.now) }
@@ -62,8 +62,8 @@ pub(crate) fn verify_stream<F: Flash>(
     Ok(())
 }
 
-/// Reads a sector of the update, and compares it with the stream and FF after it. The sectors from the stream's place up
-/// to `sector`, which isn't one of them, were verified before.
+/// Reads a sector of the update, and compares it with the stream and FF after it. The sectors from the stream's place
+/// up to `sector`, which isn't one of them, were verified before.
 fn verify_sector<F: Flash>(
     flash: &mut F,
     sector: u64,
@@ -80,10 +80,9 @@ fn verify_sector<F: Flash>(
     ensures only_reads { CallOnlyReads F.Flash flash.old flash.new }
     ensures length { length buffer.new ≡ sector_size }
 {
-    match flash.read_at(sector * SECTOR_SIZE, buffer) {
-        Ok(()) => (),
-        Err(_) => return Err(UpdateFault::Failed { writing: false }),
-    }
+    let Ok(()) = flash.read_at(sector * SECTOR_SIZE, buffer) else {
+        return Err(UpdateFault::Failed { writing: false });
+    };
     compare(
         buffer,
         sector * SECTOR_SIZE - stream_place,
@@ -104,9 +103,8 @@ pub(crate) fn verify_switch<F: Flash>(flash: &mut F, slot: u64) -> Result<(), Up
     ensures only_reads { CallOnlyReads F.Flash flash.old flash.new }
 {
     let mut word = [0; 4];
-    match flash.read_at(FLASH_SLOT_SIZE * slot, &mut word) {
-        Ok(()) => (),
-        Err(_) => return Err(UpdateFault::Failed { writing: false }),
-    }
+    let Ok(()) = flash.read_at(FLASH_SLOT_SIZE * slot, &mut word) else {
+        return Err(UpdateFault::Failed { writing: false });
+    };
     compare(&word, 0, FLASH_SLOT_SIZE * slot, &OPEN_SWITCH)
 }

@@ -100,11 +100,11 @@ replaced_back place piece all within = ext_get_or 0 (replaced place old now) all
 pub length_cleared : (place : ℕ) (given all : List ℕ) → place + length given ≤ length all → length (cleared place given all) ≡ length given
 length_cleared place given all within = length_zip_with bit_and (slice_range all place (place + length given)) given (length_slice_range all place (length given) within)
 
--- before a write its bytes are there
+-- the old bytes may be found within a write
 pub old_is_torn : (place : ℕ) (target old : List ℕ) → IsTorn place target old old
 old_is_torn place target old = record { size = refl; outside = λ i h. refl; inside = λ i bit h. inl refl }
 
--- after a write that was done its target is there
+-- the bytes with the target in its range may be found within a write
 pub target_is_torn : (place : ℕ) (target old : List ℕ) → place + length target ≤ length old → IsTorn place target old (replaced place target old)
 target_is_torn place target old within = record {
   size = length_replaced place target old within;
@@ -114,13 +114,13 @@ target_is_torn place target old within = record {
 
 -- ---- bytes
 
--- one of a list of bytes
+-- a number of a list of bytes, or the 0 past its end, is a byte
 pub byte_at : (bytes : List ℕ) (i : ℕ) → AreBytes bytes → get_or bytes i 0 < 256
 byte_at [] i h = omega arith
 byte_at (b ∷ bytes) zero h = h.0
 byte_at (b ∷ bytes) (suc i) h = byte_at bytes i h.1
 
--- a number with no bit above the eighth
+-- a number whose bits from bit 8 up are 0 is a byte
 pub byte_of_bits : (n : ℕ) → ((bit : ℕ) → 8 ≤ bit → bit_at n bit ≡ 0) → n < 256
 byte_of_bits n none = let masked = same_from_bits n (bit_and n (2 ^ 8 - 1)) each in omega (arith, masked, and_mask n 8)
   where

@@ -37,9 +37,9 @@ takes_as a b bytes same e t = rw e t
 pub takes_none : (s : InputsState) → s.selected ≡ true → TakesInput s [] s
 takes_none s e = record { selected = e; taken = sym (preceded_nil s.rest); given = omega arith; selects = refl }
 
--- ---- how often inputs are asked for, and their ends read
+-- ---- how often inputs are asked for, and how often a read gives nothing
 
--- where nothing happened, none was
+-- where nothing happened, no input was asked for
 pub few_at : (s : InputsState) → AsksAtMost s 0 s
 few_at s = record { selects = omega arith; ends = omega arith }
 
@@ -47,7 +47,7 @@ few_at s = record { selects = omega arith; ends = omega arith }
 pub few_once : (old new : InputsState) → AsksOnce old new → AsksAtMost old 1 new
 few_once old new o = record { selects = o.selects; ends = omega (arith, o.ends) }
 
--- an input that was asked for once, and then read on, but not to its end
+-- an input that was asked for once, and then read with no read that gave nothing
 pub once_on : (old mid new : InputsState) → AsksOnce old mid → new.selects ≡ mid.selects → new.ends ≤ mid.ends → AsksOnce old new
 once_on old mid new o s e = record { selects = omega (arith, o.selects, s); ends = omega (arith, o.ends, e) }
 
@@ -55,6 +55,6 @@ once_on old mid new o s e = record { selects = omega (arith, o.selects, s); ends
 pub few_on : (old mid new : InputsState) (before after : ℕ) → AsksAtMost old before mid → AsksAtMost mid after new → AsksAtMost old (before + after) new
 few_on old mid new before after a b = record { selects = omega (arith, a.selects, b.selects); ends = omega (arith, a.ends, b.ends) }
 
--- as many as more
+-- what a count bounds, a larger one bounds
 pub few_more : (old new : InputsState) (few more : ℕ) → few ≤ more → AsksAtMost old few new → AsksAtMost old more new
 few_more old new few more h a = record { selects = omega (arith, h, a.selects); ends = omega (arith, h, a.ends) }

@@ -1,3 +1,4 @@
+pub mod CaseLemmas
 pub mod CountLemmas
 pub mod FlashLemmas
 pub mod InputLemmas

@@ -1,14 +1,12 @@
 -- Lemmas on lists that several crates cite: common prefixes and ends, and a list with one element more at its end.
-use Rattle.std.proofs.Common.{◌≡◌, ℕ, suc, ◌<◌, ◌≤◌, List, [], ◌∷◌, ◌++◌, ◌⊎◌, inl, inr, length, map, refl, ap, sym, ◌∙◌, append_assoc, append-nil, arith, length-append, get_or, take, drop, take-append-drop, ◌+◌, ◌-◌, take-add}
+use Rattle.std.proofs.Common.{◌≡◌, ℕ, suc, ◌<◌, ◌≤◌, List, [], ◌∷◌, ◌++◌, ◌⊎◌, inl, inr, length, refl, ap, sym, ◌∙◌, append_assoc, append-nil, arith, length-append, get_or, take, drop, take-append-drop, ◌+◌, ◌-◌, take-add, bytes_eq, true, ◌*◌, drop-drop, mul-suc, zero}
 use Rattle.std.specs.List.{flat_map, AllByRecursion}
+use Rattle.std.specs.Simd.{first_chunks}
+use Rattle.std.proofs.lemmas.Slice.Eq.{bytes_eq-Decides}
 
 pub flat_map_last : {X Y : Type 0} → (f : X → List Y) (xs : List X) (x : X) → flat_map f (xs ++ x ∷ []) ≡ flat_map f xs ++ f x
 flat_map_last f [] x = append-nil (f x)
 flat_map_last f (y ∷ ys) x = ap (λ t. f y ++ t) (flat_map_last f ys x) ∙ sym (append_assoc (f y) (flat_map f ys) (f x))
-
-pub map_append : {X Y : Type 0} → (f : X → Y) (xs ys : List X) → map f (xs ++ ys) ≡ map f xs ++ map f ys
-map_append f [] ys = refl
-map_append f (x ∷ xs) ys = ap (λ t. f x ∷ t) (map_append f xs ys)
 
 -- two lists that end in as many elements end in the same
 pub same_end : (xs ys cs ds : List ℕ) → length cs ≡ length ds → xs ++ cs ≡ ys ++ ds → cs ≡ ds
@@ -27,7 +25,7 @@ same_prefix (x ∷ xs) (y ∷ ys) cs ds l e =
     let tail : xs ++ cs ≡ ys ++ ds = cc in
     let rest : xs ≡ ys = same_prefix xs ys cs ds (omega (arith, l)) tail in cc
 
-cons_prefix : (x y : ℕ) (xs ys m : List ℕ) → x ≡ y → ys ≡ xs ++ m → y ∷ ys ≡ x ∷ (xs ++ m)
+pub cons_prefix : (x y : ℕ) (xs ys m : List ℕ) → x ≡ y → ys ≡ xs ++ m → y ∷ ys ≡ x ∷ (xs ++ m)
 cons_prefix x y xs ys m h t = cc
 
 -- the shorter of two prefixes begins the longer
@@ -40,7 +38,7 @@ shorter_prefix (x ∷ xs) (y ∷ ys) cs ds h e =
     let r : (m : List ℕ) × (ys ≡ xs ++ m) = shorter_prefix xs ys cs ds (omega arith) tail in
     (r.0, cons_prefix x y xs ys r.0 head r.1)
 
--- xs is a prefix of ys, after which cs goes on as ds does after ys
+-- xs is a prefix of ys, and cs is what ys has after it, and then ds
 pub record IsFront (xs ys cs ds : List ℕ) : Type 0 where
   pub more : List ℕ
   pub prefix : ys ≡ xs ++ more
@@ -87,6 +85,19 @@ all_take P n xs a = all_prefix P (take n xs) (drop n xs) (rw take-append-drop a)
 pub take_up_to : {X : Type 0} → (xs : List X) (from to : ℕ) → from ≤ to → take from xs ++ take (to - from) (drop from xs) ≡ take to xs
 take_up_to xs from to h = let sum : from + (to - from) ≡ to = omega arith in sym (take-add from (to - from) xs) ∙ ap (λ (k : ℕ). take k xs) sum
 
--- elements and others of which so many are taken
+-- a prefix and the first n of xs, and then the others of xs
 pub taken_and_left : {X : Type 0} → (prefix xs : List X) (n : ℕ) → (prefix ++ take n xs) ++ drop n xs ≡ prefix ++ xs
 taken_and_left prefix xs n = append_assoc prefix (take n xs) (drop n xs) ∙ ap (λ t. prefix ++ t) (take-append-drop n xs)
+
+-- bytes that the test says are equal
+pub same_by_test : (xs ys : List ℕ) → bytes_eq xs ys ≡ true → xs ≡ ys
+same_by_test xs ys e = (bytes_eq-Decides xs ys).0 e
+
+pub same_as_itself : (xs : List ℕ) → bytes_eq xs xs ≡ true
+same_as_itself xs = (bytes_eq-Decides xs xs).1 refl
+
+pub chunk_at : (n m k : ℕ) (xs d : List ℕ) → k < m → get_or (first_chunks n m xs) k d ≡ take n (drop (n * k) xs)
+chunk_at n zero k xs d h = absurd (omega (arith, h))
+chunk_at n (suc m) zero xs d h = ap (λ (j : ℕ). take n (drop j xs)) (let e : 0 ≡ n * 0 = omega arith in e)
+chunk_at n (suc m) (suc k) xs d h =
+    chunk_at n m k (drop n xs) d (omega (arith, h)) ∙ ap (take n) (drop-drop (n * k) n xs ∙ ap (λ (j : ℕ). drop j xs) (let m : n * suc k ≡ n * k + n = mul-suc n k in let e : n + n * k ≡ n * suc k = omega (arith, m) in e))

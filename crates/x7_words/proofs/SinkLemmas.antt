@@ -45,3 +45,7 @@ counts_on a b c p q = record { faults = omega (arith, p.faults, q.faults); fits 
 
 pub counts_at : (s : SinkState) → SinkFaultsNeverFall s s
 counts_at s = record { faults = omega arith; fits = λ h. h }
+
+-- where a text was written in part, one that it begins was
+pub begins_more : (first now : Option (List ℕ)) (line more : List ℕ) → PutsPrefix first line now → PutsPrefix first (line ++ more) now
+begins_more first now line more p = (p.0, (p.1.0 ++ more, ap (λ t. t ++ more) p.1.1 ∙ append_assoc p.0 p.1.0 more, p.1.2))

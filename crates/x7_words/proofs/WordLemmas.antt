@@ -122,3 +122,6 @@ map_take_more groups i d w h e = ap (map word_of_bytes) (take_more groups i d h)
 
 pub words_of_bytes_all : (bs : List ℕ) (groups : List (List ℕ)) (k i : ℕ) → groups ≡ first_chunks 4 k bs → length bs ≡ 4 * k → length groups ≤ i → map word_of_bytes (take i groups) ≡ words_of_bytes bs
 words_of_bytes_all bs groups k i e f h = ap (map word_of_bytes) (take_all i groups h ∙ e) ∙ sym (words_by_chunks k bs (omega (arith, f)))
+
+pub word_bytes : (w : ℕ) → AreBytes (bytes_of_word w)
+word_bytes w = (omega arith, (omega arith, (omega arith, (omega arith, tt))))

@@ -83,6 +83,6 @@ number_of_digit byte =
     else if is_lower_digit byte then Some (byte - 87)
     else None
 
--- the number that a hexadecimal digit of either case stands for; nothing is meant by that of any other byte
+-- the number that a hexadecimal digit of either case stands for; of any other byte the number has no meaning
 abbrev pub digit_number : ℕ → ℕ
 digit_number byte = if nat_le byte 57 then byte - 48 else (if nat_le byte 70 then byte - 55 else byte - 87)

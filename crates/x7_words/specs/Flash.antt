@@ -68,8 +68,8 @@ KnownAreBytes state = IfKnown state.bytes AreBytes
 abbrev pub SeesBytes : FlashState → ℕ → List ℕ → Type 0
 SeesBytes state place read = (i : ℕ) → i < length read → IsTrue (state.seen (place + i) (get_or read i 0))
 
--- No time passed and nothing was written: after a power loss since any moment the same bytes may be found after a call
--- as before it.
+-- No time passed, nothing was written and no write failed: after a power loss since any moment the same bytes may be
+-- found after a call as before it.
 pub record WritesNothing (old new : FlashState) (found_before found_after : ℕ → List ℕ → Type 0) : Type 0 where
   pub write_faults : new.write_faults ≡ old.write_faults
   pub moments : new.moments ≡ old.moments
@@ -143,8 +143,8 @@ cleared place given bytes = zip_with bit_and (slice_range bytes place (place + l
 abbrev pub programmed : ℕ → List ℕ → List ℕ → List ℕ
 programmed place given bytes = replaced place (cleared place given bytes) bytes
 
--- What may be found within a write of the target at the place: each bit of its range is old or its target, and all else
--- is old. So bytes stay bytes, where the target is of bytes.
+-- What may be found within a write of the target at the place: each bit of the write's range is the old one or the
+-- target's, and all else is old. So bytes stay bytes, where the target is of bytes.
 pub record IsTorn (place : ℕ) (target old found : List ℕ) : Type 0 where
   pub size : length found ≡ length old
   pub outside : (i : ℕ) → (i < place) ⊎ (place + length target ≤ i) → get_or found i 0 ≡ get_or old i 0
@@ -161,8 +161,8 @@ TornFrom place target (Some old) new = (now : List ℕ) × (new ≡ Some now) ×
 abbrev pub WithinWrite : ℕ → (List ℕ → List ℕ) → Option (List ℕ) → List ℕ → Type 0
 WithinWrite place target known found = IfKnown known (λ old. IsTorn place (target old) old found)
 
--- Time went on over a write, from moment `before` to moment `now`: what may be found after a power loss since a moment
--- up to `before` is what might have been found before the write, or what may be found within it.
+-- Time went on over a write, from moment `before` to moment `now`: after a power loss since a moment up to `before`,
+-- what might have been found before the write may still be found, and else only what may be found within it.
 pub record TimeElapses (before now : ℕ) (found_before found_after : ℕ → List ℕ → Type 0) (within : List ℕ → Type 0) : Type 0 where
   pub later : before ≤ now
   pub nothing_else : (moment : ℕ) (found : List ℕ) → moment ≤ before → found_after moment found → found_before moment found ⊎ within found

@@ -12,7 +12,8 @@ FlashModel F = Ghosts F
 abbrev pub CallOnlyReads : {F : Type 0} → FlashModel F → F → F → Type 0
 CallOnlyReads f old new = OnlyReads (f.state old) (f.state new) (f.found_since old) (f.found_since new)
 
--- the call wrote nothing: after a power loss since any moment the same bytes may be found after the call as before it
+-- the call wrote nothing, no write failed and no time passed: after a power loss since any moment the same bytes may be
+-- found after the call as before it
 abbrev pub CallWritesNothing : {F : Type 0} → FlashModel F → F → F → Type 0
 CallWritesNothing f old new = WritesNothing (f.state old) (f.state new) (f.found_since old) (f.found_since new)
 

@@ -23,7 +23,7 @@ pub record InputsState : Type 0 where
   pub selects : ℕ
   -- how often a read gave nothing, by a count that may stop at the last u64
   pub ends : ℕ
-  -- how many bytes were given since the last select, by a count that may stop at the last u64; a fault leaves it
+  -- how many bytes were given since the last select, by a count that may stop at the last u64; a fault doesn't raise it
   pub given : ℕ
   -- how often a select or a read has failed
   pub faults : ℕ
@@ -78,31 +78,32 @@ pub record AsksForName (name : List ℕ) (new : InputsState) : Type 0 where
   pub asked : IfSome new.asked (λ kept. kept ≡ name)
   pub given : new.given ≡ 0
 
--- no input was asked for, and at most one end of an input was read
+-- no input was asked for, and at most one more read gave nothing
 pub record AsksForNoInput (old new : InputsState) : Type 0 where
   pub asked : new.asked ≡ old.asked
   pub selects : new.selects ≡ old.selects
   pub ends : new.ends ≤ old.ends + 1
 
--- at most one input was asked for, and no end of an input was read
+-- at most one input was asked for, and no more reads gave nothing
 pub record AsksOnce (old new : InputsState) : Type 0 where
   pub selects : new.selects ≤ old.selects + 1
   pub ends : new.ends ≤ old.ends
 
--- at most this many inputs were asked for, and at most as many ends of inputs were read
+-- at most this many inputs were asked for, and at most as many more reads gave nothing
 pub record AsksAtMost (old : InputsState) (count : ℕ) (new : InputsState) : Type 0 where
   pub selects : new.selects ≤ old.selects + count
   pub ends : new.ends ≤ old.ends + count
 
--- the bytes were taken from the selected input and are counted as given; the input stays selected and was not asked
--- for again
+-- the bytes were taken from the selected input, and at most as many are counted as given; the input stays selected and
+-- was not asked for again
 pub record TakesInput (old : InputsState) (bytes : List ℕ) (new : InputsState) : Type 0 where
   pub selected : new.selected ≡ true
   pub taken : old.rest ≡ preceded bytes new.rest
   pub given : new.given ≤ old.given + length bytes
   pub selects : new.selects ≡ old.selects
 
--- a read failed: the count of faults has risen, no input is selected, and neither a byte nor an end was counted
+-- a read failed: the count of faults has risen, no input is selected, and the counts of bytes given and of reads that
+-- gave nothing have not risen
 pub record ReadFails (old new : InputsState) : Type 0 where
   pub faults : InputsFail old new
   pub selected : new.selected ≡ false

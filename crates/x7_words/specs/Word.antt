@@ -1,4 +1,4 @@
--- Words of 32 bits, the bytes that they are read from, and their bit fields (UG470, configuration details).
+-- Words of 32 bits, the bytes that they are read from, and their bit fields (UG470, bitstream loading).
 use Rattle.std.specs.Prelude.{◌≡◌, ℕ, ◌+◌, ◌*◌, ◌/◌, ◌%◌, ◌^◌, ◌<◌, Bool, false, true, List, [], ◌∷◌, length}
 use Rattle.std.specs.List.{AllByRecursion}
 

@@ -1,4 +1,4 @@
-//! Two texts compared byte by byte, and what holds of all bytes.
+//! Two texts compared byte by byte, and that bytes are below 256.
 ghost use Rattle.std.specs.Prelude.{◌≡◌, ◌↔◌, IsTrue};
 ghost use Rattle.x7_words.specs.Word.{AreBytes};
 
@@ -10,7 +10,7 @@ pub fn is_same(a: &[u8], b: &[u8]) -> bool
     a == b
 }
 
-/// Each element of a slice of bytes is a byte. The call has no effect: it gives a proof this fact.
+/// Each number of a slice of bytes is below 256. The call has no effect: it gives a proof this fact.
 #[inline(always)]
 pub fn are_bytes(bytes: &[u8])
     ensures { AreBytes bytes.now }

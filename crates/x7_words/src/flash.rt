@@ -4,7 +4,7 @@ ghost use Rattle.x7_words.specs.Flash.{FlashIsAskedFor, TimeElapses, FlashFails,
 
 use crate::input::{Failed, SelectFault};
 
-/// How many bytes a sector has, which one erase sets to FF.
+/// How many bytes a sector has, which one erase sets to FF (this project's choice).
 pub const SECTOR_SIZE: u64 = 65_536;
 
 /// What an erase sets each byte to.
@@ -15,21 +15,24 @@ pub const FLASH_LIMIT: u64 = 134_217_728;
 
 /// A flash: bytes at places from 0, which are read, erased and programmed once it is attached under its name.
 ///
-/// A power loss may stop a flash at any moment. Outside a write the flash's bytes are found then; within one each bit
-/// of the write's range is old or its target. A write takes one moment at most.
+/// A moment is the number of a time in the flash's life, which never falls; a write takes one moment at most. A power
+/// loss may stop a flash at any moment. Outside a write the flash's bytes are found then; within one each bit of the
+/// write's range is old or its target.
 ///
-/// What was read stays seen until the next write; no clause says that anything is seen after one.
+/// What was read is seen, and stays so over further reads; no clause says that anything is seen after an attach or a
+/// write.
 ///
-/// The counts never fall, and rise by at least one at each fault or absence. A count that has reached the
-/// last u64 stays there, and counts as risen.
+/// The counts of faults, of absences and of write faults never fall. Each rises by at least one where its fault or
+/// absence comes. A count that has reached the last u64 stays there, and counts as risen.
 pub trait Flash {
     /// What the flash has come to.
     ghost state: { Self → FlashState };
 
-    /// Whether bytes may be found after a power loss at some moment from the given one on.
+    /// Whether bytes may be found after a power loss at some moment from the given one up to the present one.
     ghost found_since: { Self → ℕ → List ℕ → Type 0 };
 
-    /// Attaches the flash of this name. After an error none is attached.
+    /// Attaches the flash of this name. After an error none is attached, and the count of absences (`Missing`) or of
+    /// faults (`Failed`) has risen.
     fn attach(&mut self, name: &str) -> Result<(), SelectFault>
         ensures attached { OnOk result ((state self.new).attached ≡ true) }
         ensures refused { IfErr result (FlashRefuses (state self.old) (state self.new)) }

@@ -35,14 +35,15 @@ pub enum SelectFault {
 
 /// Inputs of bytes by name, of which one is selected at a time and read from its first byte on.
 ///
-/// The counts of faults and absences never fall, and rise by at least one at each fault or absence. A count that has
-/// reached the last u64 stays there, and counts as risen.
+/// The counts of faults and of absences never fall. That of faults rises by at least one at each fault, and that of
+/// absences at each name that is missing, save where the names are known and lack it. A count that has reached the last
+/// u64 stays there, and counts as risen.
 pub trait Inputs {
     /// What the inputs have come to.
     ghost state: { Self → InputsState };
 
     /// Begins the input of this name, at its first byte, also where it was selected before.
-    /// After an error no input is selected.
+    /// After an error no input is selected; `InputsRefuse` says what caused it.
     fn select(&mut self, name: &str) -> Result<(), SelectFault>
         ensures opened { OnOk result (OpensInput (state self.old) name.now (state self.new)) }
         ensures refused { IfErr result (InputsRefuse (state self.old) name.now (state self.new)) }

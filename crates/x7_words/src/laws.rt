@@ -1,4 +1,4 @@
-//! Laws of the definitions.
+//! The law of words. The function does nothing: its contract is the law.
 ghost use Rattle.byteorder.specs.Endian.{big_bytes, big_number};
 ghost use Rattle.std.specs.Prelude.{◌≡◌, ◌≤◌, ℕ, List, length};
 ghost use Rattle.x7_words.specs.Word.{bytes_of_word, word_of_bytes};

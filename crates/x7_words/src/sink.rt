@@ -25,7 +25,7 @@ pub trait Sink {
 }
 
 /// Writes all of the text, in as many writes as the sink takes.
-/// After an error a prefix of the text was written.
+/// After an error a prefix of the text was written, and the sink's count of faults has risen.
 pub fn write_all<S: Sink>(sink: &mut S, text: &[u8]) -> Result<(), Failed>
     ensures appends { OnOk result (PutsAll (S.state sink.old) text.now (S.state sink.new)) }
     ensures prefix { PutsSome (S.state sink.old) text.now (S.state sink.new) }
@@ -40,7 +40,7 @@ pub fn write_all<S: Sink>(sink: &mut S, text: &[u8]) -> Result<(), Failed>
 }
 
 /// Writes the pieces, each whole, one after the other.
-/// After an error a prefix of the joined pieces was written.
+/// After an error a prefix of the joined pieces was written, and the sink's count of faults has risen.
 pub fn write_pieces<S: Sink>(sink: &mut S, pieces: &[&[u8]]) -> Result<(), Failed>
     ensures appends { OnOk result (PutsAll (S.state sink.old) (flat_map (λ p. p.now) pieces.now) (S.state sink.new)) }
     ensures prefix { PutsSome (S.state sink.old) (flat_map (λ p. p.now) pieces.now) (S.state sink.new) }

@@ -1,4 +1,4 @@
-//! Big-endian words (UG470, configuration data file formats).
+//! Big-endian words (UG470, bitstream loading).
 ghost use Rattle.std.specs.Prelude.{◌≡◌};
 ghost use Rattle.x7_words.specs.Word.{bytes_of_word, word_of_bytes};
 

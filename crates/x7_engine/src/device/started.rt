@@ -15,14 +15,16 @@ use crate::read_buffer::ReadBuf;
 use crate::until_started::UntilStarted;
 use x7_startup::{LAST_PHASE, TICK_SIZE};
 
-/// The least number of bytes more after which the last phase may have come, of a device in this phase.
+/// The least number of bytes more after which the last phase may have come, of a device in this phase; 1 in the last
+/// phase itself.
 fn soonest_end(phase: u8) -> usize
     ensures { result ≡ soonest_end phase }
 {
     TICK_SIZE as usize * usize::from((LAST_PHASE - 1).saturating_sub(phase)) + 1
 }
 
-/// What is answered where a piece is used up, or a stop has come, at place `at` of the piece.
+/// What is answered where a piece is used up, or a stop has come, at place `at` of the piece: where startup has ended,
+/// that, and else what a feed answers.
 fn answer(started: bool, at: usize, fed: Fed) -> UntilStarted
     ensures { result ≡ (if started then until.Started at else until.Fed fed) }
 {
@@ -34,8 +36,9 @@ fn answer(started: bool, at: usize, fed: Fed) -> UntilStarted
 }
 
 impl Device {
-    /// Where the next turn of a piece of `length` bytes ends at the latest, so that startup ends at the turn's last
-    /// byte at the soonest, or begins there.
+    /// Where the next turn of a piece of `length` bytes, from place `at` on, ends at the latest: where startup has
+    /// begun, at the first byte at which it may end, and else at the piece's end, since a turn in which startup begins
+    /// ends there by itself.
     fn turn_end(&self, at: usize, length: usize) -> usize
         requires { at ≤ length }
         ensures within { result ≤ length }
@@ -63,8 +66,8 @@ impl Device {
         false
     }
 
-    /// Takes the bytes of a piece as `feed` does, and none after the byte at which startup ends: the least at which the
-    /// phase is 7.
+    /// Takes the bytes of a piece as `feed` does, and none after the byte at which startup ends, the first at which the
+    /// phase is 7; none at all where startup has ended already.
     pub fn feed_until_started(&mut self, piece: &[u8], read: &mut ReadBuf) -> UntilStarted
         requires { CanBeGiven self.old (length piece.now) }
         ensures takes { TakesFirst self.old self.new piece.now (taken_until (length piece.now) result) }
@@ -100,7 +103,7 @@ impl Device {
     }
 
     /// Takes the bytes of a piece as `feed` does, where words read out are dropped, and none after the byte at which
-    /// startup begins. Says how many these are.
+    /// startup begins; none at all where startup has begun already. Says how many bytes were taken.
     pub fn feed_until_begun(&mut self, piece: &[u8]) -> usize
         requires { CanBeGiven self.old (length piece.now) }
         ensures takes { TakesFirst self.old self.new piece.now result }

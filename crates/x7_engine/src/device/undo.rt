@@ -20,10 +20,11 @@ use x7_part::Part;
 use x7_pipeline::Saved;
 use x7_words::NoMemory;
 
-/// How many bytes can be taken back at most.
+/// How many bytes can be taken back at most (this project's choice).
 pub const UNDO_REACH: u64 = 4;
 
-/// A device as it stood, saved so that the bytes that it takes next, up to four, can be taken back.
+/// A device as it stood, saved so that the bytes that it takes next, up to four, can be taken back (this project's
+/// choice).
 #[derive(Drop)]
 pub struct Undo {
     cutter: Cutter,
@@ -42,8 +43,8 @@ impl Model for Undo {
 }
 
 impl Undo {
-    /// Takes room for what is saved of a device of this part. What is saved at first is a new device,
-    /// and no frame. No other call takes memory.
+    /// Takes room for what is saved of a device of this part; no later call takes memory. What is saved at first is a
+    /// new device, and no frame.
     pub fn new(alloc: Global, part: &Part) -> Result<Undo, NoMemory>
         ensures device { IfOk result (λ u. DeviceStandsFor part.now on_the_bench false (device_saved part.now u) []) }
         ensures no_frame { IfOk result (λ u. u.frames.pair ≡ []) }
@@ -59,7 +60,7 @@ impl Undo {
         })
     }
 
-    /// How many bytes the device had taken.
+    /// How many bytes the saved device had taken since its reset.
     pub fn taken(&self) -> u64
         ensures { result ≡ self.now.taken }
     {
@@ -68,7 +69,8 @@ impl Undo {
 }
 
 impl Device {
-    /// How many bytes were ever fed to the device, counted up to the last number of 64 bits.
+    /// How many bytes the device ever took, counted up to the last number of 64 bits; a reset and an undo leave the
+    /// count.
     pub fn fed(&self) -> u64
         ensures { result ≡ fed_of self.now }
     {
@@ -88,7 +90,8 @@ impl Device {
         undo.taken = self.taken;
     }
 
-    /// Saves the device, and takes up to four bytes as `feed` does. Words read out are dropped.
+    /// Saves the device in `undo`, and takes the bytes of a piece, up to four, as `feed` does. Words read out are
+    /// dropped.
     pub fn feed_word(&mut self, piece: &[u8], undo: &mut Undo) -> Fed
         requires within_reach { length piece.now ≤ undo_reach }
         requires fits { CanBeGiven self.old (length piece.now) }
@@ -116,8 +119,8 @@ impl Device {
         let _taken = self.taken;
     }
 
-    /// Makes the device the one to which what is saved leads back: that of before `feed_word`, or of before it and
-    /// later calls of `feed` with four bytes at most in all.
+    /// Makes the device the one that `undo` saved, but for its count `fed`. The device is to have been saved with no
+    /// word due, and to have taken four bytes at most since then, by `feed_word` and later feeds.
     pub fn undo(&mut self, undo: &Undo)
         requires undo { IsUndoOf self.old.part undo.now }
         requires back { TookFewSince undo.now self.old }

@@ -12,7 +12,7 @@ use std::marker::Model;
 use std::rt::Files;
 use x7_words::{ERASED_BYTE, Failed, Flash, SECTOR_SIZE, SelectFault, raised};
 
-/// The number of a file's bytes: where its end is. A folder is no file.
+/// The number of a file's bytes, which is the place of its end; an error for a folder.
 fn extent_of<F: OpenFile + Seek>(file: &mut F) -> io::Result<u64>
     ensures { IfOk result (λ extent. EndsAt (file_tells F.stream_position F.stream_bytes) extent file.old file.new) }
 {
@@ -39,7 +39,7 @@ fn read_from<F: Read + Seek>(file: &mut F, place: u64, buf: &mut [u8]) -> io::Re
     file.read_exact(buf)
 }
 
-/// How many bytes programming a flash reads and writes at once.
+/// The most bytes that programming a flash reads and writes at once.
 const PIECE_SIZE: usize = 4096;
 
 /// The options that a flash file is opened with where it may be written.
@@ -134,7 +134,8 @@ fn program_from<F: Read + Write + Seek + OpenFile>(
 ///
 /// The file is opened for writing too, where that is allowed; where it isn't, each erase and each program is a fault.
 ///
-/// `Missing` is a path where no file is. A folder, missing rights and every other error is a fault.
+/// `Missing` is a path where no file is. A folder, missing rights to read and every other error is a fault. Each count
+/// stops at 2^64 - 1.
 #[derive(Drop)]
 pub struct FileFlash<'r, R: Files> {
     rt: &'r R,
@@ -171,7 +172,7 @@ impl<'r, R: Files> Model for FileFlash<'r, R> {
 }
 
 impl<'r, R: Files> FileFlash<'r, R> {
-    /// The files of the runtime, of which none is attached.
+    /// A flash over the files of the runtime, with none attached yet, and no fault or absence counted.
     pub fn new(rt: &'r R) -> FileFlash<'r, R>
         ensures { result ≡ record { file = None; refusal = None; extent = 0; faults = 0; absences = 0; write_faults = 0 } }
     {

@@ -19,7 +19,7 @@ impl Frames {
         self.pipeline.save(part, &self.memory, into);
     }
 
-    /// Makes the frames those to which the saved ones lead back.
+    /// Makes the frames the old ones, where what was saved leads back from the present frames to them.
     pub fn restore(&mut self, part: &Part, from: &Saved)
         requires part { FramesFit part.now self.old }
         requires saved { IsSavedOf part.now from.now }

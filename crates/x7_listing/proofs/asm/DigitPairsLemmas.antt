@@ -15,7 +15,7 @@ left_over [] bs rest a e = (bs, a, e)
 left_over (d ∷ ds) [] rest a e = absurd cc
 left_over (d ∷ ds) (b ∷ bs) rest a e = let tails : flat_map hex_byte ds ++ rest ≡ flat_map hex_byte bs = cc in left_over ds bs rest a.1 tails
 
--- an even number of digits at the prefix is digits of bytes
+-- the first digits of bytes, an even number of them, are the digits of the first bytes
 prefix_of : (k : ℕ) (row more tail : List ℕ) → length row ≡ 2 * k → AreBytes tail → row ++ more ≡ flat_map hex_byte tail → (prefix : List ℕ) × AreBytes prefix × (row ≡ flat_map hex_byte prefix) × (length prefix ≡ k)
 prefix_of zero [] more tail h a e = ([], tt, refl, refl)
 prefix_of zero (r ∷ row) more tail h a e = absurd (omega (arith, h))

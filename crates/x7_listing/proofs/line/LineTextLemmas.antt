@@ -88,7 +88,7 @@ line_free (Data ws) h k = words_free ws
 line_free (Cmd c) h k = command_free c
 line_free Check h k = absurd k
 
--- the bytes of lines that are no check
+-- the bytes of a line that is neither a comment nor the check are the same whatever check the lines before have
 pub same_bytes : (c : ℕ) (l : Line) → IsNeitherCommentNorCheck l → line_bytes c l ≡ line_bytes 0 l
 same_bytes c Empty h = refl
 same_bytes c (Comment text) h = refl
@@ -108,7 +108,7 @@ same_bytes c Check h = absurd h
 abbrev pub Listed : Line → Type 0
 Listed l = FitsLine l × IsNeitherCommentNorCheck l
 
--- the line of a word in a header's place stands for the word
+-- a line of a listing stands for just this word's bytes
 abbrev pub IsLineOf : ℕ → Line → Type 0
 IsLineOf w l = (line_bytes 0 l ≡ bytes_of_word w) × Listed l
 
@@ -168,7 +168,7 @@ best_is_one w =
 pub head_is_one : (s : Step) (w : ℕ) → IsWordLine (line_of_head s w)
 head_is_one s w = by_step IsWordLine s w tt (best_is_one w)
 
--- it is a line of a listing, and stands for just this word
+-- a line of a listing has this word as the word that it stands for
 abbrev pub IsLineOfWord : ℕ → Line → Type 0
 IsLineOfWord w l = (word_of_line l ≡ w) × Listed l
 

@@ -2,7 +2,7 @@
 use Rattle.std.proofs.Common.{◌≡◌, ℕ, ◌+◌, ◌-◌, ◌<◌, ◌≤◌, Bool, true, false, List, [], ◌++◌, length, take, drop, take-add, take_all, length-take-le, length-drop, length-append, refl, ap, sym, subst, ◌∙◌, append_assoc, append-nil, arith, codes, Vec}
 use Rattle.std.specs.declared.alloc.Global.{Global}
 use Rattle.x7_packets.specs.Reading.{Place, Searching, EndedSession, IsReading, tail_of}
-use Rattle.x7_packets.specs.Cutter.{between, CutterState, CutterStandsFor, ComesNearer, IsRun, syncs_to_give, AfterRun}
+use Rattle.x7_packets.specs.Cutter.{between, CutterState, CutterStandsFor, ComesNearer, IsRun, AfterRun}
 use Rattle.x7_packets.specs.Mode.{Mode}
 use Rattle.x7_packets.specs.declared.cutter.Cut.{Cut}
 use Rattle.x7_packets.specs.declared.cutter.Cut.TheVariants.{Need, Skip, Sync, Head, Word, Body}
@@ -102,7 +102,7 @@ begins c synced line held text given before s e f g t d =
       ready = d;
     }
 
--- a new cutter has no sync word to tell
+-- a cutter that took no byte has no sync word to give
 pub not_sync_found : (c : CutterState) → CutterStandsFor c [] [] (Searching []) → c.mode ≡ Mode.SyncFound → ⊥
 not_sync_found c s e = let h = s.at in let a = rw e at h in a
 
@@ -141,9 +141,3 @@ goes_less Sync left before after n g = g
 goes_less (Head w step) left before after n g = g
 goes_less (Word register w) left before after n g = g
 goes_less (Body register bytes) left before after n g = g
-
--- a call that needs more bytes has used the piece up
-pub one_sync_found : (m : Mode) → syncs_to_give m ≤ 1
-one_sync_found Mode.Searching = omega arith
-one_sync_found Mode.SyncFound = omega arith
-one_sync_found Mode.Synced = omega arith

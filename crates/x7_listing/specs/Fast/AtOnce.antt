@@ -1,6 +1,6 @@
--- The lines of short writes, which are listed at once; the rows of the tables that hold them; and where a `data` line
--- has its digits (this project's choice).
-use Rattle.std.specs.Prelude.{◌≡◌, ◌==◌, Bool, not, ℕ, zero, suc, ◌+◌, List, [], ◌∷◌, ◌++◌, codes, drop, get_or, take}
+-- The lines of short writes, which are listed at once, and the rows of the tables that hold them (this project's
+-- choice).
+use Rattle.std.specs.Prelude.{◌≡◌, ℕ, suc, List, [], ◌∷◌, ◌++◌, codes, get_or, take}
 use Rattle.x7_packets.specs.PacketWords.{type1_write_header}
 use Rattle.x7_packets.specs.declared.header.Step.TheVariants.{Open}
 use Rattle.x7_regs.specs.Register.{number_of, reg_name}
@@ -8,7 +8,7 @@ use Rattle.x7_regs.specs.declared.register.Reg.TheVariants.{Cmd}
 use Rattle.x7_listing.specs.HeadLine.{text_of_head}
 use Rattle.x7_listing.specs.Line.{cmd_line, ended_text}
 
--- the line, with its end, of the header of a write of `count` words to a register
+-- the line, with its end, of the header of a type 1 write of `count` words to a register
 abbrev pub write_head_text : ℕ → ℕ → List ℕ
 write_head_text register count = text_of_head (Open register count) (type1_write_header register count)
 
@@ -16,7 +16,7 @@ write_head_text register count = text_of_head (Open register count) (type1_write
 abbrev pub write_line_text : ℕ → List ℕ
 write_line_text register = codes "write " ++ reg_name register ++ codes " 1\n"
 
--- a write line up to its count
+-- the line of the header of a type 1 write to a register, up to its count
 abbrev pub write_name_text : ℕ → List ℕ
 write_name_text register = codes "write " ++ reg_name register ++ codes " "
 
@@ -28,7 +28,7 @@ write_start_text register = write_line_text register ++ codes "data "
 abbrev pub command_lines_text : ℕ → List ℕ
 command_lines_text w = write_line_text (number_of Cmd) ++ ended_text (cmd_line w)
 
--- where in a row of a table it stands how many of its bytes are text: the last of its 32 bytes
+-- the place, from 0, of the byte of a table's row that says how many of its bytes are text: the last of its 32
 abbrev pub text_size_at : ℕ
 text_size_at = 31
 
@@ -40,13 +40,3 @@ row_text row = take (get_or row text_size_at 0) row
 abbrev pub AreRowsFrom : (ℕ → List ℕ) → ℕ → List (List ℕ) → Type 0
 AreRowsFrom text n [] = Unit {0}
 AreRowsFrom text n (row ∷ rows) = (row_text row ≡ text n) × AreRowsFrom text (suc n) rows
-
--- two bytes differ
-abbrev pub bytes_differ : ℕ → ℕ → Bool
-bytes_differ a b = not (a == b)
-
--- what stands where a `data` line has the digits of its words: eight bytes for each of them, the first word's just
--- after place p, each further one's nine bytes on
-abbrev pub words_in_row : List ℕ → ℕ → ℕ → List (List ℕ)
-words_in_row text p zero = []
-words_in_row text p (suc n) = take 8 (drop (p + 1) text) ∷ words_in_row text (p + 9) n

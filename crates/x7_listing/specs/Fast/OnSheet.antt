@@ -47,8 +47,8 @@ gap_lines_size = 6 + 31 * 2 + 1 + 5
 abbrev pub one_write_text : ℕ → ℕ → ℕ → List ℕ
 one_write_text in_line register w = close in_line ++ write_head_text register 1 ++ open_words 0 (payload_steps register (w ∷ []))
 
--- after a shown text the words of a payload stand in new `data` lines, of which the last has
--- this many words, or none where it is full
+-- after a shown text the words of a payload stand in new `data` lines; `in_line` has how many words stand in the last
+-- one, 0 where it is full
 pub record ShowsWords (payload shown all : List ℕ) (in_line : OpenWords) : Type 0 where
   pub text : all ≡ shown ++ open_data 0 (words_of_bytes payload)
   pub count : in_line.count ≡ in_line_after row_words 0 (words_of_bytes payload)

@@ -84,7 +84,8 @@ struct FieldTexts<'t> {
     length: u32,
 }
 
-/// The texts in the places of a header's fields; `None` where the text has no such places.
+/// The texts in the places of a header's fields, and the length of the data; `None` where the line has no such places,
+/// or the length is no decimal number of 32 bits.
 fn field_texts(line: &[u8]) -> Option<FieldTexts<'_>>
     ensures { MatchOption result ((x : HeaderContents) → FitsHeader x → line.now ≢ bit_text x)
         (λ texts. IsBitLine line.now texts.a.now texts.b.now texts.c.now texts.d.now texts.length) }

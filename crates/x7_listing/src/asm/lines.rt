@@ -39,7 +39,8 @@ fn read_checked_line(out: &mut Vec<u8>, start: usize, checker: &mut Checker, lin
     true
 }
 
-/// The bytes that the lines of a text gave so far, the place where those after a header begin, and their check.
+/// What the lines of a text that is assembled line by line gave so far (this project's choice): the bytes, the place
+/// where those after a header's begin, and the check of these.
 #[derive(Drop)]
 pub struct AsmLines {
     alloc: Global,
@@ -72,8 +73,9 @@ impl AsmLines {
         }
     }
 
-    /// Appends the bytes of line `line_number`, which is no header's, and makes room for those of the next. Where there
-    /// was room for those of this line, memory is wanting only once it is read.
+    /// Appends the bytes of line `line_number`, from 1, which is no header's, and makes room for those of the next; or
+    /// answers the line's fault, or `NoMemory`. Where there was room for those of this line, memory is wanting only
+    /// once it is read.
     fn read_one(&mut self, line_number: u64, line: &[u8]) -> Result<(), AsmFault>
         ensures reads { OnOk result (ReadsNext self.old self.new line_number line.now) }
         ensures room { OnOk result (HasLineRoom self.new) }
@@ -91,7 +93,8 @@ impl AsmLines {
         Ok(())
     }
 
-    /// Appends the bytes of the first line, which may be a header's, and makes room for those of the next.
+    /// Appends the bytes of the first line, which may be a header's, and makes room for those of the next; or answers
+    /// the line's fault, or `NoMemory`.
     fn read_first(&mut self, line: &[u8]) -> Result<(), AsmFault>
         ensures reads { OnOk result (ReadsFirst self.old self.new line.now) }
         ensures room { OnOk result (HasLineRoom self.new) }
@@ -107,8 +110,8 @@ impl AsmLines {
         self.read_one(1, line)
     }
 
-    /// Appends the bytes of line `line_number`. Memory is wanting only at the first line, or where all lines up to this
-    /// one are good.
+    /// Appends the bytes of line `line_number`, counted from 1. Memory is wanting only at the first line, or where all
+    /// lines up to and with this one are good.
     fn read_next(&mut self, line_number: u64, line: &[u8]) -> Result<(), AsmFault>
         ensures read { (lines : List (List ℕ)) → line_number ≡ length lines + 1 → HasReadWithRoom self.old lines
             → MatchResult result (λ _. HasReadWithRoom self.new (lines ++ line.now ∷ []))
@@ -123,8 +126,8 @@ impl AsmLines {
     }
 
     /// Appends the bytes of the text's first lines after `line_count` lines, as far as they are read at once: none
-    /// before any line, since the first one may be a header's. A line that isn't read at once is left to `read_next`, and
-    /// so are those after it.
+    /// before any line, since the first one may be a header's. A line that isn't read at once is left to `read_next`,
+    /// and so are those after it.
     fn read_at_once(&mut self, line_count: u64, text: &[u8]) -> WholeLines
         ensures appends { AppendsLines text.now (drop result.size text.now) self.old.out self.new.out result.count }
         ensures start { self.new.start ≡ self.old.start }

@@ -67,7 +67,7 @@ pub(crate) fn put_word_bytes(out: &mut Vec<u8>, word: u32)
     put(out, &bytes_of(word));
 }
 
-/// Appends the bytes of two words, the first word's first.
+/// Appends the four bytes of each of two words, the first word's first, and of each word the highest first.
 #[inline(always)]
 pub(crate) fn put_two_words(out: &mut Vec<u8>, first: u32, second: u32)
     requires { HasSpareRoom out.old bytes_row_size }
@@ -87,7 +87,7 @@ fn type1_fields(text: &[u8]) -> Option<(u8, u32)>
     type1_fields_at(text, space)
 }
 
-/// The word of a line that stands for one word; `None` for any other text.
+/// The word of a line that always stands for one word (no `data` line, even of one word); `None` for any other text.
 fn word_of_line(line: &[u8]) -> Option<u32>
     ensures { MatchOption result ((l : Line) → FitsWordLine l → line.now ≢ text_of l) (IsWordOfText line.now) }
 {

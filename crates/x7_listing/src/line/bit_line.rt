@@ -44,7 +44,8 @@ fn append_header(text: &mut Vec<u8>, head: &Head<'_>) -> Result<(), NoMemory>
     put_number(text, u64::from(head.length))
 }
 
-/// The line of a `.bit` header, with its end. The header's size in bytes (`head.size`) is not in it.
+/// The line of a `.bit` header, with its end (this project's choice). The header's size in bytes (`head.size`) is not
+/// in it.
 pub fn header_line(alloc: Global, head: &Head<'_>) -> Result<Vec<u8>, NoMemory>
     ensures { IfOk result (λ text. text.items ≡ bit_text (contents_of head.now) ++ line_end_byte ∷ []) }
 {

@@ -1,5 +1,5 @@
 //! The lines of single words, written: of a word in a header's place, a command and a sync word.
-ghost use Rattle.std.specs.Prelude.{◌≡◌, [], ◌∷◌, ◌++◌, ◌<◌, ◌≤◌, ◌+◌, length, decimal};
+ghost use Rattle.std.specs.Prelude.{[], ◌∷◌, ◌++◌, ◌<◌, ◌≤◌, ◌+◌, length, decimal};
 ghost use Rattle.x7_regs.specs.Register.{reg_name, reg_number_count};
 ghost use Rattle.x7_text.specs.Appends.{Appends, HasSpareRoom};
 ghost use Rattle.x7_text.specs.Digits.{hex_word};
@@ -12,7 +12,7 @@ use x7_packets::{
     NO_OP, SYNC_WORD, Step, TYPE2_READ_KIND, TYPE2_WRITE_KIND, kind_in, register_in,
     type1_count_in, type1_read_header, type1_write_header, type2_count_in,
 };
-use x7_regs::{command_of, command_text, name_of};
+use x7_regs::{command_name, command_of, name_of};
 use x7_text::{hex_of_word, put, put_close, put_decimal};
 
 /// Appends the line that stands for just this word: a named one where there is one, else that of the word itself.
@@ -75,7 +75,8 @@ fn put_whole_word(text: &mut Vec<u8>, keyword: &[u8], word: u32)
     put(text, b"\n");
 }
 
-/// Appends the line of a word in a header's place, after an open line of `in_line` words.
+/// Appends the line of a word in a header's place, after the end of an open line of `in_line` words (0 where none is
+/// open).
 pub(crate) fn put_head(text: &mut Vec<u8>, in_line: usize, step: Step, word: u32)
     requires { HasSpareRoom text.old (1 + head_line_limit) }
     ensures appends { Appends text.old text.new (close in_line ++ text_of_head step word) (1 + head_line_limit) }
@@ -87,7 +88,7 @@ pub(crate) fn put_head(text: &mut Vec<u8>, in_line: usize, step: Step, word: u32
     }
 }
 
-/// Appends the line of a payload word of CMD, after an open line of `in_line` words.
+/// Appends the line of a payload word of CMD, after the end of an open line of `in_line` words (0 where none is open).
 pub(crate) fn put_command(text: &mut Vec<u8>, in_line: usize, word: u32)
     requires { HasSpareRoom text.old (1 + head_line_limit) }
     ensures appends { Appends text.old text.new (close in_line ++ ended_text (cmd_line word)) (1 + head_line_limit) }
@@ -98,11 +99,11 @@ pub(crate) fn put_command(text: &mut Vec<u8>, in_line: usize, word: u32)
         return put_whole_word(text, b"data ", word);
     }
     put(text, b"cmd ");
-    put(text, command_text(command).bytes());
+    put(text, command_name(command).bytes());
     put(text, b"\n");
 }
 
-/// Appends the line of a sync word, after an open line of `in_line` bytes.
+/// Appends the line of a sync word, after the end of an open line of `in_line` bytes (0 where none is open).
 pub(crate) fn put_sync(text: &mut Vec<u8>, in_line: usize)
     requires { HasSpareRoom text.old (1 + head_line_limit) }
     ensures appends { Appends text.old text.new (close in_line ++ ended_text Sync) (1 + head_line_limit) }

@@ -4,10 +4,11 @@ ghost use Rattle.x7_regs.specs.Register.{reg_number_count};
 ghost use Rattle.x7_regs.specs.Command.{command_code_count};
 ghost use Rattle.x7_listing.specs.Fast.AtOnce.{AreRowsFrom, command_lines_text, row_text, write_name_text, write_start_text};
 
-/// Where in a row it stands how many of its bytes are text: the last of its 32 bytes.
+/// The place, from 0, of the byte of a row that says how many of the row's bytes are text: the last of its 32.
 pub(crate) const TEXT_SIZE_AT: usize = 31;
 
-/// How many commands have a row in their table: one each for the codes of five bits (UG470, command register).
+/// How many rows the table of commands has: one for each code of five bits, also where it is no command's (UG470,
+/// command register).
 pub(crate) const COMMAND_CODES: u32 = 1 << 5;
 
 /// The row of this number in a table, from 0.
@@ -28,7 +29,7 @@ pub(crate) fn write_row(register: u8) -> &'static [u8; 32]
     row_in(&WRITES, register as usize)
 }
 
-/// The row of the lines of a write to CMD of a word that is a command's code.
+/// The row of the lines of a write to CMD of a word below 32, be it a command's code or not.
 #[inline(always)]
 pub(crate) fn command_row(word: u32) -> &'static [u8; 32]
     requires { word < command_code_count }

@@ -18,8 +18,8 @@ use x7_words::NoMemory;
 /// those of a call for the sync word that it may end.
 pub(crate) const BYTE_ROOM: usize = 2 * CALL_ROOM + 3;
 
-/// How many bytes of room are asked for besides: those of a call for a sync word that is due, and those of one call
-/// that are left over.
+/// How many bytes of room `feed` asks for besides those for the bytes of the piece and for those that the cutter keeps:
+/// those of a call for a sync word that is due, and those of one call that are left over.
 const SPARE_ROOM: usize = 2 * CALL_ROOM;
 
 /// Takes a whole piece, appends the lines of its runs, and gives the pen after it.
@@ -47,7 +47,8 @@ fn take_piece(text: &mut Vec<u8>, cutter: &mut Cutter, pen: Pen, piece: &[u8]) -
     }
 }
 
-/// Lists the stream that it is fed, piece by piece; its text may be taken and cleared in between.
+/// Lists a stream that comes in pieces (`feed`) or run by run (`take`), as text (this project's choice). The text may
+/// be taken and cleared in between.
 #[derive(Drop)]
 pub struct Lister {
     cutter: Cutter,
@@ -96,7 +97,8 @@ impl Lister {
         self.text.clear();
     }
 
-    /// Takes a piece. `NoMemory` changes nothing.
+    /// Takes the next bytes of a stream, a piece of any length, and appends what they add to the text. `NoMemory`
+    /// changes nothing.
     pub fn feed(&mut self, piece: &[u8]) -> Result<(), NoMemory>
         ensures stands { OnOk result ((given before bytes : List ℕ) → ListerStandsFor self.old given before bytes
             → ListerStandsFor self.new given before (bytes ++ piece.now)) }

@@ -24,7 +24,7 @@ use x7_words::word_of;
 /// How many bytes of room a call that lists a run asks for, besides three for each byte of the run.
 pub(crate) const CALL_ROOM: usize = 64;
 
-/// A pen at the start of a listing.
+/// A pen at the start of a gap: no line is open, and no byte is held.
 pub(crate) fn new_pen() -> GapPen
     ensures in_line { result.in_line ≡ 0 }
     ensures held { take result.count result.held ≡ [] }
@@ -120,7 +120,8 @@ fn hold_all(text: &mut Vec<u8>, pen: GapPen, bytes: &[u8]) -> GapPen
     }
 }
 
-/// Appends a payload word after an open line. Gives how many words stand in the open line then.
+/// Appends a payload word, where `in_line` words stand in the open line. Gives how many words stand in the open line
+/// then.
 fn put_payload(text: &mut Vec<u8>, in_line: OpenWords, register: u8, word: u32) -> OpenWords
     requires room { HasSpareRoom text.old (1 + head_line_limit) }
     ensures count { result.count ≡ in_line_after_words in_line.count (payload_steps register (word ∷ [])) }
@@ -135,8 +136,8 @@ fn put_payload(text: &mut Vec<u8>, in_line: OpenWords, register: u8, word: u32) 
     }
 }
 
-/// Appends payload words of one packet, one where the register is CMD, after an open line. Gives how many words stand
-/// in the open line then.
+/// Appends payload words of one packet, one where the register is CMD, after the `in_line` words of the open line.
+/// Gives how many words stand in the open line then.
 fn put_body(text: &mut Vec<u8>, in_line: OpenWords, register: u8, body: &[u8]) -> OpenWords
     requires whole { length body.now ≡ 4 * (length body.now / 4) }
     requires one { register ≡ number_of Cmd → length body.now ≡ 4 }
@@ -158,8 +159,8 @@ fn put_body(text: &mut Vec<u8>, in_line: OpenWords, register: u8, body: &[u8]) -
     }
 }
 
-/// Appends what a run adds to the listing, and gives the pen after it. A call of its own, so that the loop of short runs
-/// has the registers for itself.
+/// Appends what a run adds to the listing, and gives the pen after it. A call of its own, so that the loop of short
+/// runs has the processor's registers for itself.
 #[inline(never)]
 pub(crate) fn put_run(text: &mut Vec<u8>, pen: Pen, run: Cut) -> Pen
     requires run { IsRun run }

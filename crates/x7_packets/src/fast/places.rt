@@ -88,7 +88,7 @@ fn end_bits(bytes: &[u8], at: usize) -> u64
     ))
 }
 
-/// The first of the 32 places from `at` on where the sync word stands, none where it stands at none of them.
+/// The first of the 32 places from `at` on where the sync word stands, `None` where it stands at none of them.
 #[inline(always)]
 pub(crate) fn first_of_places(bytes: &[u8], at: usize) -> Option<usize>
     requires { at + places_reach ≤ length bytes.now }
@@ -104,7 +104,7 @@ pub(crate) fn first_of_places(bytes: &[u8], at: usize) -> Option<usize>
     Some(at + lowest_bit(bits))
 }
 
-/// The first place where the sync word stands, none where it stands nowhere. The last 32 places may overlap those
+/// The first place where the sync word stands, `None` where it stands nowhere. The last 32 places may overlap those
 /// before.
 pub(crate) fn first_sync(bytes: &[u8]) -> Option<usize>
     requires { places_reach ≤ length bytes.now }

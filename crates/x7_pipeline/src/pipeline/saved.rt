@@ -65,7 +65,8 @@ fn copy_words(words: &mut Vec<u32>, from: &[u32])
     }
 }
 
-/// Makes the vector, which has room for them, hold the words of `from`, where `has_words` says that these count.
+/// Makes the vector, which has room for them, hold the words of `from`, where `has_words`; else the words in it don't
+/// count.
 fn copy_some(words: &mut Vec<u32>, from: &[u32], has_words: bool)
     requires { has_words ≡ true → length from.now ≤ vec_capacity words.old }
     ensures items { has_words ≡ true → words.new.items ≡ from.now }
@@ -95,7 +96,7 @@ impl Saved {
         })
     }
 
-    /// Saves the frame of an address, where the memory has one.
+    /// Saves the frame of an address, or none without an address and where the memory has no frame there.
     fn save_frame(&mut self, part: &Part, memory: &Memory, far: Option<u32>)
         requires part { IsPipelineOf part.now self.old.pipeline }
         requires memory { AreFramesOf part.now memory.now }
@@ -173,7 +174,8 @@ impl Pipeline {
         }
     }
 
-    /// The address where the next word, or under MFW the next copy, would put a frame, none where it would put none.
+    /// The address where the next word, or under MFW with a source the next copy, would put a frame, none where it
+    /// would put none.
     fn next_put(&self, part: &Part) -> Option<u32>
         ensures value { result ≡ next_put part.now self.now }
         ensures address { IfSome result (Contains (addresses_in part.now)) }

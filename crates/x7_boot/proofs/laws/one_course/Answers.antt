@@ -1,4 +1,4 @@
-use Rattle.x7_boot.proofs.BootsLemmas.{along, boot_course}
+use Rattle.x7_boot.proofs.BootCourseLemmas.{along, boot_course}
 use Rattle.x7_boot.proofs.laws.one_course.Goals as goal
 
 pub returns-clause-boot : goal.returns-clause-boot

@@ -19,7 +19,7 @@ returns-clause-ready g c =
     let first = g.F.Flash.state c.args.flash.now in
     let last = g.F.Flash.state c.boot_from.new.flash in
     let name = c.args.flash_name.now in
-    let part_name = c.args.part.now in
+    let part_name = c.args.part_name.now in
     let part = c.in_ok-part.part in
     let made = result_by play_answer c.boot_from.result in
     let C = CameIn (step_over (part_name ∷ []) old new) in
@@ -38,7 +38,7 @@ returns-in_err-part-clause-ready g c = rw (handed_on c.from_residual.result c.in
     let new = g.I.Inputs.state c.read_part.new.inputs in
     let flash = g.F.Flash.state c.args.flash.now in
     let name = c.args.flash_name.now in
-    let part_name = c.args.part.now in
+    let part_name = c.args.part_name.now in
     let event = event_of c.in_err-part.field-0.0 in
     record {
       caused = λ before after. part_refused (record before { inputs = old; flash = flash }) (record after { inputs = new; flash = flash }) name part_name event (c.in_err-part.ensures.caused flash.bytes);

@@ -18,9 +18,9 @@ pub returns : goal.returns
 returns g c =
     let old = g.I.Inputs.state c.args.inputs.now in
     let new = g.I.Inputs.state c.read_given.new.inputs in
-    let part = c.args.part.now in
-    let stream = c.args.stream.now in
-    let script = c.args.script.now in
+    let part = c.args.part_name.now in
+    let stream = c.args.stream_name.now in
+    let script = c.args.script_name.now in
     let given = debug_given c.in_ok-given.given in
     let made = c.text_of.result in
     record {
@@ -35,9 +35,9 @@ returns g c =
 pub returns-in_err-given : goal.returns-in_err-given
 returns-in_err-given g c = rw (handed_on c.from_residual.result c.in_err-given.field-0.0 c.from_residual.ensures) (let old = g.I.Inputs.state c.args.inputs.now in
     let new = g.I.Inputs.state c.read_given.new.inputs in
-    let part = c.args.part.now in
-    let stream = c.args.stream.now in
-    let script = c.args.script.now in
+    let part = c.args.part_name.now in
+    let stream = c.args.stream_name.now in
+    let script = c.args.script_name.now in
     let event = event_of c.in_err-given.field-0.0 in
     record {
       caused = answers_kept DebugInputs Answer (part ∷ stream ∷ script ∷ []) old new (λ t. debug_inputs t part stream script) (DebuggedAs script) event (λ x. refl) c.in_err-given.ensures.caused;

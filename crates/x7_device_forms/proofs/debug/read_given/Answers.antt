@@ -15,9 +15,9 @@ use Rattle.x7_device_forms.proofs.debug.read_given.Goals as goal
 
 pub returns-in_err-stream-clause-caused : goal.returns-in_err-stream-clause-caused
 returns-in_err-stream-clause-caused g c = rw (handed_on c.from_residual-in_err-stream.result c.in_err-stream.field-0.0 c.from_residual-in_err-stream.ensures) (let i = g.I.Inputs in
-    let part = c.args.part.now in
-    let stream = c.args.stream.now in
-    let script = c.args.script.now in
+    let part = c.args.part_name.now in
+    let stream = c.args.stream_name.now in
+    let script = c.args.script_name.now in
     let event = event_of c.in_err-stream.field-0.0 in
     answers_go PartData DebugInputs (part ∷ []) (stream ∷ []) (part ∷ stream ∷ script ∷ []) (i.state c.args.inputs.now) (i.state c.read_part.new.inputs) (i.state c.read_data.new.inputs) (λ t. part_known t part)
     (λ t p. and_so (stream_data t stream) (λ bytes. and_so (whole_known t script_limit script) (λ text. Ok (record { part = p; stream = bytes; script = text })))) c.in_ok-part.part (Err event)
@@ -27,9 +27,9 @@ returns-in_err-stream-clause-caused g c = rw (handed_on c.from_residual-in_err-s
 
 pub returns-in_err-script-clause-caused : goal.returns-in_err-script-clause-caused
 returns-in_err-script-clause-caused g c = rw (handed_on c.from_residual-in_err-script.result c.in_err-script.field-0.0 c.from_residual-in_err-script.ensures) (let i = g.I.Inputs in
-    let part = c.args.part.now in
-    let stream = c.args.stream.now in
-    let script = c.args.script.now in
+    let part = c.args.part_name.now in
+    let stream = c.args.stream_name.now in
+    let script = c.args.script_name.now in
     let first = i.state c.read_part.new.inputs in
     let second = i.state c.read_data.new.inputs in
     let last = i.state c.read_whole.new.inputs in
@@ -43,41 +43,41 @@ returns-in_err-script-clause-caused g c = rw (handed_on c.from_residual-in_err-s
 
 pub returns-in_err-part-clause-caused : goal.returns-in_err-part-clause-caused
 returns-in_err-part-clause-caused g c = rw (handed_on c.from_residual.result c.in_err-part.field-0.0 c.from_residual.ensures) (let i = g.I.Inputs in
-    let part = c.args.part.now in
-    let stream = c.args.stream.now in
-    let script = c.args.script.now in
+    let part = c.args.part_name.now in
+    let stream = c.args.stream_name.now in
+    let script = c.args.script_name.now in
     answers_stop PartData DebugInputs (part ∷ []) (part ∷ stream ∷ script ∷ []) (i.state c.args.inputs.now) (i.state c.read_part.new.inputs) (λ t. part_known t part)
     (λ t p. and_so (stream_data t stream) (λ bytes. and_so (whole_known t script_limit script) (λ text. Ok (record { part = p; stream = bytes; script = text })))) (event_of c.in_err-part.field-0.0) (first_of part (stream ∷ script ∷ [])) c.in_err-part.ensures.caused)
 
 pub returns-in_err-part-clause-stops : goal.returns-in_err-part-clause-stops
 returns-in_err-part-clause-stops g c = rw (handed_on c.from_residual.result c.in_err-part.field-0.0 c.from_residual.ensures)
-    (about_among (limited part_limit c.args.part.now ∷ limited stream_limit c.args.stream.now ∷ limited script_limit c.args.script.now ∷ []) [] (limited part_limit c.args.part.now)
-    (limited stream_limit c.args.stream.now ∷ limited script_limit c.args.script.now ∷ []) (g.I.Inputs.state c.args.inputs.now) (g.I.Inputs.state c.read_part.new.inputs)
-    (event_of c.in_err-part.field-0.0) refl c.read_part.ensures.asks.last c.read_part.ensures.asks.once (no_part_about c.args.part.now (event_of c.in_err-part.field-0.0) c.in_err-part.ensures.named))
+    (about_among (limited part_limit c.args.part_name.now ∷ limited stream_limit c.args.stream_name.now ∷ limited script_limit c.args.script_name.now ∷ []) [] (limited part_limit c.args.part_name.now)
+    (limited stream_limit c.args.stream_name.now ∷ limited script_limit c.args.script_name.now ∷ []) (g.I.Inputs.state c.args.inputs.now) (g.I.Inputs.state c.read_part.new.inputs)
+    (event_of c.in_err-part.field-0.0) refl c.read_part.ensures.asks.last c.read_part.ensures.asks.once (no_part_about c.args.part_name.now (event_of c.in_err-part.field-0.0) c.in_err-part.ensures.named))
 
 pub returns-in_err-stream-clause-stops : goal.returns-in_err-stream-clause-stops
 returns-in_err-stream-clause-stops g c = rw (handed_on c.from_residual-in_err-stream.result c.in_err-stream.field-0.0 c.from_residual-in_err-stream.ensures)
-    (about_among (limited part_limit c.args.part.now ∷ limited stream_limit c.args.stream.now ∷ limited script_limit c.args.script.now ∷ []) (limited part_limit c.args.part.now ∷ []) (limited stream_limit c.args.stream.now)
-    (limited script_limit c.args.script.now ∷ []) (g.I.Inputs.state c.args.inputs.now) (g.I.Inputs.state c.read_data.new.inputs)
+    (about_among (limited part_limit c.args.part_name.now ∷ limited stream_limit c.args.stream_name.now ∷ limited script_limit c.args.script_name.now ∷ []) (limited part_limit c.args.part_name.now ∷ []) (limited stream_limit c.args.stream_name.now)
+    (limited script_limit c.args.script_name.now ∷ []) (g.I.Inputs.state c.args.inputs.now) (g.I.Inputs.state c.read_data.new.inputs)
     (event_of c.in_err-stream.field-0.0) refl c.read_data.ensures.asks.last
     (both_asked (g.I.Inputs.state c.args.inputs.now) (g.I.Inputs.state c.read_part.new.inputs) (g.I.Inputs.state c.read_data.new.inputs) c.read_part.ensures.asks.once c.read_data.ensures.asks.once)
-    (unplayed_about c.args.stream.now (event_of c.in_err-stream.field-0.0) c.in_err-stream.ensures.named))
+    (unplayed_about c.args.stream_name.now (event_of c.in_err-stream.field-0.0) c.in_err-stream.ensures.named))
 
 pub returns-in_err-script-clause-stops : goal.returns-in_err-script-clause-stops
 returns-in_err-script-clause-stops g c = rw (handed_on c.from_residual-in_err-script.result c.in_err-script.field-0.0 c.from_residual-in_err-script.ensures)
-    (about_among (limited part_limit c.args.part.now ∷ limited stream_limit c.args.stream.now ∷ limited script_limit c.args.script.now ∷ []) (limited part_limit c.args.part.now ∷ limited stream_limit c.args.stream.now ∷ [])
-    (limited script_limit c.args.script.now) [] (g.I.Inputs.state c.args.inputs.now) (g.I.Inputs.state c.read_whole.new.inputs)
+    (about_among (limited part_limit c.args.part_name.now ∷ limited stream_limit c.args.stream_name.now ∷ limited script_limit c.args.script_name.now ∷ []) (limited part_limit c.args.part_name.now ∷ limited stream_limit c.args.stream_name.now ∷ [])
+    (limited script_limit c.args.script_name.now) [] (g.I.Inputs.state c.args.inputs.now) (g.I.Inputs.state c.read_whole.new.inputs)
     (event_of c.in_err-script.field-0.0) refl c.read_whole.ensures.asks.last
     (all_asked (g.I.Inputs.state c.args.inputs.now) (g.I.Inputs.state c.read_part.new.inputs) (g.I.Inputs.state c.read_data.new.inputs)
-    (g.I.Inputs.state c.read_whole.new.inputs) c.read_part.ensures.asks.once c.read_data.ensures.asks.once c.read_whole.ensures.asks.once) (unread_about c.args.script.now
+    (g.I.Inputs.state c.read_whole.new.inputs) c.read_part.ensures.asks.once c.read_data.ensures.asks.once c.read_whole.ensures.asks.once) (unread_about c.args.script_name.now
     (event_of c.in_err-script.field-0.0) c.in_err-script.ensures.named))
 
 pub returns-clause-caused : goal.returns-clause-caused
 returns-clause-caused g c =
     let i = g.I.Inputs in
-    let part = c.args.part.now in
-    let stream = c.args.stream.now in
-    let script = c.args.script.now in
+    let part = c.args.part_name.now in
+    let stream = c.args.stream_name.now in
+    let script = c.args.script_name.now in
     let first = i.state c.read_part.new.inputs in
     let second = i.state c.read_data.new.inputs in
     let last = i.state c.read_whole.new.inputs in

@@ -14,32 +14,32 @@ use Rattle.x7_device_forms.proofs.svf.read_given.Goals as goal
 
 pub returns-in_err-text-clause-caused : goal.returns-in_err-text-clause-caused
 returns-in_err-text-clause-caused g c = rw (handed_on c.from_residual-in_err-text.result c.in_err-text.field-0.0 c.from_residual-in_err-text.ensures) (let i = g.I.Inputs in
-    texts_unread c.args.part.now c.args.text.now (i.state c.args.inputs.now) (i.state c.read_part.new.inputs) (i.state c.read_whole.new.inputs) c.in_ok-part.part (event_of c.in_err-text.field-0.0) c.read_part.ensures.asks.stays c.in_ok-part.ensures.caused c.in_err-text.ensures.caused)
+    texts_unread c.args.part_name.now c.args.text_name.now (i.state c.args.inputs.now) (i.state c.read_part.new.inputs) (i.state c.read_whole.new.inputs) c.in_ok-part.part (event_of c.in_err-text.field-0.0) c.read_part.ensures.asks.stays c.in_ok-part.ensures.caused c.in_err-text.ensures.caused)
 
 pub returns-clause-caused : goal.returns-clause-caused
 returns-clause-caused g c =
     let i = g.I.Inputs in
-    texts_read c.args.part.now c.args.text.now (i.state c.args.inputs.now) (i.state c.read_part.new.inputs) (i.state c.read_whole.new.inputs) c.in_ok-part.part c.in_ok-text.text.items c.read_part.ensures.asks.stays c.in_ok-part.ensures.caused c.in_ok-text.ensures.caused
+    texts_read c.args.part_name.now c.args.text_name.now (i.state c.args.inputs.now) (i.state c.read_part.new.inputs) (i.state c.read_whole.new.inputs) c.in_ok-part.part c.in_ok-text.text.items c.read_part.ensures.asks.stays c.in_ok-part.ensures.caused c.in_ok-text.ensures.caused
 
 pub returns-in_err-part-clause-caused : goal.returns-in_err-part-clause-caused
 returns-in_err-part-clause-caused g c = rw (handed_on c.from_residual.result c.in_err-part.field-0.0 c.from_residual.ensures) (let i = g.I.Inputs in
-    let part = c.args.part.now in
-    let text = c.args.text.now in
+    let part = c.args.part_name.now in
+    let text = c.args.text_name.now in
     answers_stop PartData PartAndText (part ∷ []) (part ∷ text ∷ []) (i.state c.args.inputs.now) (i.state c.read_part.new.inputs) (λ t. part_known t part) (λ t p. and_so (whole_known t text_limit text) (λ bytes. Ok (record { part = p; text = bytes })))
     (event_of c.in_err-part.field-0.0) (first_of part (text ∷ [])) c.in_err-part.ensures.caused)
 
 pub returns-in_err-part-clause-stops : goal.returns-in_err-part-clause-stops
 returns-in_err-part-clause-stops g c = rw (handed_on c.from_residual.result c.in_err-part.field-0.0 c.from_residual.ensures)
-    (about_among (limited part_limit c.args.part.now ∷ limited text_limit c.args.text.now ∷ []) [] (limited part_limit c.args.part.now) (limited text_limit c.args.text.now ∷ []) (g.I.Inputs.state c.args.inputs.now)
+    (about_among (limited part_limit c.args.part_name.now ∷ limited text_limit c.args.text_name.now ∷ []) [] (limited part_limit c.args.part_name.now) (limited text_limit c.args.text_name.now ∷ []) (g.I.Inputs.state c.args.inputs.now)
     (g.I.Inputs.state c.read_part.new.inputs) (event_of c.in_err-part.field-0.0) refl c.read_part.ensures.asks.last c.read_part.ensures.asks.once
-    (no_part_about c.args.part.now (event_of c.in_err-part.field-0.0) c.in_err-part.ensures.named))
+    (no_part_about c.args.part_name.now (event_of c.in_err-part.field-0.0) c.in_err-part.ensures.named))
 
 pub returns-in_err-text-clause-stops : goal.returns-in_err-text-clause-stops
 returns-in_err-text-clause-stops g c = rw (handed_on c.from_residual-in_err-text.result c.in_err-text.field-0.0 c.from_residual-in_err-text.ensures)
-    (about_among (limited part_limit c.args.part.now ∷ limited text_limit c.args.text.now ∷ []) (limited part_limit c.args.part.now ∷ []) (limited text_limit c.args.text.now) [] (g.I.Inputs.state c.args.inputs.now)
+    (about_among (limited part_limit c.args.part_name.now ∷ limited text_limit c.args.text_name.now ∷ []) (limited part_limit c.args.part_name.now ∷ []) (limited text_limit c.args.text_name.now) [] (g.I.Inputs.state c.args.inputs.now)
     (g.I.Inputs.state c.read_whole.new.inputs) (event_of c.in_err-text.field-0.0) refl c.read_whole.ensures.asks.last
     (both_asked (g.I.Inputs.state c.args.inputs.now) (g.I.Inputs.state c.read_part.new.inputs) (g.I.Inputs.state c.read_whole.new.inputs) c.read_part.ensures.asks.once c.read_whole.ensures.asks.once)
-    (unread_about c.args.text.now (event_of c.in_err-text.field-0.0) c.in_err-text.ensures.named))
+    (unread_about c.args.text_name.now (event_of c.in_err-text.field-0.0) c.in_err-text.ensures.named))
 
 pub returns-in_err-part-clause-asks : goal.returns-in_err-part-clause-asks
 returns-in_err-part-clause-asks g c = few_more _ _ 1 2 (omega arith) c.read_part.ensures.asks.once

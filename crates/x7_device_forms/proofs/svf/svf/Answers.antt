@@ -18,8 +18,8 @@ pub returns : goal.returns
 returns g c =
     let old = g.I.Inputs.state c.args.inputs.now in
     let new = g.I.Inputs.state c.read_given.new.inputs in
-    let part = c.args.part.now in
-    let text = c.args.text.now in
+    let part = c.args.part_name.now in
+    let text = c.args.text_name.now in
     let given = svf_given c.in_ok-given.given in
     let made = c.text_of.result in
     record {
@@ -34,8 +34,8 @@ returns g c =
 pub returns-in_err-given : goal.returns-in_err-given
 returns-in_err-given g c = rw (handed_on c.from_residual.result c.in_err-given.field-0.0 c.from_residual.ensures) (let old = g.I.Inputs.state c.args.inputs.now in
     let new = g.I.Inputs.state c.read_given.new.inputs in
-    let part = c.args.part.now in
-    let text = c.args.text.now in
+    let part = c.args.part_name.now in
+    let text = c.args.text_name.now in
     let event = event_of c.in_err-given.field-0.0 in
     record {
       caused = answers_kept PartAndText Answer (part ∷ text ∷ []) old new (λ t. part_and_text t part text) (PlayedSvf text) event (λ x. refl) c.in_err-given.ensures.caused;

@@ -29,13 +29,13 @@ returns-in_err-open_flash-clause-answered g c = rw (handed_on c.from_residual.re
     let new : Outside = record after { inputs = g.I.Inputs.state c.args.inputs.now; flash = mid } in
     let event = event_of c.in_err-open_flash.field-0.0 in
     record {
-      ends = refused_ends c.args.flash_name.now c.args.stream.now old new event out
-          (attach_refused_measured (Some (UpdatingFlash c.args.flash_name.now c.args.stream.now)) c.args.flash_name.now first mid event c.in_err-open_flash.ensures.refused)
-          (attach_refused_last (UpdatingFlash c.args.flash_name.now c.args.stream.now) c.args.flash_name.now old.inputs first mid event c.in_err-open_flash.ensures.refused)
-          (attach_refused_over c.args.flash_name.now c.args.stream.now old new event c.in_err-open_flash.ensures.refused) (keeps_all event.reason first mid c.open_flash.ensures.stays.bytes);
-      stops = attach_refused_stops c.args.flash_name.now c.args.stream.now (g.I.Inputs.state c.args.inputs.now) (g.I.Inputs.state c.args.inputs.now) (g.F.Flash.state c.args.flash.now)
+      ends = refused_ends c.args.flash_name.now c.args.stream_name.now old new event out
+          (attach_refused_measured (Some (UpdatingFlash c.args.flash_name.now c.args.stream_name.now)) c.args.flash_name.now first mid event c.in_err-open_flash.ensures.refused)
+          (attach_refused_last (UpdatingFlash c.args.flash_name.now c.args.stream_name.now) c.args.flash_name.now old.inputs first mid event c.in_err-open_flash.ensures.refused)
+          (attach_refused_over c.args.flash_name.now c.args.stream_name.now old new event c.in_err-open_flash.ensures.refused) (keeps_all event.reason first mid c.open_flash.ensures.stays.bytes);
+      stops = attach_refused_stops c.args.flash_name.now c.args.stream_name.now (g.I.Inputs.state c.args.inputs.now) (g.I.Inputs.state c.args.inputs.now) (g.F.Flash.state c.args.flash.now)
           (g.F.Flash.state c.open_flash.new.flash) (event_of c.in_err-open_flash.field-0.0) c.in_err-open_flash.ensures.refused;
-      judges = unopened_judges c.args.flash_name.now c.args.stream.now (sources (g.I.Inputs.state c.args.inputs.now) (g.F.Flash.state c.args.flash.now)) (sources (g.I.Inputs.state c.args.inputs.now) (g.F.Flash.state c.open_flash.new.flash)) (event_of c.in_err-open_flash.field-0.0) refl;
+      judges = unopened_judges c.args.flash_name.now c.args.stream_name.now (sources (g.I.Inputs.state c.args.inputs.now) (g.F.Flash.state c.args.flash.now)) (sources (g.I.Inputs.state c.args.inputs.now) (g.F.Flash.state c.open_flash.new.flash)) (event_of c.in_err-open_flash.field-0.0) refl;
       asks = few_more (g.I.Inputs.state c.args.inputs.now) (g.I.Inputs.state c.args.inputs.now) 0 1 (omega arith) (few_at (g.I.Inputs.state c.args.inputs.now));
       stays = stays_at _;
     })
@@ -50,16 +50,16 @@ returns-in_err-read-clause-answered g c = rw (handed_on c.from_residual-in_err-r
     let event = event_of c.in_err-read.field-0.0 in
     let within = subst (λ (o : Option (List ℕ)). IfKnown o (λ all. length all ≤ flash_limit)) same c.in_ok-open_flash.ensures.within in
     record {
-      ends = refused_ends c.args.flash_name.now c.args.stream.now old new event out
-          (unplayed_measured (Some (UpdatingFlash c.args.flash_name.now c.args.stream.now)) mid c.args.stream.now event (inl refl) c.in_err-read.ensures.named)
-          (unplayed_last (UpdatingFlash c.args.flash_name.now c.args.stream.now) old.inputs mid c.args.stream.now event (inl refl) c.in_err-read.ensures.named)
-          (unread_over c.args.flash_name.now c.args.stream.now old new event within (c.in_err-read.ensures.caused first.bytes)) (keeps_all event.reason first mid same);
-      stops = first_stops (UpdatingFlash c.args.flash_name.now c.args.stream.now) (limited stream_limit c.args.stream.now) [] (g.I.Inputs.state c.args.inputs.now)
+      ends = refused_ends c.args.flash_name.now c.args.stream_name.now old new event out
+          (unplayed_measured (Some (UpdatingFlash c.args.flash_name.now c.args.stream_name.now)) mid c.args.stream_name.now event (inl refl) c.in_err-read.ensures.named)
+          (unplayed_last (UpdatingFlash c.args.flash_name.now c.args.stream_name.now) old.inputs mid c.args.stream_name.now event (inl refl) c.in_err-read.ensures.named)
+          (unread_over c.args.flash_name.now c.args.stream_name.now old new event within (c.in_err-read.ensures.caused first.bytes)) (keeps_all event.reason first mid same);
+      stops = first_stops (UpdatingFlash c.args.flash_name.now c.args.stream_name.now) (limited stream_limit c.args.stream_name.now) [] (g.I.Inputs.state c.args.inputs.now)
           (g.I.Inputs.state c.read_stream.new.inputs) (event_of c.in_err-read.field-0.0) refl c.read_stream.ensures.asks.last c.read_stream.ensures.asks.once
-          (unplayed_about c.args.stream.now (event_of c.in_err-read.field-0.0) c.in_err-read.ensures.named);
-      judges = stream_judges c.args.flash_name.now c.args.stream.now (sources (g.I.Inputs.state c.args.inputs.now) (g.F.Flash.state c.args.flash.now))
+          (unplayed_about c.args.stream_name.now (event_of c.in_err-read.field-0.0) c.in_err-read.ensures.named);
+      judges = stream_judges c.args.flash_name.now c.args.stream_name.now (sources (g.I.Inputs.state c.args.inputs.now) (g.F.Flash.state c.args.flash.now))
           (sources (g.I.Inputs.state c.read_stream.new.inputs) (g.F.Flash.state c.open_flash.new.flash)) (event_of c.in_err-read.field-0.0)
-          (unplayed_about c.args.stream.now (event_of c.in_err-read.field-0.0) c.in_err-read.ensures.named);
+          (unplayed_about c.args.stream_name.now (event_of c.in_err-read.field-0.0) c.in_err-read.ensures.named);
       asks = c.read_stream.ensures.asks.once;
       stays = c.read_stream.ensures.asks.stays;
     })
@@ -69,7 +69,7 @@ returns-in-Ok-clause-answered g c = λ before after out.
     let i = g.I.Inputs in
     let first = g.F.Flash.state c.args.flash.now in
     let last = g.F.Flash.state c.update.new.flash in
-    let stream = c.args.stream.now in
+    let stream = c.args.stream_name.now in
     let read = c.in_ok-read.read in
     let bytes = take (length c.deref.result.now - read.start) (drop read.start c.deref.result.now) in
     let same = c.open_flash.ensures.stays.bytes in
@@ -92,7 +92,7 @@ pub returns-in-Ok-clause-flash : goal.returns-in-Ok-clause-flash
 returns-in-Ok-clause-flash g c =
     let i = g.I.Inputs in
     let first = g.F.Flash.state c.args.flash.now in
-    let stream = c.args.stream.now in
+    let stream = c.args.stream_name.now in
     let read = c.in_ok-read.read in
     let bytes = take (length c.deref.result.now - read.start) (drop read.start c.deref.result.now) in
     let old = i.state c.args.inputs.now in
@@ -107,7 +107,7 @@ returns-clause-answered g c = λ before after out.
     let mid = g.F.Flash.state c.open_flash.new.flash in
     let last = g.F.Flash.state c.update.new.flash in
     let name = c.args.flash_name.now in
-    let stream = c.args.stream.now in
+    let stream = c.args.stream_name.now in
     let read = c.in_ok-read.read in
     let bytes = take (length c.deref.result.now - read.start) (drop read.start c.deref.result.now) in
     let stays = c.open_flash.ensures.stays in
@@ -122,8 +122,8 @@ returns-clause-answered g c = λ before after out.
     record {
       ends = subst (λ (e : Event). CommandEndsAs (Some (UpdatingFlash name stream)) old new (Err e)) (sym c.refusal_of.ensures)
           (fault_ends name stream bytes old new c.in-Err.fault out asked within has reads size cause (λ early. let only = c.in-Err.ensures.unchanged early in only.bytes ∙ stays.bytes));
-      stops = updated_stops c.args.flash_name.now c.args.stream.now (g.I.Inputs.state c.args.inputs.now) (g.I.Inputs.state c.read_stream.new.inputs) c.in-Err.fault (event_of c.refusal_of.result) c.refusal_of.ensures c.read_stream.ensures.asks.last c.read_stream.ensures.asks.once;
-      judges = updated_judges c.args.flash_name.now c.args.stream.now (sources (g.I.Inputs.state c.args.inputs.now) (g.F.Flash.state c.args.flash.now))
+      stops = updated_stops c.args.flash_name.now c.args.stream_name.now (g.I.Inputs.state c.args.inputs.now) (g.I.Inputs.state c.read_stream.new.inputs) c.in-Err.fault (event_of c.refusal_of.result) c.refusal_of.ensures c.read_stream.ensures.asks.last c.read_stream.ensures.asks.once;
+      judges = updated_judges c.args.flash_name.now c.args.stream_name.now (sources (g.I.Inputs.state c.args.inputs.now) (g.F.Flash.state c.args.flash.now))
           (sources (g.I.Inputs.state c.read_stream.new.inputs) (g.F.Flash.state c.update.new.flash)) c.in-Err.fault (event_of c.refusal_of.result) c.refusal_of.ensures
           (c.update.ensures.only_uses.attached ∙ c.in_ok-open_flash.ensures.attached);
       asks = c.read_stream.ensures.asks.once;
@@ -134,7 +134,7 @@ pub returns-clause-flash : goal.returns-clause-flash
 returns-clause-flash g c =
     let i = g.I.Inputs in
     let first = g.F.Flash.state c.args.flash.now in
-    let stream = c.args.stream.now in
+    let stream = c.args.stream_name.now in
     let read = c.in_ok-read.read in
     let bytes = take (length c.deref.result.now - read.start) (drop read.start c.deref.result.now) in
     let old = i.state c.args.inputs.now in
@@ -145,9 +145,9 @@ returns-clause-flash g c =
 pub returns-in_err-open_flash-clause-flash : goal.returns-in_err-open_flash-clause-flash
 returns-in_err-open_flash-clause-flash g c =
     let f = g.F.Flash in
-    uses_opened c.args.flash_name.now c.args.stream.now (g.I.Inputs.state c.args.inputs.now) (f.state c.args.flash.now) (f.state c.open_flash.new.flash) (f.found_since c.args.flash.now) (f.found_since c.open_flash.new.flash) c.open_flash.ensures.stays c.open_flash.ensures.asks
+    uses_opened c.args.flash_name.now c.args.stream_name.now (g.I.Inputs.state c.args.inputs.now) (f.state c.args.flash.now) (f.state c.open_flash.new.flash) (f.found_since c.args.flash.now) (f.found_since c.open_flash.new.flash) c.open_flash.ensures.stays c.open_flash.ensures.asks
 
 pub returns-in_err-read-clause-flash : goal.returns-in_err-read-clause-flash
 returns-in_err-read-clause-flash g c =
     let f = g.F.Flash in
-    uses_opened c.args.flash_name.now c.args.stream.now (g.I.Inputs.state c.args.inputs.now) (f.state c.args.flash.now) (f.state c.open_flash.new.flash) (f.found_since c.args.flash.now) (f.found_since c.open_flash.new.flash) c.open_flash.ensures.stays c.open_flash.ensures.asks
+    uses_opened c.args.flash_name.now c.args.stream_name.now (g.I.Inputs.state c.args.inputs.now) (f.state c.args.flash.now) (f.state c.open_flash.new.flash) (f.found_since c.args.flash.now) (f.found_since c.open_flash.new.flash) c.open_flash.ensures.stays c.open_flash.ensures.asks

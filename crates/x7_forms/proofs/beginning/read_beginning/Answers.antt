@@ -69,7 +69,7 @@ pub returns-in_err-turn-clause-refused : goal.returns-in_err-turn-clause-refused
 returns-in_err-turn-clause-refused g c = rw (handed_on c.from_residual.result c.in_err-turn.field-0.0 c.from_residual.ensures) (let i = g.I.Inputs in
     let v = c.loop-bytes.invariant in
     let old = c.loop-bytes.bytes.items in
-    unread_turn (i.state c.args.inputs.now) (i.state c.loop-bytes.inputs) (i.state c.next_turn.new.inputs) c.args.stream.now old (stream_limit - c.len-left.result) (event_of c.in_err-turn.field-0.0)
+    unread_turn (i.state c.args.inputs.now) (i.state c.loop-bytes.inputs) (i.state c.next_turn.new.inputs) c.args.stream_name.now old (stream_limit - c.len-left.result) (event_of c.in_err-turn.field-0.0)
     (reads_by (i.state c.args.inputs.now) (i.state c.loop-bytes.inputs) old v.selected v.taken v.given v.asked v.inputs v.selects) (omega (arith, v.few, c.len-left.ensures)) c.next_turn.ensures.gives_few.asked
     (λ e. absurd (omega (arith, c.in_err-turn.ensures.refused.over e, v.few, c.len-left.ensures, v.piece, c.min-count.ensures, length-take-le c.min-count.result c.loop-bytes.piece (omega (arith, c.min-count.ensures, v.piece)))))
     (λ e. none_given (i.state c.args.inputs.now) (i.state c.loop-bytes.inputs) (i.state c.next_turn.new.inputs) old c.deref.result.now c.wanted.result (length (take c.min-count.result c.loop-bytes.piece)) c.wanted.ensures.not_zero

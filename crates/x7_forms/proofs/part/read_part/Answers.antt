@@ -42,3 +42,9 @@ returns-clause-named g c = no_part c.args.name.now c.in-Err.fault (event_of c.re
 
 pub returns-in_err-text-clause-named : goal.returns-in_err-text-clause-named
 returns-in_err-text-clause-named g c = rw (handed_on c.from_residual.result c.in_err-text.field-0.0 c.from_residual.ensures) (inl c.in_err-text.ensures.named)
+
+pub returns-in_err-text-clause-memory : goal.returns-in_err-text-clause-memory
+returns-in_err-text-clause-memory g c = rw (handed_on c.from_residual.result c.in_err-text.field-0.0 c.from_residual.ensures) c.in_err-text.ensures.memory
+
+pub returns-clause-memory : goal.returns-clause-memory
+returns-clause-memory g c = λ _. c.in_ok-text.ensures.open

@@ -1,7 +1,7 @@
 use Rattle.std.proofs.Common.{◌≡◌, ◌++◌, ℕ, List, [], append_assoc, append-nil, ap, length, take, length-append, length-take-le, arith, inr, refl, sym, ◌∙◌}
 use Rattle.x7_words.proofs.InputLemmas.{stays_at, stays_on}
 use Rattle.x7_forms.specs.Event.{event_of}
-use Rattle.x7_forms.proofs.ReadLemmas.{reads_none, reads_on, rest_unread}
+use Rattle.x7_forms.proofs.ReadLemmas.{reads_none, reads_on, rest_unread, turn_named}
 use Rattle.x7_forms.proofs.AskedLemmas.{gives_on}
 use Rattle.x7_forms.proofs.ResultLemmas.{handed_on}
 use Rattle.x7_forms.proofs.read.read_rest.Goals as goal
@@ -71,3 +71,10 @@ loop-turn-smaller g c = omega (arith, c.in_ok-turn.ensures.reads.fills c.if-turn
 
 pub next_turn-requires-clause-not_empty : goal.next_turn-requires-clause-not_empty
 next_turn-requires-clause-not_empty g c = omega (arith, c.loop-turn.invariant.piece)
+
+pub returns-in_err-turn-clause-memory : goal.returns-in_err-turn-clause-memory
+returns-in_err-turn-clause-memory g c = rw (handed_on c.from_residual.result c.in_err-turn.field-0.0 c.from_residual.ensures) (let i = g.I.Inputs in
+    λ e. absurd (turn_named (i.state c.loop-turn.inputs) (i.state c.next_turn.new.inputs) c.args.name.now c.loop-turn.left (event_of c.in_err-turn.field-0.0) c.in_err-turn.ensures.refused.unread e))
+
+pub returns-then-turn-clause-open : goal.returns-then-turn-clause-open
+returns-then-turn-clause-open g c = c.in_ok-turn.ensures.reads.takes.selected

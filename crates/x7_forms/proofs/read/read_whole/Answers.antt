@@ -3,7 +3,7 @@ use Rattle.x7_words.specs.Input.{RestIsWhole}
 use Rattle.x7_forms.specs.Event.{event_of}
 use Rattle.x7_forms.specs.Step.{CameIn, IsCaused, step_over}
 use Rattle.x7_forms.specs.Known.{whole_known, with_inputs}
-use Rattle.x7_forms.proofs.ReadLemmas.{open_refused, unopened_unread, want_unread, whole_read, whole_refused}
+use Rattle.x7_forms.proofs.ReadLemmas.{open_refused, unopened_named, unopened_unread, want_unread, whole_read, whole_refused}
 use Rattle.x7_forms.proofs.AskedLemmas.{asks_opened, asks_read}
 use Rattle.x7_forms.proofs.ResultLemmas.{handed_on}
 use Rattle.x7_forms.proofs.read.read_whole.Goals as goal
@@ -47,3 +47,13 @@ returns-clause-asks g c = asks_read _ _ _ c.args.name.now c.args.limit c.open.en
 
 pub returns-in_err-read_rest-clause-asks : goal.returns-in_err-read_rest-clause-asks
 returns-in_err-read_rest-clause-asks g c = asks_read _ _ _ c.args.name.now c.args.limit c.open.ensures.asks c.read_rest.ensures.gives_few
+
+pub returns-in_err-open-clause-memory : goal.returns-in_err-open-clause-memory
+returns-in_err-open-clause-memory g c = rw (handed_on c.from_residual.result c.in_err-open.field-0.0 c.from_residual.ensures) (let i = g.I.Inputs in
+    λ e. absurd (unopened_named (i.state c.args.inputs.now) (i.state c.open.new.inputs) c.args.name.now (event_of c.in_err-open.field-0.0) c.in_err-open.ensures.refused e))
+
+pub returns-in_err-read_rest-clause-memory : goal.returns-in_err-read_rest-clause-memory
+returns-in_err-read_rest-clause-memory g c = rw (handed_on c.from_residual-in_err-read_rest.result c.in_err-read_rest.field-0.0 c.from_residual-in_err-read_rest.ensures) c.in_err-read_rest.ensures.memory
+
+pub returns-clause-open : goal.returns-clause-open
+returns-clause-open g c = c.in_ok-read_rest.ensures.open

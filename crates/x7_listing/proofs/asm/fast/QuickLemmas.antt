@@ -2,10 +2,10 @@
 use Rattle.std.proofs.Math.Seq.{drop-nil}
 use Rattle.std.proofs.Common.{◌≡◌, ℕ, zero, suc, ◌+◌, ◌-◌, ◌<◌, ◌≤◌, List, [], ◌∷◌, ◌++◌, length, map, fold, take, drop, get_or, refl, ap, sym, subst, ◌∙◌, arith, append_assoc, append-nil, length-append, length-drop, length-take, take_all, Vec, vec_len, vec_capacity}
 use Rattle.std.proofs.lemmas.Grind.{flat_map-append}
-use Rattle.std.proofs.lemmas.List.{drop-append-le, drop_more, take-append-drop, take-append-le}
+use Rattle.std.proofs.lemmas.List.{drop-append-le, drop_more, take-append-drop, take-append-le, map-append}
 use Rattle.std.proofs.lemmas.List.Sums.{fold-append}
 use Rattle.std.specs.List.{AllByRecursion, flat_map}
-use Rattle.x7_words.proofs.ListLemmas.{all_append, map_append}
+use Rattle.x7_words.proofs.ListLemmas.{all_append}
 use Rattle.x7_crc.specs.Checker.{check_of_bytes}
 use Rattle.x7_crc.proofs.CheckerLemmas.{still_keeps}
 use Rattle.std.specs.declared.alloc.Global.{Global}
@@ -98,7 +98,7 @@ goes_quick all left text rest new old k n c room t limit e g =
       went = record {
         lines = g.went.lines ++ t.lines;
         begins = record {
-          texts = g.went.begins.texts ∙ sym (append_assoc (map text_of g.went.lines) (map text_of t.lines) left) ∙ ap (λ s. s ++ left) (sym (map_append text_of g.went.lines t.lines));
+          texts = g.went.begins.texts ∙ sym (append_assoc (map text_of g.went.lines) (map text_of t.lines) left) ∙ ap (λ s. s ++ left) (sym (map-append text_of g.went.lines t.lines));
           fits = all_append FitsLine g.went.lines t.lines g.went.begins.fits t.fit;
           within = subst (λ (b : List ℕ). length b ≤ 67108864 - start) now within;
         };

@@ -19,7 +19,7 @@ use Rattle.x7_text.specs.Row.{spaced}
 use Rattle.x7_text.proofs.FewLemmas.{hex_prefix}
 use Rattle.x7_text.proofs.WordLemmas.{hex_words}
 use Rattle.x7_listing.specs.Assembling.{AppendsFirstLines}
-use Rattle.x7_listing.specs.Fast.AtOnce.{words_in_row}
+use Rattle.x7_listing.specs.Fast.Looking.{words_in_row}
 use Rattle.x7_listing.specs.Line.{Bytes, Data}
 use Rattle.x7_listing.proofs.asm.fast.QuickLemmas.{takes_line}
 

@@ -1,7 +1,7 @@
 -- The two lines of a write of one word, read at once by a row of a table.
-use Rattle.std.proofs.Common.{◌≡◌, ◌==◌, ℕ, zero, suc, ◌+◌, ◌-◌, ◌%◌, ◌^◌, ◌<◌, ◌≤◌, Bool, true, false, not, cond, w8, List, [], ◌∷◌, ◌++◌, codes, get_or, length, take, drop, map, refl, ap, sym, ◌∙◌, arith, inl, inr, append_assoc, append-nil, length-append, take-add}
+use Rattle.std.proofs.Common.{◌≡◌, ℕ, ◌+◌, ◌-◌, ◌%◌, ◌^◌, ◌<◌, ◌≤◌, Bool, not, cond, w8, List, [], ◌∷◌, ◌++◌, codes, get_or, length, take, drop, map, refl, ap, sym, ◌∙◌, arith, inl, inr, append_assoc, append-nil, length-append, take-add}
 use Rattle.std.specs.List.{prefix_len}
-use Rattle.std.proofs.lemmas.Bool.{cases_eq, eqb-true}
+use Rattle.std.proofs.lemmas.Bool.{cases_eq}
 use Rattle.std.proofs.lemmas.Fmt.{decimal_digit}
 use Rattle.std.proofs.lemmas.List.{drop_more, length-take-le, map-id, take-append-drop, take-take}
 use Rattle.std.proofs.lemmas.Simd.{leading_from_mask_l, length-chunk, length-zip2, mask_l-mod, tops_compared, trailing_mask_l}
@@ -13,22 +13,14 @@ use Rattle.x7_regs.specs.Register.{reg_name, reg_number_count}
 use Rattle.x7_text.specs.Digits.{hex_word}
 use Rattle.x7_packets.specs.PacketWords.{type1_write_header}
 use Rattle.x7_listing.specs.Assembling.{AppendsFirstLines}
-use Rattle.x7_listing.specs.Fast.AtOnce.{command_lines_text, bytes_differ, write_line_text, write_start_text}
+use Rattle.x7_listing.specs.Fast.AtOnce.{command_lines_text, write_line_text, write_start_text}
+use Rattle.x7_listing.specs.Fast.Looking.{bytes_differ}
 use Rattle.x7_listing.specs.Line.{Line, Data, Write, line_bytes, text_of, cmd_line, ended_text}
 use Rattle.x7_listing.proofs.asm.fast.QuickLemmas.{dropped_twice}
 use Rattle.x7_listing.proofs.line.LineTextLemmas.{Listed, cmd_stands, IsLineOf}
+use Rattle.x7_text.proofs.PrefixLemmas.{same_so_far}
 
 -- ---- as many bytes are the same as come before the first that differs
-
-same_step : (b : Bool) (n r x y : ℕ) (xs ys : List ℕ) → (b ≡ true → x ≡ y) → suc n ≤ cond (not (not b)) (1 + r) 0 → (n ≤ r → take n xs ≡ take n ys) → x ∷ take n xs ≡ y ∷ take n ys
-same_step true n r x y xs ys e h more = let s = e refl in ap (λ (k : ℕ). k ∷ take n xs) s ∙ ap (λ t. y ∷ t) (more (omega (arith, h)))
-same_step false n r x y xs ys e h more = absurd (omega (arith, h))
-
-same_prefix : (n : ℕ) (xs ys : List ℕ) → n ≤ prefix_len (λ b. not b) (zip2 bytes_differ xs ys) → take n xs ≡ take n ys
-same_prefix zero xs ys h = refl
-same_prefix (suc n) [] ys h = absurd (omega (arith, h))
-same_prefix (suc n) (x ∷ xs) [] h = absurd (omega (arith, h))
-same_prefix (suc n) (x ∷ xs) (y ∷ ys) h = same_step (x == y) n (prefix_len (λ b. not b) (zip2 bytes_differ xs ys)) x y xs ys (eqb-true x y) h (same_prefix n xs ys)
 
 few_set : (n m : ℕ) (ds : List Bool) → length ds ≡ 32 → n ≤ 32 → m ≡ mask_l ds → n ≤ count_trailing_zeros 64 m → n ≤ prefix_len (λ b. not b) ds
 few_set n m ds long few e h =
@@ -42,7 +34,7 @@ pub same_by_mask : (n m : ℕ) (text row : List ℕ) → 32 ≤ length text → 
 same_by_mask n m text row long full few e h =
     let ours : length (chunk 0 32 text) ≡ 32 = length-chunk 0 32 text long in
     let size : length (zip2 bytes_differ (chunk 0 32 text) row) ≡ 32 = length-zip2 bytes_differ (chunk 0 32 text) row (ours ∙ sym full) ∙ ours in
-    sym (take-take n 32 text few) ∙ same_prefix n (chunk 0 32 text) row (few_set n m (zip2 bytes_differ (chunk 0 32 text) row) size few e h)
+    sym (take-take n 32 text few) ∙ same_so_far n (chunk 0 32 text) row (few_set n m (zip2 bytes_differ (chunk 0 32 text) row) size few e h)
 
 pub mask_of : (xs ys : List ℕ) → length xs ≡ 32 → length ys ≡ 32 → mask_l (map (top (hbits w8)) (zip2 (λ a b. cond (bytes_differ a b) (2 ^ bits w8 - 1) 0) xs ys)) % 2 ^ 64 ≡ mask_l (zip2 bytes_differ xs ys)
 mask_of xs ys e f = ap (λ ms. mask_l ms % 2 ^ 64) (tops_compared w8 bytes_differ xs ys) ∙ mask_l-mod (zip2 bytes_differ xs ys) 64 (omega (arith, length-zip2 bytes_differ xs ys (e ∙ sym f), e))

@@ -1,5 +1,6 @@
-use Rattle.x7_listing.proofs.OutcomeLemmas.{err_side, ok_side, stream_outcome}
+use Rattle.x7_listing.proofs.OutcomeLemmas.{stream_outcome}
 use Rattle.x7_listing.proofs.assembler.assemble.Goals as goal
+use Rattle.x7_words.proofs.CaseLemmas.{ok_side, err_side}
 
 pub returns-clause-bytes : goal.returns-clause-bytes
 returns-clause-bytes c = ok_side c.read_lines.result _ _ (c.read_lines.ensures.read c.new.ensures)

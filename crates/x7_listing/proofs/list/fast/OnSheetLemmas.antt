@@ -46,7 +46,7 @@ small_code Ltimer = omega arith
 small_code BspiRead = omega arith
 small_code FallEdge = omega arith
 
--- the lines of a write to CMD of a word that is no small one
+-- the lines of a write to CMD of a word from 32 on
 pub far_command : (shown : List ℕ) (line register w : ℕ) → register ≡ 4 → 32 ≤ w → ((shown ++ (close line ++ write_start_text register)) ++ hex_word w) ++ 10 ∷ [] ≡ shown ++ (close line ++ command_lines_text w)
 far_command shown line register w e far =
     let listed : ended_text (cmd_line w) ≡ codes "data " ++ hex_word w ++ 10 ∷ [] = no_command_line w (λ f. absurd (omega (arith, f, far, small_code (command_by w)))) in

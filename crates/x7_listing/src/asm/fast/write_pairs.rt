@@ -1,4 +1,4 @@
-//! A write of one word read at once: its two lines are compared with a row of the tables that list writes them from.
+//! A write of one word read at once: its two lines are compared with a row of the tables from which they are listed.
 //! `None` promises nothing: what is left is read line by line.
 ghost use Rattle.std.specs.Prelude.{◌≡◌, ◌<◌, ◌≤◌, ◌+◌, take, IfSome};
 ghost use Rattle.std.specs.Simd.Lanes.{chunk, mask_l, zip2};
@@ -6,8 +6,8 @@ ghost use Rattle.x7_text.specs.Appends.{HasSpareRoom};
 ghost use Rattle.x7_text.specs.Row.{bytes_row_size};
 ghost use Rattle.x7_regs.specs.Register.{reg_number_count};
 ghost use Rattle.x7_regs.specs.Command.{command_code_count};
-ghost use Rattle.x7_listing.specs.Fast.AtOnce.{bytes_differ, row_text};
-ghost use Rattle.x7_listing.specs.Fast.Looking.{AppendsFoundLines};
+ghost use Rattle.x7_listing.specs.Fast.AtOnce.{row_text};
+ghost use Rattle.x7_listing.specs.Fast.Looking.{AppendsFoundLines, bytes_differ};
 
 use super::quick::{LOOK_SIZE, WholeLines};
 use crate::asm::reading::put_two_words;
@@ -17,8 +17,9 @@ use x7_packets::type1_write_header;
 use x7_regs::Reg;
 use x7_text::word_of_hex;
 
-/// The factor by which the first four bytes of a name give its place in a table of 64, the highest six bits of the
-/// product: no two registers have one place, nor two commands. `bench/name_tables.py` makes the tables.
+/// The factor by which the first four bytes of a name, as a number whose lowest byte is the first, give its place in a
+/// table of 64: the highest six of the product's low 32 bits. No two registers have one place, nor two commands.
+/// `bench/name_tables.py` makes the tables.
 const SPREAD_FACTOR: u32 = 0x3F20_35EB;
 
 /// Where the register's name stands in a line `write NAME 1`.

@@ -1,5 +1,6 @@
-//! Short runs, listed at once on a sheet: writes of one word and of up to sixteen, a few no-ops, and
-//! a short gap with the sync word after it.
+//! Short runs, listed at once on a sheet: writes of one word and of up to sixteen, a few no-ops, and a short gap with
+//! the sync word after it. Here `len` is how many bytes of text the sheet has, and `in_line` how many words stand in
+//! the open line, 0 where none is open.
 ghost use Rattle.std.specs.Prelude.{◌≡◌, ℕ, ◌+◌, ◌*◌, ◌<◌, ◌≤◌, List, [], ◌∷◌, ◌++◌, IfNone, IfSome, decimal, length, take, vec_len, vec_capacity};
 ghost use Rattle.x7_packets.specs.AtOnce.{EndsGap, WritesOne, WritesShort, longest_gap_and_sync, longest_short_write, most_short_words, short_gap_room};
 ghost use Rattle.x7_packets.specs.Cutter.{CutterState};
@@ -44,7 +45,8 @@ struct TextEnd {
     in_line: OpenWords,
 }
 
-/// Puts the end of an open line of `in_line` words, and nothing where none is open.
+/// Puts the end of an open line of `in_line` words, and nothing where none is open. Gives how many bytes of text the
+/// sheet has then.
 #[inline(always)]
 fn put_close(sheet: &mut [u8; SHEET_SIZE], len: usize, in_line: usize) -> usize
     requires room { len + 1 ≤ SHEET_SIZE }
@@ -57,7 +59,8 @@ fn put_close(sheet: &mut [u8; SHEET_SIZE], len: usize, in_line: usize) -> usize
     put_whole(sheet, len, b"\n")
 }
 
-/// Puts the lines of a write of a word to CMD, after an open line of `in_line` words.
+/// Puts the lines of a write of a word to CMD, after an open line of `in_line` words. Gives how many bytes of text the
+/// sheet has then.
 #[inline(always)]
 fn put_command(sheet: &mut [u8; SHEET_SIZE], len: usize, in_line: usize, word: u32) -> usize
     requires room { len + one_write_lines_size ≤ SHEET_SIZE }
@@ -102,7 +105,7 @@ fn put_write_lines(
     }
 }
 
-/// Puts a count of one or two digits, the first of two being 1, and the end of its line.
+/// Puts a count below 20 and the end of its line. Gives how many bytes of text the sheet has then.
 #[inline(always)]
 fn put_count(sheet: &mut [u8; SHEET_SIZE], len: usize, count: usize) -> usize
     requires two_digits { count < 20 }
@@ -126,7 +129,8 @@ struct ShortWrite {
     ghost short: { count ≤ most_short_words },
 }
 
-/// Puts the line of the header of a short write, after an open line of `in_line` words.
+/// Puts the line of the header of a short write, after an open line of `in_line` words. Gives how many bytes of text
+/// the sheet has then.
 #[inline(always)]
 fn put_head(sheet: &mut [u8; SHEET_SIZE], len: usize, in_line: usize, write: ShortWrite) -> usize
     requires room { len + head_line_size ≤ SHEET_SIZE }
@@ -177,7 +181,8 @@ fn put_words(sheet: &mut [u8; SHEET_SIZE], len: usize, bytes: &[u8; 64], count: 
     put_in_row(sheet, start, &rows[1], count - 8)
 }
 
-/// Puts the lines of a short gap and of the sync word after it.
+/// Puts the lines of a gap, which is the first `count` of these bytes, and of the sync word after it. Gives how many
+/// bytes of text the sheet has then.
 #[inline(always)]
 fn put_bytes_and_sync(
     sheet: &mut [u8; SHEET_SIZE],
@@ -206,7 +211,7 @@ struct PutRun {
     size: usize,
 }
 
-/// Puts the lines of a write of one word, which was taken of the cutter.
+/// Puts the lines of a write of one word, which the cutter took.
 #[inline(always)]
 fn put_one_write(
     sheet: &mut [u8; SHEET_SIZE],
@@ -299,7 +304,7 @@ fn put_few_nops(
     }
 }
 
-/// Puts the lines of a gap after a session and of the sync word after it, which begin these bytes.
+/// Puts the lines of a gap of `count` bytes after a session and of the sync word after it, both of which begin `rest`.
 #[inline(always)]
 fn put_gap(
     sheet: &mut [u8; SHEET_SIZE],
@@ -323,7 +328,7 @@ fn put_gap(
     }
 }
 
-/// Takes the short run that comes next, if one does, and puts its lines.
+/// Takes a short run that comes next, and puts its lines. `None`: none was taken, though one may come.
 #[inline(always)]
 fn take_next(
     sheet: &mut [u8; SHEET_SIZE],
@@ -355,14 +360,14 @@ fn take_next(
     Some(put_gap(sheet, len, in_line, count, rest))
 }
 
-/// The first byte of a write's header whose reserved bits are 0.
+/// The first byte of a type 1 write's header whose reserved bits are 0.
 const WRITE_BYTE: u8 = 0x30;
 
 /// The first byte of the no-op.
 const NO_OP_BYTE: u8 = 0x20;
 
-/// Whether a short run of a session may come next, by its first byte: that of a write's header or of a no-op. What comes
-/// is looked at by `take_next`.
+/// Whether a short run of a session may come next, by its first byte: that of a type 1 write's header or of a no-op.
+/// What comes is looked at by `take_next`.
 #[inline(always)]
 fn short_run_may_come(rest: &[u8]) -> bool {
     let [first, ..] = rest else {
@@ -379,8 +384,8 @@ pub(crate) struct Taken {
     pub(crate) size: usize,
 }
 
-/// Takes the short runs of a session that come next, one after another, and appends their lines, which are put on the
-/// sheet first. `None` where no short run comes next.
+/// Takes short runs of a session that come next, one after another, and appends their lines, which are put on the sheet
+/// first. `None`: none was taken, though one may come.
 #[inline(always)]
 pub(crate) fn take_short(
     text: &mut Vec<u8>,

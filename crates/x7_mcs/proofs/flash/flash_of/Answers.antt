@@ -1,8 +1,9 @@
 use Rattle.std.proofs.Common.{ap, ◌∙◌}
 use Rattle.x7_mcs.specs.Flash.{mcs_of}
 use Rattle.x7_mcs.proofs.BackLemmas.{text_gives}
-use Rattle.x7_mcs.proofs.OutcomeLemmas.{back_of, err_side, ok_side}
+use Rattle.x7_mcs.proofs.OutcomeLemmas.{back_of}
 use Rattle.x7_mcs.proofs.flash.flash_of.Goals as goal
+use Rattle.x7_words.proofs.CaseLemmas.{ok_side, err_side}
 
 pub returns-clause-bytes : goal.returns-clause-bytes
 returns-clause-bytes c = ok_side c.read_lines.result _ _ (c.read_lines.ensures.read c.new.ensures)

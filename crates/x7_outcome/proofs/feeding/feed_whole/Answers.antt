@@ -4,7 +4,7 @@ use Rattle.x7_words.proofs.InputLemmas.{once_on, preceded_nil, stays_on}
 use Rattle.x7_forms.specs.Event.{event_of}
 use Rattle.x7_forms.specs.Known.{text_limit}
 use Rattle.x7_forms.specs.Step.{CameIn, step_over}
-use Rattle.x7_forms.proofs.ReadLemmas.{at_on, at_open, open_refused, turn_refused, whole_read, turn_unread, unopened_unread}
+use Rattle.x7_forms.proofs.ReadLemmas.{at_on, at_open, open_refused, turn_refused, whole_read, turn_named, turn_unread, unopened_named, unopened_unread}
 use Rattle.x7_outcome.proofs.FeedLemmas.{taken_more}
 use Rattle.x7_forms.proofs.AskedLemmas.{asks_opened, asks_turn}
 use Rattle.x7_forms.proofs.ResultLemmas.{handed_on}
@@ -117,3 +117,10 @@ overflow_sub-left g c = c.in_ok-turn.ensures.reads.within_limit
 
 pub loop-read-smaller : goal.loop-read-smaller
 loop-read-smaller g c = omega (arith, c.in_ok-turn.ensures.reads.fills c.if-turn.false, c.next_turn.ensures.length, c.loop-read.invariant.piece, c.in_ok-turn.ensures.reads.within_limit)
+
+pub returns-in_err-open-clause-memory : goal.returns-in_err-open-clause-memory
+returns-in_err-open-clause-memory g c = rw (handed_on c.from_residual.result c.in_err-open.field-0.0 c.from_residual.ensures) (unopened_named (g.I.Inputs.state c.args.inputs.now) (g.I.Inputs.state c.open.new.inputs) c.args.name.now (event_of c.in_err-open.field-0.0) c.in_err-open.ensures.refused)
+
+pub returns-in_err-turn-clause-memory : goal.returns-in_err-turn-clause-memory
+returns-in_err-turn-clause-memory g c = rw (handed_on c.from_residual-in_err-turn.result c.in_err-turn.field-0.0 c.from_residual-in_err-turn.ensures)
+    (turn_named (g.I.Inputs.state c.loop-read.inputs) (g.I.Inputs.state c.next_turn.new.inputs) c.args.name.now c.loop-read.left (event_of c.in_err-turn.field-0.0) c.in_err-turn.ensures.refused.unread)

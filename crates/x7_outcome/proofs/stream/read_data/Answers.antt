@@ -15,3 +15,6 @@ returns-clause-caused g c =
     let i = g.I.Inputs in
     let name = c.args.name.now in
     subst (λ (content : List ℕ). AnswersAs (step_over (name ∷ []) (i.state c.args.inputs.now) (i.state c.read_stream.new.inputs)) (λ known. stream_data known name) (Ok content)) (sym c.into_data.ensures) c.in_ok-stream.ensures.caused
+
+pub returns-in_err-stream-clause-memory : goal.returns-in_err-stream-clause-memory
+returns-in_err-stream-clause-memory g c = rw (handed_on c.from_residual.result c.in_err-stream.field-0.0 c.from_residual.ensures) c.in_err-stream.ensures.memory

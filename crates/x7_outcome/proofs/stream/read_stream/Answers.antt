@@ -1,7 +1,7 @@
 use Rattle.std.proofs.Common.{◌≡◌, ◌≤◌, ◌∷◌, [], ℕ, List, Ok, Err, drop, length, inl, subst}
 use Rattle.x7_forms.specs.Event.{event_of}
 use Rattle.x7_forms.specs.Known.{data_in, stream_limit, whole_known}
-use Rattle.x7_forms.proofs.ReadLemmas.{answers_stop, header_refused}
+use Rattle.x7_forms.proofs.ReadLemmas.{answers_stop, header_named, header_refused}
 use Rattle.x7_forms.proofs.ResultLemmas.{handed_on}
 use Rattle.x7_outcome.proofs.StreamLemmas.{data_read}
 use Rattle.x7_outcome.proofs.stream.read_stream.Goals as goal
@@ -35,3 +35,12 @@ returns-clause-caused g c =
 
 pub returns-clause-within : goal.returns-clause-within
 returns-clause-within g c = subst (λ (x : List ℕ). c.in_ok-start.start ≤ length x) c.deref.ensures.value c.in_ok-start.ensures.within
+
+pub returns-clause-whole : goal.returns-clause-whole
+returns-clause-whole g c = c.in_ok-bytes.ensures.caused
+
+pub returns-in_err-bytes-clause-memory : goal.returns-in_err-bytes-clause-memory
+returns-in_err-bytes-clause-memory g c = rw (handed_on c.from_residual.result c.in_err-bytes.field-0.0 c.from_residual.ensures) c.in_err-bytes.ensures.memory
+
+pub returns-in_err-start-clause-memory : goal.returns-in_err-start-clause-memory
+returns-in_err-start-clause-memory g c = rw (handed_on c.from_residual-in_err-start.result c.in_err-start.field-0.0 c.from_residual-in_err-start.ensures) (λ e. absurd (header_named c.args.name.now c.deref.result.now (event_of c.in_err-start.field-0.0) c.in_err-start.ensures.data e))

@@ -5,4 +5,4 @@ use Rattle.x7_regs.proofs.named.command_named.Goals as goal
 
 pub returns-clause-unnamed : goal.returns-clause-unnamed
 returns-clause-unnamed c =
-    no_command c.args.text.now _ _ _ (c.from.ensures ∙ c.at_place-code.ensures) c.command_of-command.ensures (c.bytes.ensures.value ∙ c.command_text.ensures) (λ e. grind (arith, common_steps))
+    no_command c.args.text.now _ _ _ (c.from.ensures ∙ c.at_place-code.ensures) c.command_of-command.ensures (c.bytes.ensures.value ∙ c.command_name.ensures) (λ e. grind (arith, common_steps))

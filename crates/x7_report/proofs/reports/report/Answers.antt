@@ -1,5 +1,5 @@
 use Rattle.std.proofs.Common.{◌++◌, ap, List, ℕ, refl, ◌∙◌}
-use Rattle.x7_engine.specs.declared.regs.Regs.{Regs}
+use Rattle.x7_engine.specs.declared.snapshot.Snapshot.{Snapshot}
 use Rattle.x7_engine.specs.Past.{past_of}
 use Rattle.x7_engine.specs.State.{memory_of_bytes}
 use Rattle.x7_report.specs.Reports.{report_text, state_reported}
@@ -16,4 +16,4 @@ returns-clause-owing c = λ part kept wrapped bytes s.
 
 pub returns-clause-value : goal.returns-clause-value
 returns-clause-value c = λ part kept wrapped bytes s none.
-    returns-clause-owing c part kept wrapped bytes s ∙ ap (λ (x : Regs). report_text part x c.args.reads.now (memory_of_bytes part kept bytes)) (owing_none part kept wrapped bytes c.args.device.now none)
+    returns-clause-owing c part kept wrapped bytes s ∙ ap (λ (x : Snapshot). report_text part x c.args.reads.now (memory_of_bytes part kept bytes)) (owing_none part kept wrapped bytes c.args.device.now none)

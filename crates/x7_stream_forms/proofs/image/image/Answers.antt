@@ -17,8 +17,8 @@ pub returns : goal.returns
 returns g c =
     let old = g.I.Inputs.state c.args.inputs.now in
     let new = g.I.Inputs.state c.read_streams.new.inputs in
-    let golden = c.args.golden.now in
-    let update = c.args.update.now in
+    let golden = c.args.golden_name.now in
+    let update = c.args.update_name.now in
     let streams = streams_of c.in_ok-streams.streams in
     let made = c.image_by_bytes.result in
     record {
@@ -33,8 +33,8 @@ returns g c =
 pub returns-in_err-streams : goal.returns-in_err-streams
 returns-in_err-streams g c = rw (handed_on c.from_residual.result c.in_err-streams.field-0.0 c.from_residual.ensures) (let old = g.I.Inputs.state c.args.inputs.now in
     let new = g.I.Inputs.state c.read_streams.new.inputs in
-    let golden = c.args.golden.now in
-    let update = c.args.update.now in
+    let golden = c.args.golden_name.now in
+    let update = c.args.update_name.now in
     let event = event_of c.in_err-streams.field-0.0 in
     record {
       caused = answers_stop ImageStreams Answer (golden ∷ update ∷ []) (golden ∷ update ∷ []) old new (λ t. image_streams t golden update) (λ t. image_by update 1) event (λ n h. h) c.in_err-streams.ensures.caused;

@@ -19,9 +19,9 @@ use Rattle.x7_stream_forms.proofs.image.image_for.Goals as goal
 pub returns-in_err-part : goal.returns-in_err-part
 returns-in_err-part g c = rw (handed_on c.from_residual.result c.in_err-part.field-0.0 c.from_residual.ensures) (let old = g.I.Inputs.state c.args.inputs.now in
     let new = g.I.Inputs.state c.read_part.new.inputs in
-    let part = c.args.part.now in
-    let golden = c.args.golden.now in
-    let update = c.args.update.now in
+    let part = c.args.part_name.now in
+    let golden = c.args.golden_name.now in
+    let update = c.args.update_name.now in
     let event = event_of c.in_err-part.field-0.0 in
     record {
       caused = answers_stop PartData Answer (part ∷ []) (part ∷ golden ∷ update ∷ []) old new (λ t. part_known t part) (λ t p. and_so (image_streams t golden update) (image_by update p.start_unit)) event (first_of part (golden ∷ update ∷ [])) c.in_err-part.ensures.caused;
@@ -35,9 +35,9 @@ returns g c =
     let old = g.I.Inputs.state c.args.inputs.now in
     let mid = g.I.Inputs.state c.read_part.new.inputs in
     let new = g.I.Inputs.state c.read_streams.new.inputs in
-    let part = c.args.part.now in
-    let golden = c.args.golden.now in
-    let update = c.args.update.now in
+    let part = c.args.part_name.now in
+    let golden = c.args.golden_name.now in
+    let update = c.args.update_name.now in
     let known = c.in_ok-part.part in
     let streams = streams_of c.in_ok-streams.streams in
     let made = c.image_by_part.result in
@@ -57,9 +57,9 @@ pub returns-in_err-streams : goal.returns-in_err-streams
 returns-in_err-streams g c = rw (handed_on c.from_residual-in_err-streams.result c.in_err-streams.field-0.0 c.from_residual-in_err-streams.ensures) (let old = g.I.Inputs.state c.args.inputs.now in
     let mid = g.I.Inputs.state c.read_part.new.inputs in
     let new = g.I.Inputs.state c.read_streams.new.inputs in
-    let part = c.args.part.now in
-    let golden = c.args.golden.now in
-    let update = c.args.update.now in
+    let part = c.args.part_name.now in
+    let golden = c.args.golden_name.now in
+    let update = c.args.update_name.now in
     let event = event_of c.in_err-streams.field-0.0 in
     let asks = few_on old mid new 1 2 c.read_part.ensures.asks.once c.read_streams.ensures.asks in
     record {

@@ -14,15 +14,15 @@ use Rattle.x7_stream_forms.proofs.image.read_streams.Goals as goal
 
 pub returns-in_err-golden-clause-caused : goal.returns-in_err-golden-clause-caused
 returns-in_err-golden-clause-caused g c = rw (handed_on c.from_residual.result c.in_err-golden.field-0.0 c.from_residual.ensures) (let i = g.I.Inputs in
-    let golden = c.args.golden.now in
-    let update = c.args.update.now in
+    let golden = c.args.golden_name.now in
+    let update = c.args.update_name.now in
     answers_stop (List ℕ) ImageStreams (golden ∷ []) (golden ∷ update ∷ []) (i.state c.args.inputs.now) (i.state c.read_stream.new.inputs) (λ t. stream_data t golden)
     (λ t first. and_so (stream_data t update) (λ second. Ok (record { golden = first; update = second }))) (event_of c.in_err-golden.field-0.0) (first_of golden (update ∷ [])) c.in_err-golden.ensures.caused)
 
 pub returns-in_err-update-clause-caused : goal.returns-in_err-update-clause-caused
 returns-in_err-update-clause-caused g c = rw (handed_on c.from_residual-in_err-update.result c.in_err-update.field-0.0 c.from_residual-in_err-update.ensures) (let i = g.I.Inputs in
-    let golden = c.args.golden.now in
-    let update = c.args.update.now in
+    let golden = c.args.golden_name.now in
+    let update = c.args.update_name.now in
     let event = event_of c.in_err-update.field-0.0 in
     let first = data_from c.in_ok-golden.golden in
     answers_go (List ℕ) ImageStreams (golden ∷ []) (update ∷ []) (golden ∷ update ∷ []) (i.state c.args.inputs.now) (i.state c.read_stream.new.inputs) (i.state c.read_stream-2.new.inputs) (λ t. stream_data t golden)
@@ -31,22 +31,22 @@ returns-in_err-update-clause-caused g c = rw (handed_on c.from_residual-in_err-u
 
 pub returns-in_err-golden-clause-stops : goal.returns-in_err-golden-clause-stops
 returns-in_err-golden-clause-stops g c = rw (handed_on c.from_residual.result c.in_err-golden.field-0.0 c.from_residual.ensures)
-    (about_among (limited stream_limit c.args.golden.now ∷ limited stream_limit c.args.update.now ∷ []) [] (limited stream_limit c.args.golden.now) (limited stream_limit c.args.update.now ∷ []) (g.I.Inputs.state c.args.inputs.now)
+    (about_among (limited stream_limit c.args.golden_name.now ∷ limited stream_limit c.args.update_name.now ∷ []) [] (limited stream_limit c.args.golden_name.now) (limited stream_limit c.args.update_name.now ∷ []) (g.I.Inputs.state c.args.inputs.now)
     (g.I.Inputs.state c.read_stream.new.inputs) (event_of c.in_err-golden.field-0.0) refl c.read_stream.ensures.asks.last c.read_stream.ensures.asks.once
-    (unplayed_about c.args.golden.now (event_of c.in_err-golden.field-0.0) c.in_err-golden.ensures.named))
+    (unplayed_about c.args.golden_name.now (event_of c.in_err-golden.field-0.0) c.in_err-golden.ensures.named))
 
 pub returns-in_err-update-clause-stops : goal.returns-in_err-update-clause-stops
 returns-in_err-update-clause-stops g c = rw (handed_on c.from_residual-in_err-update.result c.in_err-update.field-0.0 c.from_residual-in_err-update.ensures)
-    (about_among (limited stream_limit c.args.golden.now ∷ limited stream_limit c.args.update.now ∷ []) (limited stream_limit c.args.golden.now ∷ []) (limited stream_limit c.args.update.now) [] (g.I.Inputs.state c.args.inputs.now)
+    (about_among (limited stream_limit c.args.golden_name.now ∷ limited stream_limit c.args.update_name.now ∷ []) (limited stream_limit c.args.golden_name.now ∷ []) (limited stream_limit c.args.update_name.now) [] (g.I.Inputs.state c.args.inputs.now)
     (g.I.Inputs.state c.read_stream-2.new.inputs) (event_of c.in_err-update.field-0.0) refl c.read_stream-2.ensures.asks.last
     (both_asked (g.I.Inputs.state c.args.inputs.now) (g.I.Inputs.state c.read_stream.new.inputs) (g.I.Inputs.state c.read_stream-2.new.inputs) c.read_stream.ensures.asks.once c.read_stream-2.ensures.asks.once)
-    (unplayed_about c.args.update.now (event_of c.in_err-update.field-0.0) c.in_err-update.ensures.named))
+    (unplayed_about c.args.update_name.now (event_of c.in_err-update.field-0.0) c.in_err-update.ensures.named))
 
 pub returns-clause-caused : goal.returns-clause-caused
 returns-clause-caused g c =
     let i = g.I.Inputs in
-    let golden = c.args.golden.now in
-    let update = c.args.update.now in
+    let golden = c.args.golden_name.now in
+    let update = c.args.update_name.now in
     let first = data_from c.in_ok-golden.golden in
     let second = data_from c.in_ok-update.update in
     let got : Result ImageStreams Event = Ok (record { golden = first; update = second }) in

@@ -34,15 +34,15 @@ returns-in_err-open g c = rw (handed_on c.from_residual.result c.in_err-open.fie
     let o = g.O.Sink in
     let old = record before { inputs = i.state c.args.inputs.now; out = o.state c.args.out.now } in
     let new = record after { inputs = i.state c.open.new.inputs; out = o.state c.args.out.now } in
-    let stream = c.args.stream.now in
+    let stream = c.args.stream_name.now in
     let event = event_of c.in_err-open.field-0.0 in
     let asks = asks_opened (i.state c.args.inputs.now) (i.state c.open.new.inputs) stream stream_limit c.open.ensures.asks in
     record {
       ends = list_ends stream old new (Err event) (unopened old.inputs new.inputs old.flash.bytes stream (SinkFails old.out new.out) old.out.written event c.in_err-open.ensures.refused c.open.ensures.asks.named)
           (stays_near event stream old new (unopened_near old.inputs.contents stream new.inputs.rest old.out.written new.out.written old.inputs new.inputs stream event c.open.ensures.asks.named (same_now old.out) c.in_err-open.ensures.refused));
-      stops = first_stops (Listing c.args.stream.now) (limited stream_limit c.args.stream.now) [] (g.I.Inputs.state c.args.inputs.now) (g.I.Inputs.state c.open.new.inputs)
+      stops = first_stops (Listing c.args.stream_name.now) (limited stream_limit c.args.stream_name.now) [] (g.I.Inputs.state c.args.inputs.now) (g.I.Inputs.state c.open.new.inputs)
           (event_of c.in_err-open.field-0.0) refl asks.last asks.once
-          (unopened_about (g.I.Inputs.state c.args.inputs.now) (g.I.Inputs.state c.open.new.inputs) c.args.stream.now (event_of c.in_err-open.field-0.0) c.in_err-open.ensures.refused);
+          (unopened_about (g.I.Inputs.state c.args.inputs.now) (g.I.Inputs.state c.open.new.inputs) c.args.stream_name.now (event_of c.in_err-open.field-0.0) c.in_err-open.ensures.refused);
       judges = tt;
       asks = asks.once;
       stays = asks.stays;
@@ -54,7 +54,7 @@ returns-in_err-beginning g c = rw (handed_on c.from_residual-in_err-beginning.re
     let o = g.O.Sink in
     let old = record before { inputs = i.state c.args.inputs.now; out = o.state c.args.out.now } in
     let new = record after { inputs = i.state c.read_beginning.new.inputs; out = o.state c.args.out.now } in
-    let stream = c.args.stream.now in
+    let stream = c.args.stream_name.now in
     let event = event_of c.in_err-beginning.field-0.0 in
     let asks = asks_read (i.state c.args.inputs.now) (i.state c.open.new.inputs) (i.state c.read_beginning.new.inputs) stream stream_limit c.open.ensures.asks c.read_beginning.ensures.gives_few in
     record {
@@ -63,9 +63,9 @@ returns-in_err-beginning g c = rw (handed_on c.from_residual-in_err-beginning.re
           (stays_near event stream old new (without_prefix_near old.inputs.contents stream new.inputs.rest old.out.written new.out.written
           (i.state c.open.new.inputs) new.inputs stream event refl c.in_ok-open.ensures.opened.found c.open.ensures.asks.named c.read_beginning.ensures.short
           (same_now old.out) c.in_err-beginning.ensures.refused));
-      stops = first_stops (Listing c.args.stream.now) (limited stream_limit c.args.stream.now) [] (g.I.Inputs.state c.args.inputs.now) (g.I.Inputs.state c.read_beginning.new.inputs)
+      stops = first_stops (Listing c.args.stream_name.now) (limited stream_limit c.args.stream_name.now) [] (g.I.Inputs.state c.args.inputs.now) (g.I.Inputs.state c.read_beginning.new.inputs)
           (event_of c.in_err-beginning.field-0.0) refl
-          asks.last asks.once (without_prefix_about (g.I.Inputs.state c.open.new.inputs) (g.I.Inputs.state c.read_beginning.new.inputs) c.args.stream.now
+          asks.last asks.once (without_prefix_about (g.I.Inputs.state c.open.new.inputs) (g.I.Inputs.state c.read_beginning.new.inputs) c.args.stream_name.now
           (event_of c.in_err-beginning.field-0.0) c.in_err-beginning.ensures.refused);
       judges = tt;
       asks = asks.once;
@@ -78,7 +78,7 @@ returns-in_err-put_beginning g c = rw (handed_on c.from_residual-in_err-put_begi
     let o = g.O.Sink in
     let contents = (i.state c.args.inputs.now).contents in
     let old = (o.state c.args.out.now).written in
-    let stream = c.args.stream.now in
+    let stream = c.args.stream_name.now in
     let C = CameIn (step_over (stream ∷ []) (i.state c.args.inputs.now) (i.state c.read_beginning.new.inputs)) in
     let given = (i.state c.read_beginning.new.inputs).given in
     let f = c.in_ok-beginning.ensures.begins in
@@ -114,7 +114,7 @@ returns-in_err-put_beginning g c = rw (handed_on c.from_residual-in_err-put_begi
           (record after { inputs = i.state c.read_beginning.new.inputs; out = o.state c.put_beginning.new.out }) (Err r) (end c.in_err-put_beginning.ensures.refused)
           (stays_near r stream (record before { inputs = i.state c.args.inputs.now; out = o.state c.args.out.now })
           (record after { inputs = i.state c.read_beginning.new.inputs; out = o.state c.put_beginning.new.out }) near);
-      stops = prefix_stops (Listing c.args.stream.now) (g.I.Inputs.state c.args.inputs.now) (g.I.Inputs.state c.read_beginning.new.inputs) (event_of c.in_err-put_beginning.field-0.0) c.in_err-put_beginning.ensures.refused;
+      stops = prefix_stops (Listing c.args.stream_name.now) (g.I.Inputs.state c.args.inputs.now) (g.I.Inputs.state c.read_beginning.new.inputs) (event_of c.in_err-put_beginning.field-0.0) c.in_err-put_beginning.ensures.refused;
       judges = tt;
       asks = asks.once;
       stays = asks.stays;
@@ -126,7 +126,7 @@ returns-then-beginning g c = λ before after.
     let o = g.O.Sink in
     let contents = (i.state c.args.inputs.now).contents in
     let old = (o.state c.args.out.now).written in
-    let stream = c.args.stream.now in
+    let stream = c.args.stream_name.now in
     let C = CameIn (step_over (stream ∷ []) (i.state c.args.inputs.now) (i.state c.read_beginning.new.inputs)) in
     let given = (i.state c.read_beginning.new.inputs).given in
     let f = c.in_ok-beginning.ensures.begins in
@@ -170,7 +170,7 @@ returns-then-beginning g c = λ before after.
     let asks = asks_read (i.state c.args.inputs.now) (i.state c.open.new.inputs) (i.state c.read_beginning.new.inputs) stream stream_limit c.open.ensures.asks c.read_beginning.ensures.gives_few in
     record {
       ends = list_seen stream first later c.put_short.result ok err near;
-      stops = written_stops _ _ (Listing c.args.stream.now) (g.I.Inputs.state c.args.inputs.now) (g.I.Inputs.state c.read_beginning.new.inputs) c.put_short.result c.put_short.ensures.refused;
+      stops = written_stops _ _ (Listing c.args.stream_name.now) (g.I.Inputs.state c.args.inputs.now) (g.I.Inputs.state c.read_beginning.new.inputs) c.put_short.result c.put_short.ensures.refused;
       judges = tt;
       asks = asks.once;
       stays = asks.stays;
@@ -183,7 +183,7 @@ returns-in_err-turn g c = rw (handed_on c.from_residual-in_err-turn.result c.in_
     let v = c.loop-lister.invariant in
     let old = record before { inputs = i.state c.args.inputs.now; out = o.state c.args.out.now } in
     let new = record after { inputs = i.state c.next_turn.new.inputs; out = o.state c.loop-lister.out } in
-    let stream = c.args.stream.now in
+    let stream = c.args.stream_name.now in
     let event = event_of c.in_err-turn.field-0.0 in
     let t = v.known.1.1 in
     let asks = asks_turn (i.state c.args.inputs.now) (i.state c.loop-lister.inputs) (i.state c.next_turn.new.inputs) stream v.known.0 stream_limit c.loop-lister.left v.known.1.3 v.known.1.2 v.once v.inputs c.next_turn.ensures.gives_few in
@@ -193,11 +193,11 @@ returns-in_err-turn g c = rw (handed_on c.from_residual-in_err-turn.result c.in_
           v.inputs v.known.1.0 v.known.1.3 v.known.1.1 v.known.1.2 c.in_err-turn.ensures.refused.unread c.next_turn.ensures.gives_few.asked)
           (stays_near event stream old new (unread_near old.inputs.contents stream new.inputs.rest old.out.written new.out.written (i.state c.loop-lister.inputs) new.inputs stream v.known.0 c.loop-lister.lister c.loop-lister.left event refl v.known.1.0 t
           (omega (arith, v.known.1.3.given, c.next_turn.ensures.gives_a_turn.given, v.piece)) (λ e. omega (arith, c.in_err-turn.ensures.refused.over e, v.piece)) (same_now (o.state c.loop-lister.out)) c.in_err-turn.ensures.refused.unread));
-      stops = let v = c.loop-lister.invariant in first_stops (Listing c.args.stream.now) (limited stream_limit c.args.stream.now) [] (g.I.Inputs.state c.args.inputs.now)
+      stops = let v = c.loop-lister.invariant in first_stops (Listing c.args.stream_name.now) (limited stream_limit c.args.stream_name.now) [] (g.I.Inputs.state c.args.inputs.now)
           (g.I.Inputs.state c.next_turn.new.inputs) (event_of c.in_err-turn.field-0.0) refl
           asks.last asks.once
-          (unread_about c.args.stream.now (event_of c.in_err-turn.field-0.0)
-          (turn_unread (g.I.Inputs.state c.loop-lister.inputs) (g.I.Inputs.state c.next_turn.new.inputs) c.args.stream.now c.loop-lister.left
+          (unread_about c.args.stream_name.now (event_of c.in_err-turn.field-0.0)
+          (turn_unread (g.I.Inputs.state c.loop-lister.inputs) (g.I.Inputs.state c.next_turn.new.inputs) c.args.stream_name.now c.loop-lister.left
           (event_of c.in_err-turn.field-0.0) c.in_err-turn.ensures.refused.unread));
       judges = tt;
       asks = asks.once;
@@ -210,7 +210,7 @@ returns-in_err-put_turn g c = rw (handed_on c.from_residual-in_err-put_turn.resu
     let o = g.O.Sink in
     let contents = (i.state c.args.inputs.now).contents in
     let old = (o.state c.args.out.now).written in
-    let stream = c.args.stream.now in
+    let stream = c.args.stream_name.now in
     let C = CameIn (step_over (stream ∷ []) (i.state c.args.inputs.now) (i.state c.next_turn.new.inputs)) in
     let given = (i.state c.next_turn.new.inputs).given in
     let v = c.loop-lister.invariant in
@@ -247,7 +247,7 @@ returns-in_err-put_turn g c = rw (handed_on c.from_residual-in_err-put_turn.resu
           (record after { inputs = i.state c.next_turn.new.inputs; out = o.state c.put_turn.new.out }) (Err r) (end c.in_err-put_turn.ensures.refused)
           (stays_near r stream (record before { inputs = i.state c.args.inputs.now; out = o.state c.args.out.now }) (record after { inputs = i.state c.next_turn.new.inputs; out = o.state c.put_turn.new.out })
           (unwritten_near contents stream rest old now _ given r gives near (why_weaker c.in_err-put_turn.ensures.refused)));
-      stops = put_stops (Listing c.args.stream.now) (g.I.Inputs.state c.args.inputs.now) (g.I.Inputs.state c.next_turn.new.inputs) (event_of c.in_err-put_turn.field-0.0) c.in_err-put_turn.ensures.refused;
+      stops = put_stops (Listing c.args.stream_name.now) (g.I.Inputs.state c.args.inputs.now) (g.I.Inputs.state c.next_turn.new.inputs) (event_of c.in_err-put_turn.field-0.0) c.in_err-put_turn.ensures.refused;
       judges = tt;
       asks = asks.once;
       stays = asks.stays;
@@ -259,7 +259,7 @@ returns-then-turn g c = λ before after.
     let o = g.O.Sink in
     let contents = (i.state c.args.inputs.now).contents in
     let old = (o.state c.args.out.now).written in
-    let stream = c.args.stream.now in
+    let stream = c.args.stream_name.now in
     let C = CameIn (step_over (stream ∷ []) (i.state c.args.inputs.now) (i.state c.next_turn.new.inputs)) in
     let given = (i.state c.next_turn.new.inputs).given in
     let v = c.loop-lister.invariant in
@@ -312,7 +312,7 @@ returns-then-turn g c = λ before after.
     let asks = asks_turn (i.state c.args.inputs.now) (i.state c.loop-lister.inputs) (i.state c.next_turn.new.inputs) stream v.known.0 stream_limit c.loop-lister.left v.known.1.3 v.known.1.2 v.once v.inputs c.next_turn.ensures.gives_few in
     record {
       ends = list_seen stream (record before { inputs = i.state c.args.inputs.now; out = o.state c.args.out.now }) (record after { inputs = i.state c.next_turn.new.inputs; out = o.state c.put_end.new.out }) c.put_end.result ok err close;
-      stops = written_stops _ _ (Listing c.args.stream.now) (g.I.Inputs.state c.args.inputs.now) (g.I.Inputs.state c.next_turn.new.inputs) c.put_end.result c.put_end.ensures.refused;
+      stops = written_stops _ _ (Listing c.args.stream_name.now) (g.I.Inputs.state c.args.inputs.now) (g.I.Inputs.state c.next_turn.new.inputs) c.put_end.result c.put_end.ensures.refused;
       judges = tt;
       asks = asks.once;
       stays = asks.stays;
@@ -324,7 +324,7 @@ loop-lister-preserved g c =
     let o = g.O.Sink in
     let contents = (i.state c.args.inputs.now).contents in
     let old = (o.state c.args.out.now).written in
-    let stream = c.args.stream.now in
+    let stream = c.args.stream_name.now in
     let v = c.loop-lister.invariant in
     let taken = v.known.0 in
     let t = v.known.1.1 in
@@ -360,7 +360,7 @@ loop-lister-init g c =
     let o = g.O.Sink in
     let contents = (i.state c.args.inputs.now).contents in
     let old = (o.state c.args.out.now).written in
-    let stream = c.args.stream.now in
+    let stream = c.args.stream_name.now in
     let now = i.state c.read_beginning.new.inputs in
     let f = c.in_ok-beginning.ensures.begins in
     let taken = c.in_ok-beginning.beginning.bytes.items in

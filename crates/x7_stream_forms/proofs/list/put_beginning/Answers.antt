@@ -2,11 +2,12 @@ use Rattle.std.proofs.Common.{[], sym, ◌∙◌}
 use Rattle.std.proofs.lemmas.Result.{on_ok_weaker}
 use Rattle.x7_words.specs.Sink.{appended}
 use Rattle.x7_forms.proofs.ResultLemmas.{err_weaker, from_ok}
-use Rattle.x7_stream_forms.proofs.TurnLemmas.{begins_after, line_prefix, line_part}
+use Rattle.x7_stream_forms.proofs.TurnLemmas.{begins_after, line_prefix}
 use Rattle.x7_stream_forms.proofs.list.put_beginning.Goals as goal
+use Rattle.x7_words.proofs.SinkLemmas.{begins_more}
 
 pub returns-then-is_err-clause-prefix : goal.returns-then-is_err-clause-prefix
-returns-then-is_err-clause-prefix g c = λ rest fits. line_part (g.O.Sink.state c.args.out.now).written (g.O.Sink.state c.write_all.new.sink).written c.args.line.now _ c.write_all.ensures.prefix
+returns-then-is_err-clause-prefix g c = λ rest fits. begins_more (g.O.Sink.state c.args.out.now).written (g.O.Sink.state c.write_all.new.sink).written c.args.line.now _ c.write_all.ensures.prefix
 
 pub returns-clause-listed : goal.returns-clause-listed
 returns-clause-listed g c =

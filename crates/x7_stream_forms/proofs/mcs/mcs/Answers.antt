@@ -16,7 +16,7 @@ use Rattle.x7_stream_forms.proofs.mcs.mcs.Goals as goal
 pub returns-in_err-bytes : goal.returns-in_err-bytes
 returns-in_err-bytes g c = rw (handed_on c.from_residual.result c.in_err-bytes.field-0.0 c.from_residual.ensures) (let old = g.I.Inputs.state c.args.inputs.now in
     let new = g.I.Inputs.state c.read_whole.new.inputs in
-    let name = c.args.image.now in
+    let name = c.args.image_name.now in
     let event = event_of c.in_err-bytes.field-0.0 in
     record {
       caused = answers_stop (List ℕ) Answer (name ∷ []) (name ∷ []) old new (λ t. whole_known t flash_limit name) (λ t xs. Ok (record { stopped = false; text = mcs_text xs })) event (λ n h. h) c.in_err-bytes.ensures.caused;
@@ -29,7 +29,7 @@ pub returns : goal.returns
 returns g c =
     let old = g.I.Inputs.state c.args.inputs.now in
     let new = g.I.Inputs.state c.read_whole.new.inputs in
-    let name = c.args.image.now in
+    let name = c.args.image_name.now in
     let whole : List ℕ → Answer = λ text. record { stopped = false; text = text } in
     record {
       caused = answers_end (List ℕ) Answer (name ∷ []) old new (λ t. whole_known t flash_limit name) (λ xs. Ok (whole (mcs_text xs))) c.in_ok-bytes.bytes.items (Ok (whole (mcs_text c.in_ok-new.field-0))) (whole_steady flash_limit name) c.in_ok-bytes.ensures.caused
@@ -43,4 +43,4 @@ pub returns-in_err-new : goal.returns-in_err-new
 returns-in_err-new g c = rw (want_seen mcs_answer c.from_residual-in_err-new.result c.from_residual-in_err-new.ensures)
     (let old = g.I.Inputs.state c.args.inputs.now in
     let new = g.I.Inputs.state c.read_whole.new.inputs in
-    record { caused = λ flash. inl (inl refl); stops = want_stops (ToMcs c.args.image.now) old new no_memory refl; asks = c.read_whole.ensures.asks.once; stays = c.read_whole.ensures.asks.stays })
+    record { caused = λ flash. inl (inl refl); stops = want_stops (ToMcs c.args.image_name.now) old new no_memory refl; asks = c.read_whole.ensures.asks.once; stays = c.read_whole.ensures.asks.stays })

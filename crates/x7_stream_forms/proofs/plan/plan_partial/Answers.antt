@@ -16,21 +16,21 @@ use Rattle.x7_stream_forms.proofs.plan.plan_partial.Goals as goal
 pub returns-in_err-part : goal.returns-in_err-part
 returns-in_err-part g c = rw (handed_on c.from_residual.result c.in_err-part.field-0.0 c.from_residual.ensures) (let i = g.I.Inputs in
     record {
-      caused = part_refused c.args.part.now c.args.frames.now (i.state c.args.inputs.now) (i.state c.read_part.new.inputs) (i.state c.read_part.new.inputs) (PlannedPartial c.args.frames.now) (λ x. refl) (event_of c.in_err-part.field-0.0) c.in_err-part.ensures.caused;
-      stops = first_stops (PlanningPartial c.args.part.now c.args.frames.now) (limited part_limit c.args.part.now) (limited text_limit c.args.frames.now ∷ []) (g.I.Inputs.state c.args.inputs.now)
+      caused = part_refused c.args.part_name.now c.args.frames_name.now (i.state c.args.inputs.now) (i.state c.read_part.new.inputs) (i.state c.read_part.new.inputs) (PlannedPartial c.args.frames_name.now) (λ x. refl) (event_of c.in_err-part.field-0.0) c.in_err-part.ensures.caused;
+      stops = first_stops (PlanningPartial c.args.part_name.now c.args.frames_name.now) (limited part_limit c.args.part_name.now) (limited text_limit c.args.frames_name.now ∷ []) (g.I.Inputs.state c.args.inputs.now)
           (g.I.Inputs.state c.read_part.new.inputs) (event_of c.in_err-part.field-0.0) refl c.read_part.ensures.asks.last c.read_part.ensures.asks.once
-          (no_part_about c.args.part.now (event_of c.in_err-part.field-0.0) c.in_err-part.ensures.named);
-      asks = first_asked c.args.part.now (c.args.frames.now ∷ []) (g.I.Inputs.state c.args.inputs.now) (g.I.Inputs.state c.read_part.new.inputs) c.read_part.ensures.asks.once;
+          (no_part_about c.args.part_name.now (event_of c.in_err-part.field-0.0) c.in_err-part.ensures.named);
+      asks = first_asked c.args.part_name.now (c.args.frames_name.now ∷ []) (g.I.Inputs.state c.args.inputs.now) (g.I.Inputs.state c.read_part.new.inputs) c.read_part.ensures.asks.once;
       stays = c.read_part.ensures.asks.stays;
     })
 
 pub returns-in_err-plan : goal.returns-in_err-plan
 returns-in_err-plan g c = rw (handed_on c.from_residual-in_err-plan.result c.in_err-plan.field-0.0 c.from_residual-in_err-plan.ensures) (let i = g.I.Inputs in
     record {
-      caused = plan_refused c.args.part.now c.args.frames.now (i.state c.args.inputs.now) (i.state c.read_part.new.inputs) (i.state c.read_plan.new.inputs) (PlannedPartial c.args.frames.now) (λ x. refl) c.in_ok-part.part (event_of c.in_err-plan.field-0.0)
+      caused = plan_refused c.args.part_name.now c.args.frames_name.now (i.state c.args.inputs.now) (i.state c.read_part.new.inputs) (i.state c.read_plan.new.inputs) (PlannedPartial c.args.frames_name.now) (λ x. refl) c.in_ok-part.part (event_of c.in_err-plan.field-0.0)
           c.read_part.ensures.asks.stays c.in_ok-part.ensures.caused (λ text h. inl h) c.in_err-plan.ensures.caused;
-      stops = among_stops (PlanningPartial c.args.part.now c.args.frames.now) (g.I.Inputs.state c.args.inputs.now) (g.I.Inputs.state c.read_plan.new.inputs) (event_of c.in_err-plan.field-0.0)
-          (stops_after (limited part_limit c.args.part.now) (limited text_limit c.args.frames.now ∷ []) (g.I.Inputs.state c.args.inputs.now) (g.I.Inputs.state c.read_part.new.inputs) (g.I.Inputs.state c.read_plan.new.inputs)
+      stops = among_stops (PlanningPartial c.args.part_name.now c.args.frames_name.now) (g.I.Inputs.state c.args.inputs.now) (g.I.Inputs.state c.read_plan.new.inputs) (event_of c.in_err-plan.field-0.0)
+          (stops_after (limited part_limit c.args.part_name.now) (limited text_limit c.args.frames_name.now ∷ []) (g.I.Inputs.state c.args.inputs.now) (g.I.Inputs.state c.read_part.new.inputs) (g.I.Inputs.state c.read_plan.new.inputs)
           (event_of c.in_err-plan.field-0.0) c.read_part.ensures.asks.once c.in_err-plan.ensures.stops);
       asks = both_asked (g.I.Inputs.state c.args.inputs.now) (g.I.Inputs.state c.read_part.new.inputs) (g.I.Inputs.state c.read_plan.new.inputs) c.read_part.ensures.asks.once c.read_plan.ensures.asks;
       stays = stays_on _ _ _ c.read_part.ensures.asks.stays c.read_plan.ensures.inputs;
@@ -41,10 +41,10 @@ returns g c =
     let i = g.I.Inputs in
     let t = c.in_ok-plan.ensures.caused in
     record {
-      caused = planned_end c.args.part.now c.args.frames.now (i.state c.args.inputs.now) (i.state c.read_part.new.inputs) (i.state c.read_plan.new.inputs) (PlannedPartial c.args.frames.now) (λ x. refl) c.in_ok-part.part t.0 (result_by bytes_answer c.partial_text.result)
-          c.read_part.ensures.asks.stays c.in_ok-part.ensures.caused t.1 (partial_ended c.args.frames.now c.in_ok-part.part t.0 c.in_ok-plan.plan c.partial_text.result t.2 c.partial_text.ensures.text c.partial_text.ensures.refused);
-      stops = result_stops bytes_answer (PlanningPartial c.args.part.now c.args.frames.now) (g.I.Inputs.state c.args.inputs.now) (g.I.Inputs.state c.read_plan.new.inputs) c.partial_text.result
-          (err_weaker c.partial_text.result (λ r a. second_stops (PlanningPartial c.args.part.now c.args.frames.now) (limited part_limit c.args.part.now) (limited text_limit c.args.frames.now) [] (g.I.Inputs.state c.args.inputs.now)
+      caused = planned_end c.args.part_name.now c.args.frames_name.now (i.state c.args.inputs.now) (i.state c.read_part.new.inputs) (i.state c.read_plan.new.inputs) (PlannedPartial c.args.frames_name.now) (λ x. refl) c.in_ok-part.part t.0 (result_by bytes_answer c.partial_text.result)
+          c.read_part.ensures.asks.stays c.in_ok-part.ensures.caused t.1 (partial_ended c.args.frames_name.now c.in_ok-part.part t.0 c.in_ok-plan.plan c.partial_text.result t.2 c.partial_text.ensures.text c.partial_text.ensures.refused);
+      stops = result_stops bytes_answer (PlanningPartial c.args.part_name.now c.args.frames_name.now) (g.I.Inputs.state c.args.inputs.now) (g.I.Inputs.state c.read_plan.new.inputs) c.partial_text.result
+          (err_weaker c.partial_text.result (λ r a. second_stops (PlanningPartial c.args.part_name.now c.args.frames_name.now) (limited part_limit c.args.part_name.now) (limited text_limit c.args.frames_name.now) [] (g.I.Inputs.state c.args.inputs.now)
           (g.I.Inputs.state c.read_plan.new.inputs) (event_of r) refl c.in_ok-plan.ensures.last_asked
           (omega (arith, c.read_part.ensures.asks.once, c.read_plan.ensures.asks)) a) c.partial_text.ensures.named);
       asks = both_asked (g.I.Inputs.state c.args.inputs.now) (g.I.Inputs.state c.read_part.new.inputs) (g.I.Inputs.state c.read_plan.new.inputs) c.read_part.ensures.asks.once c.read_plan.ensures.asks;

@@ -18,12 +18,12 @@ runs-init c = record {
   first = λ part kept wrapped bytes s k l. absurd (omega (arith, l));
 }
 
--- no stop, by what says so
+-- where the question whether there is a stop is answered with no, there is none
 going_on : (o stop : Option StopCause) → o ≡ stop → is_some o ≡ false → None ≡ stop
 going_on None stop e none = e
 going_on (Some why) stop e none = absurd cc
 
--- a stop
+-- what holds for each cause of a stop holds where there is a stop
 by_stop : (o : Option StopCause) (P : Type 0) → is_some o ≡ true → ((why : StopCause) → o ≡ Some why → P) → P
 by_stop None P e f = absurd cc
 by_stop (Some why) P e f = f why refl
@@ -41,7 +41,7 @@ pub returns-then-is_some-clause-no_word_due : goal.returns-then-is_some-clause-n
 returns-then-is_some-clause-no_word_due c = λ part kept wrapped bytes s.
     by_stop c.stop.result (NoWordDue c.runs.self) (sym c.is_some.ensures ∙ c.if-is_some.true) (λ why e. (c.runs.invariant.takes.stands part kept wrapped bytes s).none_due_at_stop why (sym c.stop.ensures ∙ e))
 
--- the buffer is never full
+-- no word stays due with a dropping buffer, which is never full
 none_full : (n : ℕ) (b : ReadBufState) → b.most ≡ None → (0 < n → IsFull b) → n ≡ 0
 none_full zero b e f = refl
 none_full (suc n) b e f = absurd (subst (λ (o : Option ℕ). IsFullBy o (length b.words)) e (f (omega arith)))

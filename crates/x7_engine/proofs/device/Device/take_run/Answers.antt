@@ -14,6 +14,7 @@ use Rattle.x7_engine.proofs.FrameLemmas.{no_word_due}
 use Rattle.x7_engine.proofs.PastLemmas.{each_by_fields, past_later}
 use Rattle.x7_engine.proofs.UntilLemmas.{prefix_commands, run_commands}
 use Rattle.x7_engine.proofs.device.Device.take_run.Goals as goal
+use Rattle.x7_packets.proofs.StreamLemmas.{need_goes}
 
 pub take_run-left-requires-clause-holds : goal.take_run-left-requires-clause-holds
 take_run-left-requires-clause-holds c =
@@ -84,15 +85,6 @@ invariant_of-self c = record {
   past = past_later c.args.self.now (device_after c) (run_taken c) (turn_taken c).takes (subst HasSomePast c.self.view_is c.self.invariant.past);
 }
 
--- a run that says that the piece is used up leaves nothing of it, and tells of no word; any other comes nearer to that
-all_used : (run : Cut) (left before after : ℕ) → IsNeed run → ComesNearer run left before after → left ≡ 0
-all_used Need left before after n g = g
-all_used (Skip bytes) left before after n g = absurd n
-all_used Sync left before after n g = absurd n
-all_used (Head w step) left before after n g = absurd n
-all_used (Word register w) left before after n g = absurd n
-all_used (Body register bytes) left before after n g = absurd n
-
 tells_nothing : (run : Cut) → IsNeed run → HasNoWord run
 tells_nothing Need n = tt
 tells_nothing (Skip bytes) n = tt
@@ -122,7 +114,7 @@ returns c = record {
       let done = c.is_done.ensures.yes e in
       let going : c.take_run-left.new.self.stop ≡ None = done.1 in
       let need : IsNeed c.cut-run.result = c.is_need-used_up.ensures.0 done.0 in
-      let all : length c.args.piece.now - c.cut-run.new.at ≡ 0 = all_used c.cut-run.result _ _ _ need c.cut-run.ensures.nearer in
+      let all : length c.args.piece.now - c.cut-run.new.at ≡ 0 = need_goes c.cut-run.result _ _ _ need c.cut-run.ensures.nearer in
       record {
         all = omega (arith, all, c.cut-run.ensures.within, c.take_run-left.ensures.left.goes_on going);
         going = going;

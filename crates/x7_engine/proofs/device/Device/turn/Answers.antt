@@ -1,8 +1,8 @@
 use Rattle.std.proofs.Common.{ℕ, subst, arith}
-use Rattle.x7_engine.proofs.DeviceLemmas.{one_sync}
 use Rattle.x7_engine.specs.Standing.{DeviceState}
 use Rattle.x7_engine.specs.Turns.{TurnAnswers}
 use Rattle.x7_engine.proofs.device.Device.turn.Goals as goal
+use Rattle.x7_packets.proofs.StreamLemmas.{one_sync}
 
 pub returns-then-take_write : goal.returns-then-take_write
 returns-then-take_write c = record {

@@ -3,9 +3,9 @@ use Rattle.std.proofs.lemmas.Bool.Decides.{nat_tests}
 use Rattle.std.proofs.lemmas.List.{length-take-le}
 use Rattle.x7_engine.specs.Standing.{DeviceState}
 use Rattle.x7_engine.specs.Turns.{TurnTakes, TurnMoves}
-use Rattle.x7_engine.proofs.DeviceLemmas.{one_sync}
 use Rattle.x7_engine.proofs.UntilLemmas.{in_slice, turn_first}
 use Rattle.x7_engine.proofs.device.Device.turn_until_started.Goals as goal
+use Rattle.x7_packets.proofs.StreamLemmas.{one_sync}
 
 -- a turn over the first bytes of a piece is one over the piece
 slice_turned : (old new : DeviceState) (piece : List ℕ) (end from to : ℕ) → end ≤ length piece → TurnMoves old new (take end piece) from to → TurnMoves old new piece from to

@@ -3,8 +3,8 @@ use Rattle.x7_words.specs.Word.{words_of_bytes}
 use Rattle.x7_packets.specs.History.{History}
 use Rattle.x7_crc.specs.Check.{check_after, writes_to}
 use Rattle.x7_engine.proofs.PlainLemmas.{AreFlags, IsQuiet, clears_none, flags_stay, quiet_is}
-use Rattle.x7_engine.proofs.RunningLemmas.{check_all_folded}
 use Rattle.x7_engine.proofs.progress.Progress.pass_all.Goals as goal
+use Rattle.x7_crc.proofs.CheckerLemmas.{check_all_folded}
 
 pub returns : goal.returns
 returns c = λ idcode h n s.

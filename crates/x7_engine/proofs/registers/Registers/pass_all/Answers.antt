@@ -8,10 +8,10 @@ use Rattle.x7_part.specs.Part.{PartData}
 use Rattle.x7_flow.specs.Standing.{FramesFit}
 use Rattle.x7_engine.specs.declared.kept.Kept.{Kept}
 use Rattle.x7_engine.specs.Standing.{AreLastWords, IsProgress, RegistersStandFor, RegistersState, controls_in, counted_in, due_count, progress_in, registers_in}
-use Rattle.x7_engine.proofs.BodyLemmas.{length_of_words}
 use Rattle.x7_engine.proofs.FrameLemmas.{plain_are, ticks_on, none_among}
 use Rattle.x7_engine.proofs.PlainLemmas.{Clocked, IsPlain, clocked_all, controls_stay, counted_after, prefix_all, plain_is, plain_none, words_prefix}
 use Rattle.x7_engine.proofs.registers.Registers.pass_all.Goals as goal
+use Rattle.x7_words.proofs.WordLemmas.{words_count}
 
 until_stands : (part : PartData) (kept : Kept) (d : RegistersState) (all prefix : History) (m : ℕ) → all ≡ prefix → RegistersStandFor part kept d prefix m → RegistersStandFor part kept d all m
 until_stands part kept d all prefix m e s = subst (λ (h : History). RegistersStandFor part kept d h m) (sym e) s
@@ -33,7 +33,7 @@ returns c = record {
       let k : ℕ = c.counted_in.result / 4 in
       let p : IsPlain c.args.plain.register = plain_is c.args.plain.register c.args.plain.plain in
       let t : RegistersStandFor part kept (registers_in c.take_bytes-left.new.self) h m = c.take_bytes-left.ensures.enters kept h n s in
-      let words : length ws ≡ length bytes / 4 = length_of_words bytes in
+      let words : length ws ≡ length bytes / 4 = words_count bytes in
       let within : c.counted_in.result ≤ length bytes - left = c.counted_in.ensures.within in
       let few : k ≤ length ws = omega (arith, words, within) in
       let prefix : List ℕ = take k ws in

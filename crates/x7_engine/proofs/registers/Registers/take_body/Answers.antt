@@ -9,7 +9,7 @@ use Rattle.x7_engine.specs.Standing.{RegistersStandFor, counted_in, registers_in
 use Rattle.x7_engine.proofs.DataLemmas.{rest_entered}
 use Rattle.x7_engine.proofs.registers.Registers.take_body.Goals as goal
 
--- of some bytes at least one is taken, at once or after those
+-- of some bytes at least one is taken, at once or after those that were taken at once
 some_taken : (k r size : ℕ) → (0 < size - k → 0 < r) → 0 < size → 0 < k + r
 some_taken zero r size f l = let some : 0 < r = f (omega (arith, l)) in omega (arith, some)
 some_taken (suc k) r size f l = omega arith

@@ -14,13 +14,13 @@ use Rattle.x7_engine.specs.Course.{course_at}
 use Rattle.x7_engine.specs.Clock.{ClockState, ClockTakes, clock_in, newest_place}
 use Rattle.x7_engine.specs.Standing.{AreLastWords, IsProgress, controls_in, progress_in, registers_in}
 use Rattle.x7_engine.specs.Watching.{first_firing}
-use Rattle.x7_engine.proofs.BodyLemmas.{length_of_words}
 use Rattle.x7_engine.proofs.DataLemmas.{data_none, data_quiet, given}
 use Rattle.x7_engine.proofs.FiringLemmas.{firing_less, ticks_quiet}
 use Rattle.x7_engine.proofs.FrameLemmas.{frames_none, standing_frames, none_among}
 use Rattle.x7_engine.proofs.PlainLemmas.{Clocked, IsQuiet, clocked_all, controls_stay, words_prefix}
 use Rattle.x7_engine.proofs.TurnLemmas.{newest_within, ticked}
 use Rattle.x7_engine.proofs.registers.Registers.take_frame_words.Goals as goal
+use Rattle.x7_words.proofs.WordLemmas.{words_count}
 
 pub returns : goal.returns
 returns c = record {
@@ -46,7 +46,7 @@ returns c = record {
       let inner : length (take (b * 4) bytes) ≡ b * 4 = length-take-le (b * 4) bytes (omega (arith, c.before_firing.ensures.within)) in
       let few : k ≤ b = omega (arith, inner, c.count_taken-taken.ensures.within, c.write_bytes-count.ensures.within) in
       let same : take k looked ≡ prefix = ap (take k) (words_prefix b bytes) ∙ take-take k b (words_of_bytes bytes) few ∙ sym (words_prefix k bytes) in
-      let size : length prefix ≡ k = length_of_words (take (k * 4) bytes) ∙ omega (arith, length-take-le (k * 4) bytes (omega (arith, few, c.before_firing.ensures.within))) in
+      let size : length prefix ≡ k = words_count (take (k * 4) bytes) ∙ omega (arith, length-take-le (k * 4) bytes (omega (arith, few, c.before_firing.ensures.within))) in
       let newest : newest_place h ≤ n = newest_within n h s.places in
       let none : first_firing part kept h n (k * 4) ≡ None = firing_less part kept h n (k * 4) c.before_firing.result (omega (arith, few)) (c.before_firing.ensures.none_fires kept h n newest s.clock) in
       let ticks : ClockTakes (course_at part kept h n) clock (k * 4) None = ticks_quiet part kept clock h n (k * 4) c.bytes.result none (c.bytes.ensures.takes kept h n newest s.clock) in

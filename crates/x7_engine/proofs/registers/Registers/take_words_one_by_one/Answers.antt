@@ -4,9 +4,10 @@ use Rattle.x7_words.specs.Word.{words_of_bytes}
 use Rattle.x7_engine.specs.Standing.{RegistersStandFor, registers_in}
 use Rattle.x7_regs.specs.Register.{number_of}
 use Rattle.x7_engine.specs.declared.stop.StopCause.{StopCause}
-use Rattle.x7_engine.proofs.BodyLemmas.{chunk_word, chunks_are, length_of_words, word_after, word_on, words_all}
+use Rattle.x7_engine.proofs.BodyLemmas.{chunk_word, chunks_are, word_after, word_on, words_all}
 use Rattle.x7_engine.proofs.TurnLemmas.{none_there}
 use Rattle.x7_engine.proofs.registers.Registers.take_words_one_by_one.Goals as goal
+use Rattle.x7_words.proofs.WordLemmas.{words_count}
 
 pub loop-word-init : goal.loop-word-init
 loop-word-init c = record {
@@ -22,7 +23,7 @@ returns-then-is_some c = record {
   takes = record {
     within = (
         let all : length (words_of_bytes c.args.bytes.now) ≡ length c.as_chunks.result.0.now = chunks_are c.args.bytes.now c.as_chunks.result.0.now c.as_chunks.ensures.front in
-        omega (arith, all, length_of_words c.args.bytes.now, c.loop-word-test.true, c.loop-word.invariant.count));
+        omega (arith, all, words_count c.args.bytes.now, c.loop-word-test.true, c.loop-word.invariant.count));
     takes_some = λ l. let some : c.take_word-left.result < 4 = c.take_word-left.ensures.takes_some (omega arith) in omega (arith, some);
     goes_on = λ e. absurd (let both : true ≡ false = sym c.if-is_some.true ∙ c.is_some.ensures ∙ ap (λ (o : Option StopCause). is_some o) e in cc);
   };
@@ -58,7 +59,7 @@ pub returns : goal.returns
 returns c = record {
   takes = (
       let all : length (words_of_bytes c.args.bytes.now) ≡ length c.as_chunks.result.0.now = chunks_are c.args.bytes.now c.as_chunks.result.0.now c.as_chunks.ensures.front in
-      let size : length (words_of_bytes c.args.bytes.now) ≡ length c.args.bytes.now / 4 = length_of_words c.args.bytes.now in
+      let size : length (words_of_bytes c.args.bytes.now) ≡ length c.args.bytes.now / 4 = words_count c.args.bytes.now in
       record { within = omega (arith, all, size); takes_some = λ l. omega (arith, all, size, l); goes_on = λ e. omega (arith, all, size) });
   leaves = record { due = c.loop-word.invariant.due; frames = c.loop-word.invariant.frames };
   enters = λ kept h n s. (

@@ -19,7 +19,7 @@ returns c =
     let line = command_line c.args.word (sym (c.code.ensures.value ∙ ap code_of c.command_of-command.ensures) ∙ c.if-code-word.false) in
     record {
       appends = record {
-        items = rw (line, c.put-3.ensures.appends.items, c.put-2.ensures.appends.items, c.bytes.ensures.value, c.command_text.ensures, c.command_of-command.ensures, c.put.ensures.appends.items, c.put_close.ensures.appends.items) (simp append_assoc);
+        items = rw (line, c.put-3.ensures.appends.items, c.put-2.ensures.appends.items, c.bytes.ensures.value, c.command_name.ensures, c.command_of-command.ensures, c.put.ensures.appends.items, c.put_close.ensures.appends.items) (simp append_assoc);
         within = omega arith;
         room = omega arith;
       };

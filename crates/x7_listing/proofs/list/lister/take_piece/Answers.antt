@@ -6,13 +6,14 @@ use Rattle.x7_listing.specs.Pens.{lister_with}
 use Rattle.x7_listing.specs.Lister.{HasListedJust}
 use Rattle.x7_listing.specs.declared.list.pen.state.Pen.TheVariants.{Session}
 use Rattle.x7_listing.proofs.list.fast.AtOnceLemmas.{rest_length, seam}
-use Rattle.x7_listing.proofs.list.ListerLemmas.{goes_less, one_sync_found, run_length, listed_as, took, took_all}
+use Rattle.x7_listing.proofs.list.ListerLemmas.{goes_less, run_length, listed_as, took, took_all}
 use Rattle.x7_listing.proofs.list.lister.take_piece.Goals as goal
+use Rattle.x7_packets.proofs.StreamLemmas.{one_sync}
 
 pub loop-taken-init : goal.loop-taken-init
 loop-taken-init c = record {
   within = omega arith;
-  room = omega (arith, one_sync_found c.args.cutter.now.mode, c.requires);
+  room = omega (arith, one_sync c.args.cutter.now.mode, c.requires);
   has_listed = λ given before bytes s. rw append-nil s;
 }
 
@@ -72,7 +73,7 @@ loop-taken-preserved-in-Some c =
     let left : length (take (length c.args.piece.now - c.loop-taken.at) (drop c.loop-taken.at c.args.piece.now)) ≡ length c.args.piece.now - c.loop-taken.at = rest_length c.args.piece.now c.loop-taken.at c.loop-taken.invariant.within in
     record {
       within = omega (arith, left, taken.within, c.loop-taken.invariant.within);
-      room = omega (arith, left, taken.within, taken.at_least_one, taken.kept, taken.grown, one_sync_found c.take_short.new.cutter.mode, c.loop-taken.invariant.within, c.loop-taken.invariant.room, c.take_short.ensures.room);
+      room = omega (arith, left, taken.within, taken.at_least_one, taken.kept, taken.grown, one_sync c.take_short.new.cutter.mode, c.loop-taken.invariant.within, c.loop-taken.invariant.room, c.take_short.ensures.room);
       has_listed = λ given before bytes s.
           subst (HasListedJust (lister_with c.take_short.new.cutter (Session c.in-Some.taken.in_line) c.take_short.new.text.items) given before)
           (seam c.args.piece.now bytes _ c.loop-taken.at c.in-Some.taken.size c.loop-taken.invariant.within refl)

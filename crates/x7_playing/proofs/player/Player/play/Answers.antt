@@ -11,7 +11,7 @@ returns-then-self-clause-played c = λ part bytes h.
     let p = c.args.self.now in
     let piece = c.args.piece.now in
     let fits : AreBytes piece = all_from_places (λ b. b < 256) piece (λ k l. omega (arith, c.type_inv.piece k)) in
-    over_stays p.is_over part bytes piece (play_state p.device p.buffer p.reads.items) c.if-self.true fits h
+    over_stays p.is_over_limit part bytes piece (play_state p.device p.buffer p.reads.items) c.if-self.true fits h
 
 pub returns-in_err-self-clause-prefix : goal.returns-in_err-self-clause-prefix
 returns-in_err-self-clause-prefix c =
@@ -21,5 +21,5 @@ returns-in_err-self-clause-prefix c =
       prefix = f.prefix;
       left = f.left;
       split = f.split;
-      holds = λ part bytes h. f.holds part bytes (not_over p.is_over part bytes (play_state p.device p.buffer p.reads.items) c.if-self.false h);
+      holds = λ part bytes h. f.holds part bytes (not_over p.is_over_limit part bytes (play_state p.device p.buffer p.reads.items) c.if-self.false h);
     })

@@ -1,5 +1,5 @@
 use Rattle.std.proofs.Common.{◌++◌, List, ℕ, Bool, ap, ◌∙◌}
-use Rattle.x7_engine.specs.declared.regs.Regs.{Regs}
+use Rattle.x7_engine.specs.declared.snapshot.Snapshot.{Snapshot}
 use Rattle.x7_engine.specs.State.{memory_of_bytes}
 use Rattle.x7_report.specs.Reports.{PlayTextState, report_text}
 use Rattle.x7_report.proofs.LinesLemmas.{owing_none}
@@ -14,4 +14,4 @@ returns-clause-owing c = λ part kept wrapped bytes s. ap (answer_with c.args.st
 pub returns-clause-value : goal.returns-clause-value
 returns-clause-value c = λ part kept wrapped bytes s none.
     returns-clause-owing c part kept wrapped bytes s
-    ∙ ap (λ (x : Regs). answer_with c.args.stopped (c.args.head.items ++ report_text part x c.args.reads.now (memory_of_bytes part kept bytes))) (owing_none part kept wrapped bytes c.args.device none)
+    ∙ ap (λ (x : Snapshot). answer_with c.args.stopped (c.args.head.items ++ report_text part x c.args.reads.now (memory_of_bytes part kept bytes))) (owing_none part kept wrapped bytes c.args.device none)

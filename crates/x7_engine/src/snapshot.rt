@@ -10,15 +10,15 @@ pub enum End {
     Searching,
     /// In a session.
     Synced,
-    /// At an IPROG that the device obeyed, with WBSTAR.
+    /// At an IPROG that the device obeyed, with the word of WBSTAR.
     Iprog(u32),
     /// At a fault.
     Fault(Fault),
 }
 
-/// The state of a device but its memory (UG470, configuration registers).
+/// The state of a device but its memory and the words read out (UG470, configuration registers).
 #[derive(Clone, Copy)]
-pub struct Regs {
+pub struct Snapshot {
     /// How many bytes were taken since the reset.
     pub taken: u64,
     /// Where the bytes taken end.
@@ -31,7 +31,7 @@ pub struct Regs {
     pub crc: u32,
     /// FAR as it is read; while words of frame data are due, that of the words given so far.
     pub far: u32,
-    /// The low five bits of the last word written to CMD.
+    /// The low five bits of the last word written to CMD, 0 where none was.
     pub cmd: u32,
     pub ctl0: u32,
     pub mask: u32,

@@ -20,7 +20,7 @@ use Rattle.x7_engine.specs.declared.stop.StopCause.TheVariants as stop
 use Rattle.x7_boot.specs.Attempt.{IsFlashAttempt, NoneBefore, AttemptCourse, ending_at, ending_by, failed_by}
 use Rattle.x7_regs.specs.Control.{forbids_fallback}
 use Rattle.x7_boot.specs.Boot.{BootedState, IsBoot, LeadsToEnd, end_state, next_by, tried}
-use Rattle.x7_boot.specs.Boots.{BootCourse, IsCourse, course_along, course_of}
+use Rattle.x7_boot.specs.BootCourse.{BootCourse, IsCourse, course_along, course_of}
 use Rattle.x7_boot.specs.declared.attempt.Ending.{Ending}
 use Rattle.x7_boot.specs.declared.attempt.Ending.TheVariants as ending
 use Rattle.x7_boot.specs.declared.boots.BootEnd.{BootEnd}
@@ -35,7 +35,7 @@ use Rattle.x7_boot.proofs.FlashAttemptLemmas.{no_cause}
 pub boot_course : (part : PartData) (flash : List ℕ) (b : BootedState) → (boot : IsBoot part flash b) → IsCourse part flash (course_of b boot.last)
 boot_course part flash b boot = record { older = boot.older; leads = boot.leads; attempts_are = boot.attempts }
 
--- where these lead to an end, a course is along them
+-- where attempts lead to an end, a course is along these
 pub along : (part : PartData) (flash : List ℕ) (c : BootCourse) (last : AttemptCourse) (older : List AttemptCourse) (end : BootEnd) → IsCourse part flash c → LeadsToEnd part flash (last ∷ older) end → c ≡ course_along last older end
 along part flash c last older end course leads =
     let same : (c.last ∷ course.older ≡ last ∷ older) × (c.end ≡ end) = one_chain part flash (c.last ∷ course.older) (last ∷ older) c.end end course.leads leads in
@@ -85,7 +85,7 @@ wrapped_by (Some fault.Watchdog) e = absurd (cc)
 some_failed : (c d : Cause) → ending.Failed c ≡ ending.Failed d → Some c ≡ Some d
 some_failed c d e = cc
 
--- nothing ends it at any number of bytes
+-- an attempt that nothing ends up to the flash's end is ended at no number of bytes
 never_ends : (part : PartData) (kept : Kept) (from : List ℕ) (n : ℕ) → NoneBefore part kept from (suc (length from)) → ending_at part kept (take n from) ≡ None
 never_ends part kept from n none = elim (cases_lt n (suc (length from))) [
   | inl l ↦ none n l
