@@ -3,9 +3,8 @@
 
 ghost use Rattle.std.specs.Prelude.{◌≡◌, map, string_bytes};
 ghost use Rattle.std.specs.Process.{exit_status};
-ghost use Rattle.x7.specs.Command.{ProgramEnds, WritesPage};
+ghost use Rattle.x7.specs.Command.{CallEnds, WritesPage};
 ghost use Rattle.x7_forms.specs.Status.{status_number};
-ghost use Rattle.x7_outcome.specs.Outside.{outside};
 
 mod page;
 
@@ -60,8 +59,8 @@ fn command<I: Inputs, O: Sink, E: Sink, F: Flash>(
     out: &mut O,
     err: &mut E,
 ) -> ExitCode
-    ensures { ProgramEnds (map string_bytes words.now.items) (outside (I.state inputs.old) (F.state flash.old) (O.state out.old) (E.state err.old))
-        (outside (I.state inputs.new) (F.state flash.new) (O.state out.new) (E.state err.new)) (exit_status result) }
+    ensures { CallEnds (I.state, F.state, O.state, E.state) (map string_bytes words.now.items)
+        (inputs.old, flash.old, out.old, err.old) (inputs.new, flash.new, out.new, err.new) (exit_status result) }
 {
     match page_of(words) {
         Some(page) => show(out, page),

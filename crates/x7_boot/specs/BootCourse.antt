@@ -26,3 +26,7 @@ pub record IsCourse (part : PartData) (flash : List ℕ) (c : BootCourse) : Type
   pub older : List AttemptCourse
   pub leads : LeadsToEnd part flash (c.last ∷ older) c.end
   pub attempts_are : c.attempts ≡ reverse (map tried (c.last ∷ older))
+
+-- wherever the flash leads a device of the part through attempts to an end, this course is the one through them
+abbrev pub LeadsOnlyAlong : PartData → List ℕ → BootCourse → Type 0
+LeadsOnlyAlong part flash c = (last : AttemptCourse) (older : List AttemptCourse) (end : BootEnd) → LeadsToEnd part flash (last ∷ older) end → c ≡ course_along last older end

@@ -1,15 +1,14 @@
 //! What a boot promises. The functions do nothing: their contracts are the laws.
-ghost use Rattle.std.specs.Prelude.{◌≡◌, ◌<◌, ℕ, Bool, List, ◌∷◌, false, take};
+ghost use Rattle.std.specs.Prelude.{◌≡◌, ◌<◌, ℕ, Bool, List, false, take};
 ghost use Rattle.x7_words.specs.Word.{AreBytes};
 ghost use Rattle.x7_part.specs.Part.{PartData};
 ghost use Rattle.x7_engine.specs.State.{state_of};
 ghost use Rattle.x7_engine.specs.declared.kept.Kept.{Kept};
 ghost use Rattle.x7_boot.specs.Attempt.{IsFlashAttempt, AttemptCourse, attempt_end};
-ghost use Rattle.x7_boot.specs.Boot.{BootedState, HasBoot, IsBoot, LeadsToEnd, end_state};
+ghost use Rattle.x7_boot.specs.Boot.{BootedState, HasBoot, IsBoot, end_state};
 ghost use Rattle.x7_boot.specs.Checked.{HasChecked};
-ghost use Rattle.x7_boot.specs.BootCourse.{BootCourse, IsCourse, course_along, course_of};
+ghost use Rattle.x7_boot.specs.BootCourse.{BootCourse, IsCourse, LeadsOnlyAlong, course_of};
 ghost use Rattle.x7_boot.specs.declared.attempt.Ending.TheVariants as ending;
-ghost use Rattle.x7_boot.specs.declared.boots.BootEnd.{BootEnd};
 ghost use Rattle.x7_boot.specs.declared.boots.BootEnd.TheVariants as boot_end;
 
 /// Over a flash of bytes an attempt that started passed its checks (`HasChecked`): START was executed after the part's
@@ -49,8 +48,7 @@ pub fn only_taken_bytes_count()
 /// the one of these attempts and this end.
 pub fn one_course()
     ensures boot { (part : PartData) (flash : List ℕ) (b : BootedState) → (boot : IsBoot part flash b) → IsCourse part flash (course_of b boot.last) }
-    ensures along { (part : PartData) (flash : List ℕ) (c : BootCourse) (last : AttemptCourse) (older : List AttemptCourse) (end : BootEnd) → IsCourse part flash c
-        → LeadsToEnd part flash (last ∷ older) end → c ≡ course_along last older end }
+    ensures along { (part : PartData) (flash : List ℕ) (c : BootCourse) → IsCourse part flash c → LeadsOnlyAlong part flash c }
 {}
 
 /// A flash has one boot of a part: two attempts over it whose devices kept the same over their resets, and that begin

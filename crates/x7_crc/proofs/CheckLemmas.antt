@@ -8,9 +8,9 @@ use Rattle.x7_words.specs.Word.{word_of_bytes}
 use Rattle.x7_packets.specs.CheckedWrites.{RegisterWrite, write_to}
 use Rattle.x7_crc.specs.Polynomial.{from_highest, IsRemainder, mirrored, remainder}
 use Rattle.x7_crc.specs.Check.{bits_of_write, bits_of_writes, check_after, check_after_one, check_of, dividend, generator, low_bits, writes_to}
-use Rattle.x7_crc.specs.ShiftRegister.{shifted_all, advanced}
+use Rattle.x7_crc.specs.ShiftRegister.{advanced}
 use Rattle.x7_crc.proofs.PolynomialLemmas.{mirrored_lt, mirrored_same, one_remainder}
-use Rattle.x7_crc.proofs.ShiftLemmas.{divided_shifted, shifted_all_append, shifted_all_divides, shifted_all_low}
+use Rattle.x7_crc.proofs.ShiftLemmas.{divided_shifted, shifted_all, shifted_all_append, shifted_all_divides, shifted_all_low}
 use Rattle.x7_regs.specs.Register.{reg_number_count}
 
 pub check_after_shifted : (v : ℕ) (writes : List RegisterWrite) → v < 2 ^ 32 → check_after v writes ≡ shifted_all v (bits_of_writes writes)

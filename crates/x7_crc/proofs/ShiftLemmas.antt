@@ -5,8 +5,17 @@ use Rattle.std.specs.Int.Bits.{xor_assoc, xor_self, xor_zero_l, xor_zero_r}
 use Rattle.std.proofs.lemmas.Nat.{pow-add, pow_pos, mul-add-lt, xor_comm, xor_shr, xor_mod, xor_block, xor_lt}
 use Rattle.x7_crc.specs.Polynomial.{coefficient, from_highest, product, IsRemainder, mirrored, remainder}
 use Rattle.x7_crc.specs.Check.{generator, low_bits, dividend}
-use Rattle.x7_crc.specs.ShiftRegister.{shifted_one, shifted_all, advanced}
+use Rattle.x7_crc.specs.ShiftRegister.{advanced, mirrored_generator}
 use Rattle.x7_crc.proofs.PolynomialLemmas.{digit_cases, digit_lt, from_highest_lt, mirrored_twice, mirrored_double, mirrored_lt, mirrored_xor, one_remainder, remainder_is, xor_above, xor_double, xor_shl, xor_swap}
+
+-- the shift register after one more bit
+abbrev pub shifted_one : ℕ → Bool → ℕ
+shifted_one v b = bit_xor (v / 2) (bit_xor (v % 2) (coefficient b) * mirrored_generator)
+
+-- the shift register after a list of bits, the first taken first
+abbrev pub shifted_all : ℕ → List Bool → ℕ
+shifted_all v [] = v
+shifted_all v (b ∷ bs) = shifted_all (shifted_one v b) bs
 
 -- whether a coefficient is 1
 abbrev pub is_one : ℕ → Bool

@@ -83,7 +83,7 @@ fn steering_register(register: u8) -> Option<Reg>
 }
 
 /// The check state after words written to the register with this number, four bytes each.
-fn after_words(state: CheckState, register: u8, bytes: &[u8]) -> CheckState
+fn state_after_words(state: CheckState, register: u8, bytes: &[u8]) -> CheckState
     requires register { register < reg_number_count }
     requires whole { AreWholeWords bytes.now }
     ensures { (h : History) (place : ℕ) → IsCheckState state.check state.held h
@@ -105,8 +105,8 @@ fn after_run(state: CheckState, run: Cut) -> CheckState
         → IsCheckState result.check result.held (entered_all place (run_steps run.entry) h) }
 {
     match run {
-        Cut::Word(register, word) => after_words(state, register, &bytes_of(word)),
-        Cut::Body(register, bytes) => after_words(state, register, bytes),
+        Cut::Word(register, word) => state_after_words(state, register, &bytes_of(word)),
+        Cut::Body(register, bytes) => state_after_words(state, register, bytes),
         Cut::Need | Cut::Skip(_) | Cut::Sync | Cut::Head(..) => state,
     }
 }

@@ -1,18 +1,18 @@
 //! The command `svf`.
-ghost use Rattle.x7_forms.specs.ReadingStops.{StopsAmong, limited};
-ghost use Rattle.std.specs.Prelude.{◌≡◌, ◌⊎◌, ◌≤◌, ◌||◌, [], ◌∷◌, Ok, Err, IfErr, IfOk, is_some, vec_len};
+ghost use Rattle.x7_forms.specs.ReadingStops.{StopsAmong};
+ghost use Rattle.std.specs.Prelude.{◌≡◌, ◌⊎◌, ◌≤◌, ◌||◌, Ok, Err, IfErr, IfOk, is_some, vec_len};
 ghost use Rattle.x7_words.specs.Input.{AsksAtMost, InputsStay};
 ghost use Rattle.x7_forms.specs.Event.{event_of, no_memory};
-ghost use Rattle.x7_forms.specs.Step.{AnswersAs, result_by, step_over};
+ghost use Rattle.x7_forms.specs.Step.{result_by};
 ghost use Rattle.x7_forms.specs.Form.{PlayingSvf};
 ghost use Rattle.x7_outcome.specs.Ending.{MakesReady};
 ghost use Rattle.x7_svf.specs.Svf.{IsSvfOf};
 ghost use Rattle.x7_svf.specs.declared.fault.SvfFault.{SvfFault as FaultData};
-ghost use Rattle.x7_outcome.specs.Outcome.{PlayedSvf, part_and_text, svf_answer, svf_event};
-ghost use Rattle.x7_forms.specs.Known.{part_limit, text_limit};
+ghost use Rattle.x7_outcome.specs.Outcome.{PlayedSvf, svf_answer, svf_event};
+ghost use Rattle.x7_forms.specs.Known.{text_limit};
 ghost use Rattle.x7_forms.specs.Turn.{IsLastAsked};
 ghost use Rattle.x7_outcome.specs.Play.{play_answer};
-ghost use Rattle.x7_device_forms.specs.Svf.{svf_given};
+ghost use Rattle.x7_device_forms.specs.Svf.{ReadsSvf, svf_given, svf_limits};
 
 use std::alloc::Global;
 use x7_engine::{Device, Fault};
@@ -50,10 +50,9 @@ fn read_given<'w, I: Inputs>(
     part_name: &'w str,
     text_name: &'w str,
 ) -> Result<Given, Refusal<'w>>
-    ensures caused { AnswersAs (step_over (part_name.now ∷ text_name.now ∷ []) (I.state inputs.old) (I.state inputs.new))
-        (λ known. part_and_text known part_name.now text_name.now) (result_by svf_given result) }
+    ensures caused { ReadsSvf (I.state inputs.old) (I.state inputs.new) part_name.now text_name.now (result_by svf_given result) }
     ensures last_asked { IfOk result (λ given. IsLastAsked text_name.now text_limit (I.state inputs.new)) }
-    ensures stops { IfErr result (λ r. StopsAmong (limited part_limit part_name.now ∷ limited text_limit text_name.now ∷ []) (I.state inputs.old) (I.state inputs.new) (event_of r)) }
+    ensures stops { IfErr result (λ r. StopsAmong (svf_limits part_name.now text_name.now) (I.state inputs.old) (I.state inputs.new) (event_of r)) }
     ensures within { IfOk result (λ given. vec_len given.text ≤ text_limit) }
     ensures asks { AsksAtMost (I.state inputs.old) 2 (I.state inputs.new) }
     ensures inputs { InputsStay (I.state inputs.old) (I.state inputs.new) }

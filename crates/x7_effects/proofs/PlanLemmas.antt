@@ -15,7 +15,7 @@ use Rattle.x7_part.specs.Slot.{from_address, slots_in, slots_from}
 use Rattle.x7_part.specs.declared.slot.Slot.{Slot}
 use Rattle.x7_part.specs.declared.slot.Slot.TheVariants.{Frame, Pad, End}
 use Rattle.x7_memory.specs.Plan.{PlanRow, planned_addresses}
-use Rattle.x7_pipeline.specs.FarAsRead.{has_frame_at}
+use Rattle.x7_pipeline.specs.FarAsRead.{is_frame_address}
 use Rattle.x7_pipeline.proofs.SlotLemmas.{address_has}
 use Rattle.x7_effects.proofs.Frames.{joined, row_frames, row_slots}
 use Rattle.x7_planner.specs.FullStream.{zero_frame}
@@ -57,7 +57,7 @@ no_pad (r ∷ rows) [] e = cc
 no_pad (r ∷ rows) (s ∷ prefix) e = no_pad rows prefix (let t : row_slots rows ≡ prefix ++ Pad ∷ [] = cc in t)
 
 -- a run's rows leave one slot more at least
-one_more : (part : PartData) (far : ℕ) (rows : List PlanRow) (more : List Slot) → IsPart part → has_frame_at part far ≡ true → slots_from part far ≡ row_slots rows ++ more → length rows + 1 ≤ length (slots_from part far)
+one_more : (part : PartData) (far : ℕ) (rows : List PlanRow) (more : List Slot) → IsPart part → is_frame_address part far ≡ true → slots_from part far ≡ row_slots rows ++ more → length rows + 1 ≤ length (slots_from part far)
 one_more part far rows [] is a e =
     let some : 0 < length (slots_from part far) = grind (arith, nat_tests, a) in
     let pads : EndsInPad (slots_in part) = slots_end part.field_widths part.rows is.some in

@@ -17,7 +17,7 @@ use Rattle.x7_part.specs.declared.slot.Slot.TheVariants.{Frame, Pad, End}
 use Rattle.x7_part.proofs.SlotLemmas.{slots_number, slots_split}
 use Rattle.x7_memory.specs.FrameMap.{HaveSameFrames, FrameMap}
 use Rattle.x7_pipeline.specs.declared.fault.RunFault.{RunFault}
-use Rattle.x7_pipeline.specs.FarAsRead.{has_frame_at}
+use Rattle.x7_pipeline.specs.FarAsRead.{is_frame_address}
 use Rattle.x7_pipeline.specs.Fault.{address_fault}
 use Rattle.x7_flow.specs.Asking.{NothingAsked, Reads}
 use Rattle.x7_regs.specs.Control.{forbids_reading}
@@ -67,18 +67,18 @@ along_same part m k far n e = ap (λ t. replicate (frame_words part) 0 ++ t) (sl
 
 -- ---- a read that isn't refused
 
-no_fault : (part : PartData) (base count : ℕ) → has_frame_at part base ≡ true → (if count == 0 then None else address_fault part base) ≡ None
+no_fault : (part : PartData) (base count : ℕ) → is_frame_address part base ≡ true → (if count == 0 then None else address_fault part base) ≡ None
 unfolding address_fault
 no_fault part base count a = by (count == 0)
   where
-    by : (b : Bool) → (if b then None else if has_frame_at part base then None else Some (RunFault.Address base)) ≡ None
+    by : (b : Bool) → (if b then None else if is_frame_address part base then None else Some (RunFault.Address base)) ≡ None
     by true = refl
     by false = rw a refl
 
 pub gives : (part : PartData) (h : History) (count : ℕ) → 0 < count → access.command_held h ≡ 4 → forbids_reading (ctl0_held h) ≡ false → reads_frame_data h (access.Read 3 count) ≡ true
 gives part h count some e f = let none : (count == 0) ≡ false = grind (arith, nat_tests, some) in rw (none, e, f) refl
 
-read_none : (part : PartData) (h : History) (count : ℕ) → reads_frame_data h (access.Read 3 count) ≡ true → has_frame_at part (base_of part h) ≡ true → frame_fault part h (access.Read 3 count) ≡ None
+read_none : (part : PartData) (h : History) (count : ℕ) → reads_frame_data h (access.Read 3 count) ≡ true → is_frame_address part (base_of part h) ≡ true → frame_fault part h (access.Read 3 count) ≡ None
 read_none part h count t a = ap (λ (b : Bool). fault_by part (if b then Reads count else NothingAsked) (flow_of part h)) t ∙ no_fault part (base_of part h) count a
 
 read_answer : (part : PartData) (kept : Kept) (h : History) (count place : ℕ) → reads_frame_data h (access.Read 3 count) ≡ true → why_at_access part kept h (access.Read 3 count) ≡ None → words_read_by part kept h (access.Read 3 count) place ≡ frames_read part h count
@@ -123,7 +123,7 @@ read_plays part kept bytes far n f r is has l =
     let base : base_of part c ≡ far = ap (λ (x : Flow). x.base) flow ∙ t.0 in
     let given : count_given part c ≡ 0 = ap (λ (x : Flow). x.given) flow in
     let asks : reads_frame_data c (access.Read 3 count) ≡ true = gives part c count some refl r.sbits in
-    let none : why_at_access part kept c (access.Read 3 count) ≡ None = why_none part kept c (access.Read 3 count) refl (read_none part c count asks (ap (has_frame_at part) base ∙ t.1)) in
+    let none : why_at_access part kept c (access.Read 3 count) ≡ None = why_none part kept c (access.Read 3 count) refl (read_none part c count asks (ap (is_frame_address part) base ∙ t.1)) in
     let d : History = entry (access.Read 3 count) (at + 8) ∷ c in
     let read : IsGoing part kept startup d (at + 8) = going_access part kept startup c (access.Read 3 count) at (at + 8) (omega arith) loaded (record { start = refl; shutdown = refl; desync = refl }) none loaded.calm.off in
     let same : HaveSameFrames (memory_of part c) (memory_of part h) =

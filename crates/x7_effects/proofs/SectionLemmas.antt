@@ -14,7 +14,7 @@ use Rattle.x7_memory.specs.Plan.{PlanRow, planned_addresses}
 use Rattle.x7_regs.specs.Command.{command_with}
 use Rattle.x7_regs.specs.declared.command.Command.{Command}
 use Rattle.x7_pipeline.specs.Copies.{is_mfw}
-use Rattle.x7_pipeline.specs.FarAsRead.{has_frame_at, loaded_base}
+use Rattle.x7_pipeline.specs.FarAsRead.{is_frame_address, loaded_base}
 use Rattle.x7_pipeline.specs.Fault.{address_fault, copy_fault}
 use Rattle.x7_pipeline.specs.Runs.{written_frames, onto, put_over}
 use Rattle.x7_pipeline.proofs.LawLemmas.{put_twice}
@@ -67,9 +67,9 @@ begins_copies part kept startup far words h n m some wide w none =
 -- a target of a stream: an address of the part, which a FAR load takes as it is
 
 abbrev pub IsTarget : PartData → ℕ → Type 0
-IsTarget part far = (loaded_base part far ≡ far) × (has_frame_at part far ≡ true)
+IsTarget part far = (loaded_base part far ≡ far) × (is_frame_address part far ≡ true)
 
-copy_none : (part : PartData) (held : Command) (base : ℕ) (words : List ℕ) (source : Option (List ℕ)) → is_mfw held ≡ true → source ≡ Some words → has_frame_at part base ≡ true → copy_fault part held base source ≡ None
+copy_none : (part : PartData) (held : Command) (base : ℕ) (words : List ℕ) (source : Option (List ℕ)) → is_mfw held ≡ true → source ≡ Some words → is_frame_address part base ≡ true → copy_fault part held base source ≡ None
 unfolding copy_fault address_fault
 copy_none part held base words source e f a = rw (e, f, a) refl
 
@@ -88,11 +88,11 @@ copy_one part kept startup far words h n m c t =
     let mfw : is_mfw (flow_of part g).command ≡ true = ap is_mfw held ∙ mfw_with 2 in
     let fault : frame_fault part g (access.Write 10 0) ≡ None =
     ap (λ (b : Bool). fault_by part (if b then CopiesSource else NothingAsked) (flow_of part g)) allowed
-    ∙ copy_none part (flow_of part g).command (base_of part g) words (source_of part g) mfw source (ap (has_frame_at part) base ∙ t.1) in
+    ∙ copy_none part (flow_of part g).command (base_of part g) words (source_of part g) mfw source (ap (is_frame_address part) base ∙ t.1) in
     let second : IsGoing part kept startup (item_entered (n + 8) (Write 10 (0 ∷ [])) g) (n + 8 + 8) =
     going_one part kept startup g (n + 8) 10 0 (record { start = refl; shutdown = refl; desync = refl }) (copy_passes part kept g 0 c.ready.matched) fault first.calm.off first in
     let puts : HaveSameFrames (memory_of part (item_entered (n + 8) (Write 10 (0 ∷ [])) g)) (put_over (record { far = loaded_base part far; words = words } ∷ []) (memory_of part h)) =
-    copies_put part h far place (n + 8 + 4) 0 [] words allowed (ap (λ (k : ℕ). is_mfw (command_with k)) c.held_is ∙ mfw_with 2) c.source_is (ap (has_frame_at part) t.0 ∙ t.1) in
+    copies_put part h far place (n + 8 + 4) 0 [] words allowed (ap (λ (k : ℕ). is_mfw (command_with k)) c.held_is ∙ mfw_with 2) c.source_is (ap (is_frame_address part) t.0 ∙ t.1) in
     let keeps = copies_keep part h far place (n + 8 + 4) (0 ∷ []) in
     record {
       ready = record {

@@ -12,7 +12,7 @@ use Rattle.x7_part.specs.Slot.{slots_from}
 use Rattle.x7_memory.specs.FrameMap.{HaveSameFrames, FrameMap}
 use Rattle.x7_memory.specs.Plan.{PlanRow, planned}
 use Rattle.x7_memory.proofs.MapLemmas.{override_same}
-use Rattle.x7_pipeline.specs.FarAsRead.{has_frame_at, loaded_base}
+use Rattle.x7_pipeline.specs.FarAsRead.{is_frame_address, loaded_base}
 use Rattle.x7_pipeline.specs.Runs.{written_frames, onto, put_over}
 use Rattle.x7_words.specs.Word.{field_of}
 use Rattle.x7_regs.specs.Control.{forbids_reading, forbids_writing}
@@ -123,14 +123,14 @@ pub record HasWritten (part : PartData) (kept : Kept) (startup : StartupProgress
   pub held_is : command_held h ≡ 1
   pub run_is : run_of part h ≡ onto words []
 
-pub loaded_words : (part : PartData) (kept : Kept) (startup : StartupProgress) (far : ℕ) (h : History) (n : ℕ) (m : FrameMap) (ws : List ℕ) → IsLoaded part kept startup 1 far h n m → has_frame_at part far ≡ true
+pub loaded_words : (part : PartData) (kept : Kept) (startup : StartupProgress) (far : ℕ) (h : History) (n : ℕ) (m : FrameMap) (ws : List ℕ) → IsLoaded part kept startup 1 far h n m → is_frame_address part far ≡ true
     → length ws ≤ frame_words part * length (slots_from part far) → HasWritten part kept startup far ws (written n (Put (WriteLong 2 ws) ∷ []) h) (n + 4 * piece_length (Put (WriteLong 2 ws))) m
 loaded_words part kept startup far h n m ws l a few =
     let t : takes_frames (settings_of part.idcode h) ≡ true = takes part h l.ready.matched l.ready.allows l.held_is in
     let g : History = writes_entered (n + 8) 2 ws h in
     let same : entered_all (n + 8) (payload_steps 2 ws) h ≡ g = payload_enters (n + 8) 2 ws h in
     let settings : settings_of part.idcode g ≡ settings_of part.idcode h = ap (settings_of part.idcode) (sym same) ∙ words_settings part.idcode (n + 8) ws h in
-    let there : has_frame_at part (base_of part h) ≡ true = ap (has_frame_at part) l.base_is ∙ a in
+    let there : is_frame_address part (base_of part h) ≡ true = ap (is_frame_address part) l.base_is ∙ a in
     let none : length (run_of part h) ≡ 0 = ap length l.run_is in
     let slots : frame_words part * length (slots_from part (base_of part h)) ≡ frame_words part * length (slots_from part far) = ap (λ (x : ℕ). frame_words part * length (slots_from part x)) l.base_is in
     let refused : NoneRefused part reg.Fdri (n + 8) ws h = words_none part (n + 8) ws h t there (omega (arith, few, none, slots)) in

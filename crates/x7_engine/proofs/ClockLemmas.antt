@@ -15,7 +15,7 @@ use Rattle.x7_engine.specs.declared.kept.Kept.{Kept}
 use Rattle.x7_engine.specs.Clock.{AreEndedAlike, ClockState, IsClock, ClockTakes, newest_place}
 use Rattle.x7_engine.specs.Kept.{is_fallback}
 use Rattle.x7_engine.specs.Registers.{takes_shutdown}
-use Rattle.x7_engine.specs.Startup.{has_ended, phase_by, phase_of, startup_call, startup_calls, startup_progress, startup_call_by}
+use Rattle.x7_engine.specs.Startup.{startup_ended, phase_by, phase_of, startup_call, startup_calls, startup_progress, startup_call_by}
 use Rattle.x7_engine.specs.Stop.{why_at_access, first_stop_of_history, stop_at_place, stop_at_firing, Stopped}
 use Rattle.x7_engine.specs.Watching.{fired_or, watchdog_fires, first_firing, timer_held, watch_call, watch_calls, watched_bytes, watch_call_by}
 use Rattle.x7_engine.proofs.StartupLemmas.{phase_is}
@@ -39,9 +39,9 @@ watched_more part h from a (suc b) =
     let next : a + suc b ≡ suc (a + b) = omega arith in
     let here : from + (a + b) + 1 ≡ from + a + b + 1 = omega arith in
     ap (watched_bytes part h from) next
-    ∙ ap (λ t. t ++ Watched (has_ended part h (from + (a + b) + 1)) ∷ []) (watched_more part h from a b)
-    ∙ ap (λ (m : ℕ). (watched_bytes part h from a ++ watched_bytes part h (from + a) b) ++ Watched (has_ended part h m) ∷ []) here
-    ∙ append_assoc (watched_bytes part h from a) (watched_bytes part h (from + a) b) (Watched (has_ended part h (from + a + b + 1)) ∷ [])
+    ∙ ap (λ t. t ++ Watched (startup_ended part h (from + (a + b) + 1)) ∷ []) (watched_more part h from a b)
+    ∙ ap (λ (m : ℕ). (watched_bytes part h from a ++ watched_bytes part h (from + a) b) ++ Watched (startup_ended part h m) ∷ []) here
+    ∙ append_assoc (watched_bytes part h from a) (watched_bytes part h (from + a) b) (Watched (startup_ended part h (from + a + b + 1)) ∷ [])
 
 pub watch_more : (part : PartData) (h : History) (n k : ℕ) → newest_place h ≤ n → watch_calls part h (n + k) ≡ watch_calls part h n ++ watched_bytes part h n k
 watch_more part [] n k l = let first : 0 + n ≡ n = omega arith in watched_more part [] 0 n k ∙ ap (λ (m : ℕ). watched_bytes part [] 0 n ++ watched_bytes part [] m k) first
@@ -128,8 +128,8 @@ watch_entered part h access place =
 timer_bytes : (part : PartData) (h : History) (t from count : ℕ) (calls : List WatchCall) → timer_after t (calls ++ watched_bytes part h from count) ≡ timer_after t calls
 timer_bytes part h t from zero calls = ap (timer_after t) (append-nil calls)
 timer_bytes part h t from (suc count) calls =
-    ap (timer_after t) (sym (append_assoc calls (watched_bytes part h from count) (Watched (has_ended part h (from + count + 1)) ∷ [])))
-    ∙ timer_watched t (calls ++ watched_bytes part h from count) (has_ended part h (from + count + 1))
+    ap (timer_after t) (sym (append_assoc calls (watched_bytes part h from count) (Watched (startup_ended part h (from + count + 1)) ∷ [])))
+    ∙ timer_watched t (calls ++ watched_bytes part h from count) (startup_ended part h (from + count + 1))
     ∙ timer_bytes part h t from count calls
 
 timer_none : (t : ℕ) (calls : List WatchCall) (b : Bool) → timer_after t (calls ++ (if b then Reload ∷ [] else [])) ≡ timer_after t calls
@@ -166,24 +166,24 @@ full_not true c v f = elim (c == v) as (λ b. (c == v) ≡ b → b ≡ false) [ 
 full_not false c v f = refl
 
 -- the watchdog's calls with one byte more
-pub one_watched : (part : PartData) (h : History) (n : ℕ) → newest_place h ≤ n → watch_calls part h (n + 1) ≡ watch_calls part h n ++ Watched (has_ended part h (n + 1)) ∷ []
+pub one_watched : (part : PartData) (h : History) (n : ℕ) → newest_place h ≤ n → watch_calls part h (n + 1) ≡ watch_calls part h n ++ Watched (startup_ended part h (n + 1)) ∷ []
 one_watched part h n l =
     let here : n + 0 + 1 ≡ n + 1 = omega arith in
-    watch_more part h n 1 l ∙ ap (λ (m : ℕ). watch_calls part h n ++ Watched (has_ended part h m) ∷ []) here
+    watch_more part h n 1 l ∙ ap (λ (m : ℕ). watch_calls part h n ++ Watched (startup_ended part h m) ∷ []) here
 
-pub fires_by : (part : PartData) (kept : Kept) (h : History) (n : ℕ) → newest_place h ≤ n → FiresNext (is_fallback kept.kind) kept.timer (watch_calls part h n) (has_ended part h (n + 1)) → watchdog_fires part kept h (n + 1) ≡ true
+pub fires_by : (part : PartData) (kept : Kept) (h : History) (n : ℕ) → newest_place h ≤ n → FiresNext (is_fallback kept.kind) kept.timer (watch_calls part h n) (startup_ended part h (n + 1)) → watchdog_fires part kept h (n + 1) ≡ true
 fires_by part kept h n l f =
     let off : Bool = is_fallback kept.kind in
-    let eos : Bool = has_ended part h (n + 1) in
+    let eos : Bool = startup_ended part h (n + 1) in
     let timer : timer_after kept.timer (watch_calls part h n) ≡ timer_held kept h = timer_is part kept h n in
     let on : IsTrue (is_on off (timer_held kept h) eos) = subst (λ (t : ℕ). IsTrue (is_on off t eos)) timer f.0 in
     let count : watched_count off kept.timer (watch_calls part h (n + 1)) ≡ timer_value_of (timer_held kept h) * 4 = ap (watched_count off kept.timer) (one_watched part h n l) ∙ f.1 ∙ ap (λ (t : ℕ). timer_value_of t * 4) timer in
     full_is (is_on off (timer_held kept h) eos) (watched_count off kept.timer (watch_calls part h (n + 1))) (timer_value_of (timer_held kept h) * 4) on count
 
-pub fires_not : (part : PartData) (kept : Kept) (h : History) (n : ℕ) → newest_place h ≤ n → ¬ FiresNext (is_fallback kept.kind) kept.timer (watch_calls part h n) (has_ended part h (n + 1)) → watchdog_fires part kept h (n + 1) ≡ false
+pub fires_not : (part : PartData) (kept : Kept) (h : History) (n : ℕ) → newest_place h ≤ n → ¬ FiresNext (is_fallback kept.kind) kept.timer (watch_calls part h n) (startup_ended part h (n + 1)) → watchdog_fires part kept h (n + 1) ≡ false
 fires_not part kept h n l f =
     let off : Bool = is_fallback kept.kind in
-    let eos : Bool = has_ended part h (n + 1) in
+    let eos : Bool = startup_ended part h (n + 1) in
     let timer : timer_after kept.timer (watch_calls part h n) ≡ timer_held kept h = timer_is part kept h n in
     full_not (is_on off (timer_held kept h) eos) (watched_count off kept.timer (watch_calls part h (n + 1))) (timer_value_of (timer_held kept h) * 4)
     (λ g. f (subst (λ (t : ℕ). IsTrue (is_on off t eos)) (sym timer) g.0, sym (ap (watched_count off kept.timer) (one_watched part h n l)) ∙ g.1 ∙ sym (ap (λ (t : ℕ). timer_value_of t * 4) timer)))
@@ -195,14 +195,14 @@ one_more_alike k e =
     let next : k + 1 ≡ suc k = omega arith in
     replicate-append-replicate k 1 (Watched e) ∙ ap (λ (m : ℕ). replicate m (Watched e)) next
 
-watched_alike : (part : PartData) (h : History) (n k : ℕ) (eos : Bool) → ((i : ℕ) → i < k → has_ended part h (n + i + 1) ≡ eos) → watched_bytes part h n k ≡ bytes_alike k eos
+watched_alike : (part : PartData) (h : History) (n k : ℕ) (eos : Bool) → ((i : ℕ) → i < k → startup_ended part h (n + i + 1) ≡ eos) → watched_bytes part h n k ≡ bytes_alike k eos
 watched_alike part h n zero eos f = refl
 watched_alike part h n (suc k) eos f =
-    ap (λ t. t ++ Watched (has_ended part h (n + k + 1)) ∷ []) (watched_alike part h n k eos (λ i l. f i (omega arith)))
+    ap (λ t. t ++ Watched (startup_ended part h (n + k + 1)) ∷ []) (watched_alike part h n k eos (λ i l. f i (omega arith)))
     ∙ ap (λ (b : Bool). bytes_alike k eos ++ Watched b ∷ []) (f k (omega arith))
     ∙ one_more_alike k eos
 
-pub calls_alike : (part : PartData) (h : History) (n k : ℕ) (eos : Bool) → newest_place h ≤ n → ((i : ℕ) → i < k → has_ended part h (n + i + 1) ≡ eos) → watch_calls part h (n + k) ≡ watch_calls part h n ++ bytes_alike k eos
+pub calls_alike : (part : PartData) (h : History) (n k : ℕ) (eos : Bool) → newest_place h ≤ n → ((i : ℕ) → i < k → startup_ended part h (n + i + 1) ≡ eos) → watch_calls part h (n + k) ≡ watch_calls part h n ++ bytes_alike k eos
 calls_alike part h n k eos l f = watch_more part h n k l ∙ ap (λ t. watch_calls part h n ++ t) (watched_alike part h n k eos f)
 
 pub none_fires : (part : PartData) (kept : Kept) (h : History) (n count : ℕ) → ((i : ℕ) → i < count → watchdog_fires part kept h (n + i + 1) ≡ false) → first_firing part kept h n count ≡ None
@@ -231,18 +231,18 @@ none_more part kept h n i e f =
     ∙ ap (λ (o : Option ℕ). fired_or o (watchdog_fires part kept h (n + i + 1)) (n + i + 1)) e ∙ ap (λ (b : Bool). fired_or None b (n + i + 1)) f
 
 -- at a byte of those that are alike the watchdog fires as the calls before it say
-alike_here : (part : PartData) (kept : Kept) (h : History) (n i : ℕ) (eos : Bool) → newest_place h ≤ n → ((j : ℕ) → j < i + 1 → has_ended part h (n + j + 1) ≡ eos)
-    → FiresNext (is_fallback kept.kind) kept.timer (watch_calls part h (n + i)) (has_ended part h (n + i + 1)) ≡ FiresNext (is_fallback kept.kind) kept.timer (watch_calls part h n ++ bytes_alike i eos) eos
+alike_here : (part : PartData) (kept : Kept) (h : History) (n i : ℕ) (eos : Bool) → newest_place h ≤ n → ((j : ℕ) → j < i + 1 → startup_ended part h (n + j + 1) ≡ eos)
+    → FiresNext (is_fallback kept.kind) kept.timer (watch_calls part h (n + i)) (startup_ended part h (n + i + 1)) ≡ FiresNext (is_fallback kept.kind) kept.timer (watch_calls part h n ++ bytes_alike i eos) eos
 alike_here part kept h n i eos l f =
-    ap (λ t. FiresNext (is_fallback kept.kind) kept.timer t (has_ended part h (n + i + 1))) (calls_alike part h n i eos l (λ j m. f j (omega arith)))
+    ap (λ t. FiresNext (is_fallback kept.kind) kept.timer t (startup_ended part h (n + i + 1))) (calls_alike part h n i eos l (λ j m. f j (omega arith)))
     ∙ ap (λ (b : Bool). FiresNext (is_fallback kept.kind) kept.timer (watch_calls part h n ++ bytes_alike i eos) b) (f i (omega arith))
 
-pub alike_quiet : (part : PartData) (kept : Kept) (h : History) (n count : ℕ) (eos : Bool) → newest_place h ≤ n → ((i : ℕ) → i < count → has_ended part h (n + i + 1) ≡ eos)
+pub alike_quiet : (part : PartData) (kept : Kept) (h : History) (n count : ℕ) (eos : Bool) → newest_place h ≤ n → ((i : ℕ) → i < count → startup_ended part h (n + i + 1) ≡ eos)
     → ((i : ℕ) → i < count → ¬ FiresNext (is_fallback kept.kind) kept.timer (watch_calls part h n ++ bytes_alike i eos) eos) → first_firing part kept h n count ≡ None
 alike_quiet part kept h n count eos l f g =
     none_fires part kept h n count (λ i m. fires_not part kept h (n + i) (omega (arith, l)) (λ x. g i m (subst (λ (t : Type 0). t) (alike_here part kept h n i eos l (λ j o. f j (omega arith))) x)))
 
-pub alike_fires : (part : PartData) (kept : Kept) (h : History) (n k count : ℕ) (eos : Bool) → newest_place h ≤ n → ((i : ℕ) → i < count → has_ended part h (n + i + 1) ≡ eos) → 0 < k → k ≤ count
+pub alike_fires : (part : PartData) (kept : Kept) (h : History) (n k count : ℕ) (eos : Bool) → newest_place h ≤ n → ((i : ℕ) → i < count → startup_ended part h (n + i + 1) ≡ eos) → 0 < k → k ≤ count
     → FiresNext (is_fallback kept.kind) kept.timer (watch_calls part h n ++ bytes_alike (k - 1) eos) eos
     → ((i : ℕ) → i < k - 1 → ¬ FiresNext (is_fallback kept.kind) kept.timer (watch_calls part h n ++ bytes_alike i eos) eos) → first_firing part kept h n count ≡ Some (n + k)
 alike_fires part kept h n k count eos l f some few x g =
@@ -267,14 +267,14 @@ last_of part NotBegun = omega arith
 last_of part (Begun cor0 bytes) = (phase_is part (Begun cor0 bytes)).most
 
 -- where startup has ended both before and after some bytes, or neither, so it is at each of them
-pub ends_alike : (part : PartData) (h : History) (n count i : ℕ) (eos : Bool) → newest_place h ≤ n → eos ≡ has_ended part h n → eos ≡ has_ended part h (n + count) → i < count → has_ended part h (n + i + 1) ≡ eos
+pub ends_alike : (part : PartData) (h : History) (n count i : ℕ) (eos : Bool) → newest_place h ≤ n → eos ≡ startup_ended part h n → eos ≡ startup_ended part h (n + count) → i < count → startup_ended part h (n + i + 1) ≡ eos
 ends_alike part h n count i eos l e f m =
     let near : n + i + 1 ≡ n + (i + 1) = omega arith in
     let far : n + count ≡ n + (i + 1) + (count - i - 1) = omega arith in
     let below : phase_of part h n ≤ phase_of part h (n + (i + 1)) = phase_rises part h n (i + 1) l in
     let above : phase_of part h (n + (i + 1)) ≤ phase_of part h (n + (i + 1) + (count - i - 1)) = phase_rises part h (n + (i + 1)) (count - i - 1) (omega (arith, l)) in
-    let after : eos ≡ has_ended part h (n + (i + 1) + (count - i - 1)) = f ∙ ap (has_ended part h) far in
-    ap (has_ended part h) near
+    let after : eos ≡ startup_ended part h (n + (i + 1) + (count - i - 1)) = f ∙ ap (startup_ended part h) far in
+    ap (startup_ended part h) near
     ∙ by (phase_of part h n) (phase_of part h (n + (i + 1))) (phase_of part h (n + (i + 1) + (count - i - 1))) eos below above (last_of part (startup_progress h (n + (i + 1) + (count - i - 1)))) e after
   where
     by : (a b c : ℕ) (eos : Bool) → a ≤ b → b ≤ c → c ≤ 7 → eos ≡ (a == 7) → eos ≡ (c == 7) → (b == 7) ≡ eos
@@ -312,12 +312,12 @@ startup_bytes part h n k lock matched old new a b f l s =
     (subst (λ (x : ℕ). StandsForCalls part.lock x new (startup_calls h n ++ replicate k call.Byte)) b
     (subst (λ (x : ℕ). StandsForCalls x matched new (startup_calls h n ++ replicate k call.Byte)) a (f (startup_calls h n) here)))
 
-pub watch_byte : (part : PartData) (kept : Kept) (h : History) (n : ℕ) (eos : Bool) (new : WatchdogState) → newest_place h ≤ n → eos ≡ has_ended part h (n + 1)
+pub watch_byte : (part : PartData) (kept : Kept) (h : History) (n : ℕ) (eos : Bool) (new : WatchdogState) → newest_place h ≤ n → eos ≡ startup_ended part h (n + 1)
     → WatchesFor (is_fallback kept.kind) kept.timer new (watch_calls part h n ++ Watched eos ∷ []) → WatchesFor (is_fallback kept.kind) kept.timer new (watch_calls part h (n + 1))
 watch_byte part kept h n eos new l e s =
     subst (λ t. WatchesFor (is_fallback kept.kind) kept.timer new t) (ap (λ (b : Bool). watch_calls part h n ++ Watched b ∷ []) e ∙ sym (one_watched part h n l)) s
 
-pub fires_bool : (part : PartData) (kept : Kept) (h : History) (n : ℕ) (eos b : Bool) → newest_place h ≤ n → eos ≡ has_ended part h (n + 1)
+pub fires_bool : (part : PartData) (kept : Kept) (h : History) (n : ℕ) (eos b : Bool) → newest_place h ≤ n → eos ≡ startup_ended part h (n + 1)
     → (IsTrue b ↔ FiresNext (is_fallback kept.kind) kept.timer (watch_calls part h n) eos) → b ≡ watchdog_fires part kept h (n + 1)
 fires_bool part kept h n eos true l e f =
     sym (fires_by part kept h n l (subst (λ (x : Bool). FiresNext (is_fallback kept.kind) kept.timer (watch_calls part h n) x) e (f.0 refl)))
@@ -335,14 +335,14 @@ idle_watchdog part kept w h n zero l e s =
     subst (λ (m : ℕ). WatchesFor (is_fallback kept.kind) kept.timer w (watch_calls part h m)) (sym same) s
 idle_watchdog part kept w h n (suc k) l e s =
     let next : n + k + 1 ≡ n + suc k = omega arith in
-    let eos : Bool = has_ended part h (n + k + 1) in
+    let eos : Bool = startup_ended part h (n + k + 1) in
     let before : WatchesFor (is_fallback kept.kind) kept.timer w (watch_calls part h (n + k)) = idle_watchdog part kept w h n k l e s in
     subst (λ (m : ℕ). WatchesFor (is_fallback kept.kind) kept.timer w (watch_calls part h m)) next
     (watch_byte part kept h (n + k) eos w (omega (arith, l)) refl (idle_watches (is_fallback kept.kind) kept.timer w (watch_calls part h (n + k)) eos false before (never_counts w eos e) refl))
 
 idle_quiet : (part : PartData) (kept : Kept) (w : WatchdogState) (h : History) (n k : ℕ) → newest_place h ≤ n → w.limit ≡ 0 → WatchesFor (is_fallback kept.kind) kept.timer w (watch_calls part h n) → first_firing part kept h n k ≡ None
 idle_quiet part kept w h n k l e s = none_fires part kept h n k (λ i m.
-    let eos : Bool = has_ended part h (n + i + 1) in
+    let eos : Bool = startup_ended part h (n + i + 1) in
     let before : WatchesFor (is_fallback kept.kind) kept.timer w (watch_calls part h (n + i)) = idle_watchdog part kept w h n i l e s in
     fires_not part kept h (n + i) (omega (arith, l)) (λ f.
     let no : false ≡ true = (idle_fires (is_fallback kept.kind) kept.timer w (watch_calls part h (n + i)) eos false before (never_counts w eos e) refl).1 f in
@@ -359,16 +359,16 @@ idle_ticks part kept c h n k l b e s = (
 
 -- ---- bytes more, after some at which nothing fires
 
-ended_on : (part : PartData) (h : History) (n i : ℕ) → newest_place h ≤ n → has_ended part h n ≡ true → has_ended part h (n + i + 1) ≡ true
+ended_on : (part : PartData) (h : History) (n i : ℕ) → newest_place h ≤ n → startup_ended part h n ≡ true → startup_ended part h (n + i + 1) ≡ true
 ended_on part h n i l e =
     let place : n + i + 1 ≡ n + (i + 1) = omega arith in
     let rises : phase_of part h n ≤ phase_of part h (n + (i + 1)) = phase_rises part h n (i + 1) l in
-    ap (has_ended part h) place ∙ by (phase_of part h n) (phase_of part h (n + (i + 1))) rises (last_of part (startup_progress h (n + (i + 1)))) e
+    ap (startup_ended part h) place ∙ by (phase_of part h n) (phase_of part h (n + (i + 1))) rises (last_of part (startup_progress h (n + (i + 1)))) e
   where
     by : (a b : ℕ) → a ≤ b → b ≤ 7 → (a == 7) ≡ true → (b == 7) ≡ true
     by a b l m e = let first : a ≡ 7 = grind (arith, nat_tests, e) in let here : b ≡ 7 = omega (arith, l, m, first) in grind (arith, nat_tests, here)
 
-pub ended_alike : (part : PartData) (kept : Kept) (c : ClockState) (h : History) (n a count : ℕ) → newest_place h ≤ n → has_ended part h (n + a) ≡ true → IsClock part kept c h (n + a) → AreEndedAlike (course_at part kept h (n + a)) c count true
+pub ended_alike : (part : PartData) (kept : Kept) (c : ClockState) (h : History) (n a count : ℕ) → newest_place h ≤ n → startup_ended part h (n + a) ≡ true → IsClock part kept c h (n + a) → AreEndedAlike (course_at part kept h (n + a)) c count true
 ended_alike part kept c h n a count l e s =
     let newest : newest_place h ≤ n + a = omega (arith, l) in
     record { newest = newest; each = λ i m. ended_on part h (n + a) i newest e; stands = s }

@@ -26,7 +26,7 @@ use Rattle.x7_engine.specs.Kept.{is_fallback}
 use Rattle.x7_flow.specs.Controls.{has_idcode, same_idcode}
 use Rattle.x7_engine.specs.Registers.{has_ghigh_after, has_effect, has_ghigh, clears_check, is_controlling, is_pending, is_pending_after, takes_shutdown, word_held, wrote_iprog}
 use Rattle.x7_engine.specs.Standing.{AreControls, ControlsState, counted_in}
-use Rattle.x7_engine.specs.Startup.{has_ended, phase_by, startup_call, startup_calls}
+use Rattle.x7_engine.specs.Startup.{startup_ended, phase_by, startup_call, startup_calls}
 use Rattle.x7_engine.specs.State.{last_counted}
 use Rattle.x7_engine.specs.Stop.{why_besides_frames, why_by_frames, why_at_access, first_stop_of_history, stop_at_place, stop_at_firing}
 use Rattle.x7_engine.specs.Watching.{fired_or, watchdog_fires, first_firing, timer_held, watch_call, watch_calls, watched_bytes}
@@ -182,13 +182,13 @@ plain_startup h register w place m p l k =
     ∙ sym (startup_more h place (m - place) l)
     ∙ ap (startup_calls h) sum
 
-plain_ended : (part : PartData) (h : History) (register w place m : ℕ) → IsQuiet register → newest_place h ≤ place → place ≤ m → has_ended part (entry (Write register w) place ∷ h) m ≡ has_ended part h m
+plain_ended : (part : PartData) (h : History) (register w place m : ℕ) → IsQuiet register → newest_place h ≤ place → place ≤ m → startup_ended part (entry (Write register w) place ∷ h) m ≡ startup_ended part h m
 plain_ended part h register w place m p l k = ap (λ t. phase_by part (progress_of t) == 7) (plain_startup h register w place m p l k)
 
 plain_watched : (part : PartData) (h : History) (register w place count : ℕ) → IsQuiet register → newest_place h ≤ place → watched_bytes part (entry (Write register w) place ∷ h) place count ≡ watched_bytes part h place count
 plain_watched part h register w place zero p l = refl
 plain_watched part h register w place (suc count) p l =
-    ap (λ t. t ++ Watched (has_ended part (entry (Write register w) place ∷ h) (place + count + 1)) ∷ []) (plain_watched part h register w place count p l)
+    ap (λ t. t ++ Watched (startup_ended part (entry (Write register w) place ∷ h) (place + count + 1)) ∷ []) (plain_watched part h register w place count p l)
     ∙ ap (λ (b : Bool). watched_bytes part h place count ++ Watched b ∷ []) (plain_ended part h register w place (place + count + 1) p l (omega arith))
 
 plain_watch : (part : PartData) (h : History) (register w place m : ℕ) → IsQuiet register → newest_place h ≤ place → place ≤ m → watch_calls part (entry (Write register w) place ∷ h) m ≡ watch_calls part h m
@@ -203,9 +203,9 @@ plain_watch part h register w place m p l k =
 plain_fires : (part : PartData) (kept : Kept) (h : History) (register w place m : ℕ) → IsQuiet register → newest_place h ≤ place → place ≤ m → watchdog_fires part kept (entry (Write register w) place ∷ h) m ≡ watchdog_fires part kept h m
 plain_fires part kept h register w place m p l k =
     let timer : timer_held kept (entry (Write register w) place ∷ h) ≡ timer_held kept h = rw p.timer refl in
-    ap (λ (t : ℕ). is_on (is_fallback kept.kind) t (has_ended part (entry (Write register w) place ∷ h) m) && watched_count (is_fallback kept.kind) kept.timer (watch_calls part (entry (Write register w) place ∷ h) m) == timer_value_of t * 4) timer
+    ap (λ (t : ℕ). is_on (is_fallback kept.kind) t (startup_ended part (entry (Write register w) place ∷ h) m) && watched_count (is_fallback kept.kind) kept.timer (watch_calls part (entry (Write register w) place ∷ h) m) == timer_value_of t * 4) timer
     ∙ ap (λ (b : Bool). is_on (is_fallback kept.kind) (timer_held kept h) b && watched_count (is_fallback kept.kind) kept.timer (watch_calls part (entry (Write register w) place ∷ h) m) == timer_value_of (timer_held kept h) * 4) (plain_ended part h register w place m p l k)
-    ∙ ap (λ t. is_on (is_fallback kept.kind) (timer_held kept h) (has_ended part h m) && watched_count (is_fallback kept.kind) kept.timer t == timer_value_of (timer_held kept h) * 4) (plain_watch part h register w place m p l k)
+    ∙ ap (λ t. is_on (is_fallback kept.kind) (timer_held kept h) (startup_ended part h m) && watched_count (is_fallback kept.kind) kept.timer t == timer_value_of (timer_held kept h) * 4) (plain_watch part h register w place m p l k)
 
 plain_firing : (part : PartData) (kept : Kept) (h : History) (register w place count : ℕ) → IsQuiet register → newest_place h ≤ place → first_firing part kept (entry (Write register w) place ∷ h) place count ≡ first_firing part kept h place count
 plain_firing part kept h register w place zero p l = refl

@@ -21,7 +21,7 @@ use Rattle.x7_engine.specs.Kept.{is_fallback, on_the_bench}
 use Rattle.x7_flow.specs.Controls.{ctl0_held}
 use Rattle.x7_engine.specs.Registers.{is_pending}
 use Rattle.x7_engine.specs.Rest.{AtRest, LastGapGoesOn}
-use Rattle.x7_engine.specs.Startup.{has_ended, phase_of, startup_calls, startup_progress}
+use Rattle.x7_engine.specs.Startup.{startup_ended, phase_of, startup_calls, startup_progress}
 use Rattle.x7_regs.specs.Control.{forbids_reading}
 use Rattle.x7_engine.specs.Stop.{Stopped, first_stop_of_history, stop_at_firing}
 use Rattle.x7_engine.specs.Watching.{first_firing, timer_held, turns_on}
@@ -63,8 +63,8 @@ never_on true true false off e = e
 pub never_fires : (part : PartData) (kept : Kept) (h : History) (n k : ℕ) → (turns_on (timer_held kept h) && not (is_fallback kept.kind)) ≡ false → first_firing part kept h n k ≡ None
 never_fires part kept h n k off =
     none_fires part kept h n k (λ i m.
-    and_left (is_on (is_fallback kept.kind) (timer_held kept h) (has_ended part h (n + i + 1))) _
-    (never_on (cfg_mon_of (timer_held kept h) == 1) (not (timer_value_of (timer_held kept h) == 0)) (has_ended part h (n + i + 1)) (is_fallback kept.kind) off))
+    and_left (is_on (is_fallback kept.kind) (timer_held kept h) (startup_ended part h (n + i + 1))) _
+    (never_on (cfg_mon_of (timer_held kept h) == 1) (not (timer_value_of (timer_held kept h) == 0)) (startup_ended part h (n + i + 1)) (is_fallback kept.kind) off))
 
 pub stop_on : (part : PartData) (kept : Kept) (h : History) (n k : ℕ) → newest_place h ≤ n → (turns_on (timer_held kept h) && not (is_fallback kept.kind)) ≡ false → first_stop_of_history part kept h n ≡ None → first_stop_of_history part kept h (n + k) ≡ None
 stop_on part kept h n k l off none =

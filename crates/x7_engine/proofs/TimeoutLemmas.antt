@@ -8,7 +8,7 @@ use Rattle.x7_startup.specs.Watchdog.{Load, Reload, WatchCall, watched_count, is
 use Rattle.x7_startup.proofs.WatchdogLemmas.{count_loaded, count_watched}
 use Rattle.x7_engine.specs.declared.kept.Kept.{Kept}
 use Rattle.x7_engine.specs.Kept.{is_fallback}
-use Rattle.x7_engine.specs.Startup.{has_ended}
+use Rattle.x7_engine.specs.Startup.{startup_ended}
 use Rattle.x7_engine.specs.Timeout.{before_byte, bytes_on_since_load, times_out_at, is_on_at, last_load, loads, bytes_on_after}
 use Rattle.x7_engine.specs.Watching.{watchdog_fires, timer_held, watch_call, watch_calls}
 use Rattle.x7_engine.proofs.ClockLemmas.{one_watched, timer_is, watch_entered}
@@ -28,10 +28,10 @@ load_within n (e ∷ h) p = by (loads h e.access) (load_within (e.place - 1) h p
 -- ---- a byte and an access more
 
 count_byte : (part : PartData) (kept : Kept) (h : History) (n : ℕ) → Placed n h
-    → watched_count (is_fallback kept.kind) kept.timer (watch_calls part h (n + 1)) ≡ watched_count (is_fallback kept.kind) kept.timer (watch_calls part h n) + (if is_on (is_fallback kept.kind) (timer_held kept h) (has_ended part h (n + 1)) then 1 else 0)
+    → watched_count (is_fallback kept.kind) kept.timer (watch_calls part h (n + 1)) ≡ watched_count (is_fallback kept.kind) kept.timer (watch_calls part h n) + (if is_on (is_fallback kept.kind) (timer_held kept h) (startup_ended part h (n + 1)) then 1 else 0)
 count_byte part kept h n p =
     let off : Bool = is_fallback kept.kind in
-    let eos : Bool = has_ended part h (n + 1) in
+    let eos : Bool = startup_ended part h (n + 1) in
     let calls : List WatchCall = watch_calls part h n in
     ap (watched_count off kept.timer) (one_watched part h n (newest_within n h p))
     ∙ count_watched off kept.timer calls eos
@@ -64,8 +64,8 @@ counted_here part kept bytes n p e =
     let place : from + (n - from) + 1 ≡ n + 1 = omega (arith, within) in
     let before : n + 1 - 1 ≡ n = omega arith in
     count_byte part kept h n p
-    ∙ ap (λ (k : ℕ). k + (if is_on (is_fallback kept.kind) (timer_held kept h) (has_ended part h (n + 1)) then 1 else 0)) e
-    ∙ ap (λ (m : ℕ). bytes_on_after part kept bytes from (n - from) + (if is_on (is_fallback kept.kind) (timer_held kept (history_of (take m bytes))) (has_ended part (history_of (take m bytes)) (n + 1)) then 1 else 0)) (sym before)
+    ∙ ap (λ (k : ℕ). k + (if is_on (is_fallback kept.kind) (timer_held kept h) (startup_ended part h (n + 1)) then 1 else 0)) e
+    ∙ ap (λ (m : ℕ). bytes_on_after part kept bytes from (n - from) + (if is_on (is_fallback kept.kind) (timer_held kept (history_of (take m bytes))) (startup_ended part (history_of (take m bytes)) (n + 1)) then 1 else 0)) (sym before)
     ∙ ap (λ (m : ℕ). bytes_on_after part kept bytes from (n - from) + (if is_on_at part kept bytes m then 1 else 0)) (sym place)
     ∙ ap (bytes_on_after part kept bytes from) (sym count)
 
@@ -112,4 +112,4 @@ fires_by_bytes part kept bytes n f some few =
     ap (λ (k : ℕ). watched_count (is_fallback kept.kind) kept.timer (watch_calls part h k)) next
     ∙ counted_here part kept bytes m more.0 (counted_all part kept bytes m f (omega (arith, few)))
     ∙ ap (λ (k : ℕ). bytes_on_after part kept bytes (last_load h) (k - last_load h)) up in
-    ap (λ (c : ℕ). is_on (is_fallback kept.kind) (timer_held kept h) (has_ended part h n) && c == timer_value_of (timer_held kept h) * 4) count
+    ap (λ (c : ℕ). is_on (is_fallback kept.kind) (timer_held kept h) (startup_ended part h n) && c == timer_value_of (timer_held kept h) * 4) count

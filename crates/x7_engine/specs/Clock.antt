@@ -9,7 +9,7 @@ use Rattle.x7_engine.specs.declared.clock.Clock.{Clock}
 use Rattle.x7_engine.specs.declared.kept.Kept.{Kept}
 use Rattle.x7_engine.specs.Kept.{is_fallback}
 use Rattle.x7_engine.specs.Course.{Course, course_at}
-use Rattle.x7_engine.specs.Startup.{has_ended, startup_calls}
+use Rattle.x7_engine.specs.Startup.{startup_ended, startup_calls}
 use Rattle.x7_engine.specs.Watching.{first_firing, watch_calls}
 
 -- the stored values of a clock
@@ -61,14 +61,14 @@ pub record ClockTakesInAny (part : PartData) (old new : ClockState) (count : ℕ
 -- at each of `count` bytes more startup has ended, or at none, and `clock` is the clock before them
 pub record AreEndedAlike (c : Course) (clock : ClockState) (count : ℕ) (ended : Bool) : Type 0 where
   pub newest : newest_place c.history ≤ c.taken
-  pub each : (i : ℕ) → i < count → has_ended c.part c.history (c.taken + i + 1) ≡ ended
+  pub each : (i : ℕ) → i < count → startup_ended c.part c.history (c.taken + i + 1) ≡ ended
   pub stands : IsClock c.part c.kept clock c.history c.taken
 
 -- startup has ended `count` bytes further, the watchdog fires at none of them, and `clock` is the clock there
 pub record HasEndedBy (c : Course) (clock : ClockState) (count : ℕ) : Type 0 where
   pub newest : newest_place c.history ≤ c.taken
   pub none_fires : first_firing c.part c.kept c.history c.taken count ≡ None
-  pub ended : has_ended c.part c.history (c.taken + count) ≡ true
+  pub ended : startup_ended c.part c.history (c.taken + count) ≡ true
   pub stands : IsClock c.part c.kept clock c.history (c.taken + count)
 
 -- a clock takes an access after any history of which `Fact` holds

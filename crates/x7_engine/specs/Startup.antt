@@ -49,5 +49,5 @@ abbrev pub phase_of : PartData → History → ℕ → ℕ
 phase_of part h n = phase_by part (startup_progress h n)
 
 -- startup has ended after a history with n bytes taken: its phase is the last one
-abbrev pub has_ended : PartData → History → ℕ → Bool
-has_ended part h n = phase_of part h n == last_phase
+abbrev pub startup_ended : PartData → History → ℕ → Bool
+startup_ended part h n = phase_of part h n == last_phase

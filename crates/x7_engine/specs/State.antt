@@ -102,6 +102,10 @@ state_of part kept wrapped bytes =
     state_by (course_at part kept (history_taken part kept bytes) (taken_of part kept bytes)) wrapped (why_stopped (first_stop_of_bytes part kept bytes))
     (is_synced (reading_of bytes).place)
 
+-- BOOTSTS after these bytes, by whether the flash has ended in the attempt
+abbrev pub bootsts_of : PartData → Kept → Bool → List ℕ → ℕ
+bootsts_of part kept wrapped bytes = (state_of part kept wrapped bytes).bootsts
+
 -- what the attempt of a boot failed by, where it failed, before the flash has ended: a fault that a fallback follows
 abbrev pub cause_of : PartData → Kept → List ℕ → Option Cause
 cause_of part kept bytes = failure_of (fault_of_stop (why_stopped (first_stop_of_bytes part kept bytes))) false

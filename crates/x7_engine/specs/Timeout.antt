@@ -9,7 +9,7 @@ use Rattle.x7_regs.specs.Register.{number_of}
 use Rattle.x7_startup.specs.Watchdog.{is_on, timer_step, timer_value_of}
 use Rattle.x7_engine.specs.declared.kept.Kept.{Kept}
 use Rattle.x7_engine.specs.Kept.{is_fallback}
-use Rattle.x7_engine.specs.Startup.{has_ended}
+use Rattle.x7_engine.specs.Startup.{startup_ended}
 use Rattle.x7_engine.specs.Watching.{timer_held}
 
 -- the history before byte i, the first being byte 1: a word that ends at byte i is not of it
@@ -19,7 +19,7 @@ before_byte bytes i = history_of (take (i - 1) bytes)
 -- the watchdog is on at byte i: TIMER turns it on with a value other than 0, the attempt is no
 -- fallback, and with this byte the phase isn't 7
 abbrev pub is_on_at : PartData → Kept → List ℕ → ℕ → Bool
-is_on_at part kept bytes i = is_on (is_fallback kept.kind) (timer_held kept (before_byte bytes i)) (has_ended part (before_byte bytes i) i)
+is_on_at part kept bytes i = is_on (is_fallback kept.kind) (timer_held kept (before_byte bytes i)) (startup_ended part (before_byte bytes i) i)
 
 -- the access makes the count 0: a write to TIMER, or LTIMER
 abbrev pub loads : History → Access → Bool

@@ -10,7 +10,7 @@ use Rattle.x7_startup.specs.Watchdog.{WatchCall, Load, Reload, Watched, cfg_mon_
 use Rattle.x7_engine.specs.declared.kept.Kept.{Kept}
 use Rattle.x7_engine.specs.Kept.{is_fallback}
 use Rattle.x7_engine.specs.Registers.{word_held}
-use Rattle.x7_engine.specs.Startup.{has_ended}
+use Rattle.x7_engine.specs.Startup.{startup_ended}
 
 -- what an access asks of the watchdog by its register: a word written to TIMER loads it, and no other access does
 abbrev pub load_call : Access → List WatchCall
@@ -29,7 +29,7 @@ watch_call h access = watch_call_by (executed_by (command_held h) access) access
 -- the watchdog's calls of `count` bytes after a history, those right after the first `from` bytes
 abbrev pub watched_bytes : PartData → History → ℕ → ℕ → List WatchCall
 watched_bytes part h from zero = []
-watched_bytes part h from (suc count) = watched_bytes part h from count ++ Watched (has_ended part h (from + count + 1)) ∷ []
+watched_bytes part h from (suc count) = watched_bytes part h from count ++ Watched (startup_ended part h (from + count + 1)) ∷ []
 
 -- the watchdog's calls of a history with n bytes taken: each byte's before that of the access that ends there
 abbrev pub watch_calls : PartData → History → ℕ → List WatchCall
@@ -48,7 +48,7 @@ timer_held kept h = word_held kept (number_of Timer) h
 -- count is `timer_step` times TIMER's value
 abbrev pub watchdog_fires : PartData → Kept → History → ℕ → Bool
 watchdog_fires part kept h n =
-    is_on (is_fallback kept.kind) (timer_held kept h) (has_ended part h n)
+    is_on (is_fallback kept.kind) (timer_held kept h) (startup_ended part h n)
     && watched_count (is_fallback kept.kind) kept.timer (watch_calls part h n) == timer_value_of (timer_held kept h) * timer_step
 
 -- the place where the watchdog fired already, or place n where it fires there, and none where it does neither

@@ -9,7 +9,7 @@ ghost use Rattle.x7_startup.specs.Watchdog.{ForEachCalls, WatchesFor};
 ghost use Rattle.x7_engine.specs.Clock.{AreEndedAlike, HasEndedBy, TakesEntry, ClockTakes, ClockTakesInAny, ForEachCourseOfClock, ForEachHistoryOfStartup};
 ghost use Rattle.x7_engine.specs.Course.{course_at};
 ghost use Rattle.x7_engine.specs.Registers.{AreFactsOfWrite};
-ghost use Rattle.x7_engine.specs.Startup.{has_ended, phase_of, startup_progress, startup_call_by};
+ghost use Rattle.x7_engine.specs.Startup.{startup_ended, phase_of, startup_progress, startup_call_by};
 ghost use Rattle.x7_engine.specs.Value.{lines_by};
 ghost use Rattle.x7_engine.specs.Watching.{watchdog_fires, first_firing, watch_call_by};
 ghost use Rattle.x7_engine.specs.declared.kept.Kept.{Kept as KeptData};
@@ -100,9 +100,9 @@ impl Clock {
     }
 
     /// Whether startup has ended: the phase is 7.
-    pub(crate) fn has_ended(&self) -> bool
+    pub(crate) fn startup_ended(&self) -> bool
         ensures stored { result ≡ (self.now.startup.phase == last_phase) }
-        ensures value { ForEachHistoryOfStartup self.now.startup (λ part h n. result ≡ has_ended part h n) }
+        ensures value { ForEachHistoryOfStartup self.now.startup (λ part h n. result ≡ startup_ended part h n) }
     {
         self.phase() == LAST_PHASE
     }
@@ -127,7 +127,7 @@ impl Clock {
         ensures fires { ForEachCourseOfClock part.now (clock_in self.old) (λ kept h n. result ≡ watchdog_fires part.now kept h (n + 1)) }
     {
         self.startup.byte(part.lock(), part.matched());
-        let eos = self.has_ended();
+        let eos = self.startup_ended();
         self.watchdog.byte(eos)
     }
 
@@ -140,7 +140,7 @@ impl Clock {
             if self.byte(part) {
                 return Some(i + 1);
             }
-            if self.has_ended() {
+            if self.startup_ended() {
                 return self.bytes_after_end(part, i + 1, count);
             }
         }
@@ -182,12 +182,12 @@ impl Clock {
 
     /// Whether startup would have ended after `count` bytes more.
     fn ends_within(&self, part: &Part, count: usize) -> bool
-        ensures { ForEachCourseOfClock part.now (clock_in self.now) (λ kept h n. result ≡ has_ended part.now h (n + count)) }
+        ensures { ForEachCourseOfClock part.now (clock_in self.now) (λ kept h n. result ≡ startup_ended part.now h (n + count)) }
     {
         let mut then = *self;
         then.startup
             .bytes(count as u64, part.lock(), part.matched());
-        then.has_ended()
+        then.startup_ended()
     }
 
     /// True only where bytes leave the clock as it is: startup hasn't begun, and the watchdog has no count at which it
@@ -235,7 +235,7 @@ impl Clock {
     fn move_on(&mut self, part: &Part, count: usize) -> Option<usize>
         ensures { ClockTakesInAny part.now (clock_in self.old) (clock_in self.new) count result }
     {
-        let eos = self.has_ended();
+        let eos = self.startup_ended();
         // By bytes alone the phase never falls, so startup has ended at each of them or at none.
         if eos == self.ends_within(part, count) {
             return self.bytes_alike(part, count, eos);

@@ -277,7 +277,7 @@ impl Device {
             return false;
         };
         self.registers
-            .write_to(&self.part, Target::numbered(register), word);
+            .write_word_to(&self.part, Target::numbered(register), word);
         *at += WRITE_BYTES;
         self.taken += WRITE_BYTES as u64;
         self.fed = self.fed.saturating_add(WRITE_BYTES as u64);
@@ -408,7 +408,7 @@ impl Device {
     pub fn started(&self) -> bool
         ensures { ForEachPast self.now (λ p. result ≡ ((state_at p).phase == last_phase)) }
     {
-        self.registers.clock.has_ended()
+        self.registers.clock.startup_ended()
     }
 
     /// Each device has a past: its part, what its reset kept, whether the flash has ended, and the bytes that it took

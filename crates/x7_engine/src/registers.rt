@@ -235,7 +235,7 @@ impl Registers {
     }
 
     /// Takes a written word.
-    pub(crate) fn write_to(&mut self, part: &Part, target: Target, word: u32)
+    pub(crate) fn write_word_to(&mut self, part: &Part, target: Target, word: u32)
         requires may_take { MayTakeWords part.now self.old }
         ensures { TookWrite (change_of part.now self.old self.new) (target_number target) word }
     {
@@ -278,7 +278,7 @@ impl Registers {
         if self.stop.is_some() {
             return left;
         }
-        self.write_to(part, target, word);
+        self.write_word_to(part, target, word);
         0
     }
 

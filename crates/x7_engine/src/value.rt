@@ -75,7 +75,7 @@ impl Registers {
             crc_error,
             lock: self.clock.have_passed(part.lock()),
             matched: self.clock.have_passed(part.matched()),
-            eos: self.clock.has_ended(),
+            eos: self.clock.startup_ended(),
             gts: lines.gts,
             gwe: lines.gwe,
             ghigh: self.progress.ghigh,

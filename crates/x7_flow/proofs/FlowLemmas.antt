@@ -10,7 +10,7 @@ use Rattle.x7_memory.specs.Plan.{PlanRow, planned}
 use Rattle.x7_regs.specs.Command.{command_with}
 use Rattle.x7_regs.specs.declared.command.Command.{Command}
 use Rattle.x7_pipeline.specs.Runs.{rest_of, frames_of, in_slots, older_frames, written_frames, put_over}
-use Rattle.x7_pipeline.specs.FarAsRead.{has_frame_at}
+use Rattle.x7_pipeline.specs.FarAsRead.{is_frame_address}
 use Rattle.x7_pipeline.specs.Copies.{is_wcfg}
 use Rattle.x7_pipeline.proofs.LawLemmas.{put_twice, no_source}
 use Rattle.x7_pipeline.proofs.RunLemmas.{frames_completes, frames_goes_on}
@@ -56,7 +56,7 @@ sound_by part s t (AddsWord w) f m i =
     record { command_is = i.command_is ∙ ap command_with (sym m.0); idle = λ e. absurd cc; sourceless = i.sourceless; nowhere = i.nowhere }
 sound_by part s t CopiesSource f m i = record { command_is = i.command_is ∙ ap command_with (sym m); idle = i.idle; sourceless = i.sourceless; nowhere = i.nowhere }
 sound_by part s t (Reads count) f m i =
-    record { command_is = i.command_is ∙ ap command_with (sym m); idle = i.idle; sourceless = i.sourceless; nowhere = given_nowhere (has_frame_at part f.base) f.given count i.nowhere }
+    record { command_is = i.command_is ∙ ap command_with (sym m); idle = i.idle; sourceless = i.sourceless; nowhere = given_nowhere (is_frame_address part f.base) f.given count i.nowhere }
 sound_by part s t NothingAsked f m i = record { command_is = i.command_is ∙ ap command_with (sym m); idle = i.idle; sourceless = i.sourceless; nowhere = i.nowhere }
 
 pub flow_sound : (part : PartData) (h : History) → IsSound part (settings_of part.idcode h) (flow_of part h)

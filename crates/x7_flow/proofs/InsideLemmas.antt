@@ -19,7 +19,7 @@ use Rattle.x7_memory.proofs.FrameLemmas.{among_none}
 use Rattle.x7_memory.proofs.MapLemmas.{zeros_at}
 use Rattle.x7_memory.proofs.PlanLemmas.{planned_after, planned_here}
 use Rattle.x7_pipeline.specs.Copies.{copied_pairs, is_mfw, newest_of}
-use Rattle.x7_pipeline.specs.FarAsRead.{has_frame_at}
+use Rattle.x7_pipeline.specs.FarAsRead.{is_frame_address}
 use Rattle.x7_pipeline.specs.Fault.{completes}
 use Rattle.x7_pipeline.specs.Runs.{at_slot, frames_of, put_over}
 use Rattle.x7_pipeline.proofs.LawLemmas.{cut}
@@ -100,9 +100,9 @@ copied_frames part base None h w = tt
 copied_frames part base (Some words) h w = ((h, w), tt)
 
 copies_frames : (part : PartData) (h : History) → 0 < frame_words part → AreFrames part (copy_pairs part (flow_of part h))
-copies_frames part h some = by (is_mfw (flow_of part h).command) (has_frame_at part (flow_of part h).base) refl
+copies_frames part h some = by (is_mfw (flow_of part h).command) (is_frame_address part (flow_of part h).base) refl
   where
-    by : (a b : Bool) → has_frame_at part (flow_of part h).base ≡ b → AreFrames part (if a && b then copied_pairs (flow_of part h).base (source_of part h) else [])
+    by : (a b : Bool) → is_frame_address part (flow_of part h).base ≡ b → AreFrames part (if a && b then copied_pairs (flow_of part h).base (source_of part h) else [])
     by true true e = copied_frames part (flow_of part h).base (source_of part h) (has_address part (flow_of part h).base e) (subst (IsWide part) (sym (source_is part h)) (taken_wide part h some))
     by true false e = tt
     by false b e = tt

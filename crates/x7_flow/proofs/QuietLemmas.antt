@@ -5,7 +5,7 @@ use Rattle.x7_part.specs.Part.{PartData}
 use Rattle.x7_memory.specs.FrameMap.{HaveSameFrames}
 use Rattle.x7_memory.specs.Plan.{PlanRow}
 use Rattle.x7_regs.specs.Command.{command_by}
-use Rattle.x7_pipeline.specs.FarAsRead.{has_frame_at}
+use Rattle.x7_pipeline.specs.FarAsRead.{is_frame_address}
 use Rattle.x7_flow.specs.Asking.{Asked, LoadsFar, Commands, AddsWord, CopiesSource, Reads, NothingAsked}
 use Rattle.x7_flow.specs.Settings.{Settings, gives_frames, settings_from, settings_of, takes_copies, takes_frames}
 use Rattle.x7_flow.specs.HistoryFlow.{Flow, asked_under, asked_after, flow_by, flow_of}
@@ -47,13 +47,13 @@ pub less_is : (part : PartData) (h : History) (r count due place : ℕ) → aske
     without_due due (flow_of part (entry (Read r count) place ∷ h)) ≡ flow_of part (entry (Read r (count - due)) place ∷ h)
 less_is part h r count due place a l b =
     ap (without_due due) (flow_more part (entry (Read r count) place) h ∙ ap (λ (x : Asked). flow_by part x (flow_of part h)) a)
-    ∙ by (has_frame_at part f.base) refl
+    ∙ by (is_frame_address part f.base) refl
     ∙ sym (flow_more part (entry (Read r (count - due)) place) h ∙ ap (λ (x : Asked). flow_by part x (flow_of part h)) b)
   where
     f : Flow
     f = flow_of part h
 
-    by : (x : Bool) → has_frame_at part f.base ≡ x → without_due due (flow_by part (Reads count) f) ≡ flow_by part (Reads (count - due)) f
+    by : (x : Bool) → is_frame_address part f.base ≡ x → without_due due (flow_by part (Reads count) f) ≡ flow_by part (Reads (count - due)) f
     by true t = rw t (ap (λ (n : ℕ). record f { given = n }) (omega arith))
     by false t = let none = (flow_sound part h).nowhere t in rw t (ap (λ (n : ℕ). record f { given = n }) (omega arith))
 
@@ -74,11 +74,11 @@ due_is part h r count due place t l =
 pub all_due_is : (part : PartData) (h : History) (r count place : ℕ) → (r == 3 && (not (count == 0) && gives_frames (settings_of part.idcode h))) ≡ true →
     without_due count (flow_of part (entry (Read r count) place ∷ h)) ≡ flow_of part h
 all_due_is part h r count place t =
-    ap (without_due count) (flow_more part (entry (Read r count) place) h ∙ ap (λ (b : Bool). flow_by part (if b then Reads count else NothingAsked) f) t) ∙ by (has_frame_at part f.base) refl
+    ap (without_due count) (flow_more part (entry (Read r count) place) h ∙ ap (λ (b : Bool). flow_by part (if b then Reads count else NothingAsked) f) t) ∙ by (is_frame_address part f.base) refl
   where
     f : Flow
     f = flow_of part h
 
-    by : (x : Bool) → has_frame_at part f.base ≡ x → without_due count (flow_by part (Reads count) f) ≡ f
+    by : (x : Bool) → is_frame_address part f.base ≡ x → without_due count (flow_by part (Reads count) f) ≡ f
     by true t = rw t (ap (λ (n : ℕ). record f { given = n }) (omega arith))
     by false t = let none = (flow_sound part h).nowhere t in rw t (ap (λ (n : ℕ). record f { given = n }) (omega arith))

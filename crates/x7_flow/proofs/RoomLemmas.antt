@@ -8,7 +8,7 @@ use Rattle.x7_part.specs.Part.{PartData, frame_words}
 use Rattle.x7_part.specs.Slot.{slots_from}
 use Rattle.x7_memory.specs.FrameMap.{HaveSameFrames}
 use Rattle.x7_pipeline.specs.declared.fault.RunFault.TheVariants.{Overrun}
-use Rattle.x7_pipeline.specs.FarAsRead.{has_frame_at}
+use Rattle.x7_pipeline.specs.FarAsRead.{is_frame_address}
 use Rattle.x7_pipeline.specs.Fault.{address_fault, completes, has_filled, write_fault}
 use Rattle.x7_pipeline.specs.Runs.{frames_of, written_frames, onto, put_over}
 use Rattle.x7_pipeline.proofs.LawLemmas.{landed_empty, lands_over}
@@ -22,7 +22,7 @@ use Rattle.x7_flow.proofs.FlowLemmas.{put_none}
 use Rattle.x7_flow.proofs.ManyLemmas.{word_asked, word_flow, words_flow, words_land}
 
 -- a word for which there is a slot isn't refused
-pub write_none : (part : PartData) (base : ℕ) (run : List ℕ) → has_frame_at part base ≡ true → length run < frame_words part * length (slots_from part base) → write_fault part base run ≡ None
+pub write_none : (part : PartData) (base : ℕ) (run : List ℕ) → is_frame_address part base ≡ true → length run < frame_words part * length (slots_from part base) → write_fault part base run ≡ None
 unfolding write_fault address_fault
 write_none part base [] t l = rw t refl
 write_none part base (w ∷ run) t l = by (completes part (w ∷ run)) (has_filled part base (w ∷ run)) refl refl
@@ -36,7 +36,7 @@ write_none part base (w ∷ run) t l = by (completes part (w ∷ run)) (has_fill
         absurd (omega (arith, l, more, length_run (frame_words part) (w ∷ run)))
 
 -- of words for all of which there are slots none is refused
-pub words_none : (part : PartData) (n : ℕ) (ws : List ℕ) (h : History) → takes_frames (settings_of part.idcode h) ≡ true → has_frame_at part (base_of part h) ≡ true
+pub words_none : (part : PartData) (n : ℕ) (ws : List ℕ) (h : History) → takes_frames (settings_of part.idcode h) ≡ true → is_frame_address part (base_of part h) ≡ true
     → length (run_of part h) + length ws ≤ frame_words part * length (slots_from part (base_of part h)) → NoneRefused part reg.Fdri n ws h
 unfolding NoneRefused
 words_none part n [] h t a l = tt
@@ -47,7 +47,7 @@ words_none part n (w ∷ ws) h t a l =
     let slots : frame_words part * length (slots_from part (base_of part (entry (Write 2 w) (n + 4) ∷ h))) ≡ frame_words part * length (slots_from part (base_of part h)) = ap (λ (x : ℕ). frame_words part * length (slots_from part x)) base in
     let fault : frame_fault part h (Write 2 w) ≡ None =
     ap (λ a. fault_by part a (flow_of part h)) (word_asked (settings_of part.idcode h) w t) ∙ write_none part (base_of part h) (run_of part h) a (omega (arith, l)) in
-    (fault, words_none part (n + 4) ws (entry (Write 2 w) (n + 4) ∷ h) t (ap (has_frame_at part) base ∙ a) (omega (arith, l, run, slots)))
+    (fault, words_none part (n + 4) ws (entry (Write 2 w) (n + 4) ∷ h) t (ap (is_frame_address part) base ∙ a) (omega (arith, l, run, slots)))
 
 -- the memory that words leave which begin a run
 pub words_memory : (part : PartData) (n : ℕ) (ws : List ℕ) (h : History) → takes_frames (settings_of part.idcode h) ≡ true → run_of part h ≡ []

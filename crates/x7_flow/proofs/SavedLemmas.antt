@@ -8,7 +8,7 @@ use Rattle.x7_memory.specs.Plan.{PlanRow, planned}
 use Rattle.x7_memory.proofs.MapLemmas.{override_same, same_memory}
 use Rattle.x7_regs.specs.Command.{command_with}
 use Rattle.x7_pipeline.specs.Runs.{put_over}
-use Rattle.x7_pipeline.specs.FarAsRead.{has_frame_at}
+use Rattle.x7_pipeline.specs.FarAsRead.{is_frame_address}
 use Rattle.x7_pipeline.specs.Copies.{copied_pairs, is_mfw}
 use Rattle.x7_pipeline.specs.Pipeline.{PipelineData}
 use Rattle.x7_pipeline.specs.Saved.{ChangesAt, SavedState, next_put}
@@ -30,7 +30,7 @@ word_changes : (part : PartData) (p : PipelineData) (f : Flow) (w : ℕ) (old ne
 word_changes part p f w old new h words same =
     one_word part p f.command f.base f.run f.source f.given w old new h.stands words (record { added = written_frames_more part f.base f.run; grows = landed_grows part f.base w f.run; memory = same })
 
-copy_by : (part : PartData) (p : PipelineData) (base : ℕ) (source : Option (List ℕ)) (old new : FrameMap) (m b : Bool) → p.base ≡ base → p.source ≡ source → is_mfw p.command ≡ m → has_frame_at part p.base ≡ b
+copy_by : (part : PartData) (p : PipelineData) (base : ℕ) (source : Option (List ℕ)) (old new : FrameMap) (m b : Bool) → p.base ≡ base → p.source ≡ source → is_mfw p.command ≡ m → is_frame_address part p.base ≡ b
     → HaveSameFrames new (put_over (if m && b then copied_pairs base source else []) old) → ChangesAt (next_put part p) old new
 copy_by part p base (Some frame) old new true true e g h i s = rw (h, g, i, e) (changes_copy base (Some frame) old new s)
 copy_by part p base None old new true true e g h i s = changes_none (next_put part p) old new (λ far. s far ∙ put_none [] old refl far)
@@ -43,7 +43,7 @@ access_changes part s (Commands c) t p f old new m i h same = changes_none (next
 access_changes part s (AddsWord w) t p f old new m i h same =
     word_changes part p f w old new h (ap is_mfw (i.command_is ∙ ap command_with m.1)) same
 access_changes part s CopiesSource t p f old new m i h same =
-    copy_by part p f.base f.source old new (is_mfw f.command) (has_frame_at part f.base) h.stands.base_is h.stands.source_is (ap is_mfw h.stands.command_is) (ap (has_frame_at part) h.stands.base_is) same
+    copy_by part p f.base f.source old new (is_mfw f.command) (is_frame_address part f.base) h.stands.base_is h.stands.source_is (ap is_mfw h.stands.command_is) (ap (is_frame_address part) h.stands.base_is) same
 access_changes part s (Reads count) t p f old new m i h same = changes_none (next_put part p) old new (λ far. same far ∙ put_none [] old refl far)
 access_changes part s NothingAsked t p f old new m i h same = changes_none (next_put part p) old new (λ far. same far ∙ put_none [] old refl far)
 

@@ -19,7 +19,7 @@ use Rattle.x7_flow.specs.Settings.{Settings, gives_frames, settings_of, takes_co
 use Rattle.x7_pipeline.specs.declared.fault.RunFault.{RunFault}
 use Rattle.x7_pipeline.specs.declared.fault.RunFault.TheVariants.{Address, Multi}
 use Rattle.x7_pipeline.specs.Runs.{written_frames, put_over, Lands}
-use Rattle.x7_pipeline.specs.FarAsRead.{has_frame_at, loaded_base}
+use Rattle.x7_pipeline.specs.FarAsRead.{is_frame_address, loaded_base}
 use Rattle.x7_pipeline.specs.Copies.{copied_pairs, is_mfw}
 use Rattle.x7_pipeline.specs.Fault.{address_fault, copy_fault, drop_fault, readback_fault}
 use Rattle.x7_pipeline.specs.Flow.{FlowGoesOn, HoldsFlow, LandsAt, ForEachFlow, after_reads, after_words, begun_at, begun_by, pairs_copied_by, fault_of_copy}
@@ -69,7 +69,7 @@ did_word part p q old new w stands lands = record {
 
 copy_allowed : (part : PartData) (f : Flow) → None ≡ copy_fault part f.command f.base f.source → copied_pairs f.base f.source ≡ copy_pairs part f
 unfolding copy_fault address_fault
-copy_allowed part f e = by (is_mfw f.command) (is_some f.source) (has_frame_at part f.base) e
+copy_allowed part f e = by (is_mfw f.command) (is_some f.source) (is_frame_address part f.base) e
   where
     by : (m s b : Bool) → None ≡ (if m && s then (if b then None else Some (Address f.base)) else Some Multi) → copied_pairs f.base f.source ≡ (if m && b then copied_pairs f.base f.source else [])
     by true true true e = refl
@@ -87,9 +87,9 @@ did_copy part p q old new same put allowed = record {
 }
 
 -- a read is refused at its first word, where the base is no address
-read_is : (part : PartData) (base given : ℕ) → (has_frame_at part base ≡ false → given ≡ 0) → readback_fault part base given ≡ address_fault part base
+read_is : (part : PartData) (base given : ℕ) → (is_frame_address part base ≡ false → given ≡ 0) → readback_fault part base given ≡ address_fault part base
 unfolding readback_fault address_fault
-read_is part base given nowhere = by (given == 0) (has_frame_at part base) (λ e. ap (λ (n : ℕ). n == 0) (nowhere e))
+read_is part base given nowhere = by (given == 0) (is_frame_address part base) (λ e. ap (λ (n : ℕ). n == 0) (nowhere e))
   where
     by : (z b : Bool) → (b ≡ false → z ≡ true) → (if z then (if b then None else Some (Address base)) else None) ≡ (if b then None else Some (Address base))
     by true b p = refl
@@ -136,11 +136,11 @@ words_same part base place (suc count) memory other same =
     ∙ ap (λ ws. readback_at part base other place ∷ ws) (words_same part base (place + 1) count memory other same)
 
 -- a read that begins, whose words are all due
-read_flow : (part : PartData) (f : Flow) (count : ℕ) → has_frame_at part f.base ≡ true → flow_by part (Reads count) f ≡ record f { given = f.given + count }
+read_flow : (part : PartData) (f : Flow) (count : ℕ) → is_frame_address part f.base ≡ true → flow_by part (Reads count) f ≡ record f { given = f.given + count }
 read_flow part f count t = ap (λ (b : Bool). record f { given = if b then f.given + count else f.given }) t
 
 pub read_begins : (part : PartData) (p : PipelineData) (frames : List (List ℕ)) (e : Entry) (h : History) (count : ℕ) →
-    asked_after part.idcode h e.access ≡ Reads count → has_frame_at part (base_of part h) ≡ true → AreFramesAfter part p frames h 0 →
+    asked_after part.idcode h e.access ≡ Reads count → is_frame_address part (base_of part h) ≡ true → AreFramesAfter part p frames h 0 →
     AreFramesAfter part p frames (e ∷ h) count × (words_due part (e ∷ h) count ≡ frames_read part h count)
 read_begins part p frames e h count a t are =
     let f : Flow = flow_of part h in
@@ -191,9 +191,9 @@ no_both t f = cc
 -- words are due at an address alone
 pub due_somewhere : (part : PartData) (p : PipelineData) (frames : List (List ℕ)) (h : History) (due : ℕ) → AreFramesAfter part p frames h (due + 1) → None ≡ readback_fault part (base_of part h) (count_given part h - (due + 1))
 unfolding address_fault
-due_somewhere part p frames h due are = by (has_frame_at part (base_of part h)) refl
+due_somewhere part p frames h due are = by (is_frame_address part (base_of part h)) refl
   where
-    by : (b : Bool) → has_frame_at part (base_of part h) ≡ b → None ≡ readback_fault part (base_of part h) (count_given part h - (due + 1))
+    by : (b : Bool) → is_frame_address part (base_of part h) ≡ b → None ≡ readback_fault part (base_of part h) (count_given part h - (due + 1))
     by true t = sym (read_is part (base_of part h) (count_given part h - (due + 1)) (λ f. absurd (no_both t f)) ∙ rw t refl)
     by false f = let none = (flow_sound part h).nowhere f in let some = are.due_given in absurd (omega arith)
 
@@ -219,14 +219,14 @@ read_past part p q frames h due count are stands =
 pub all_due : (part : PartData) (p : PipelineData) (frames : List (List ℕ)) (h : History) (due count : ℕ) → AreFramesAfter part p frames h (due + count) →
     None ≡ drop_fault part (base_of part h) (count_given part h - (due + count)) count
 unfolding drop_fault readback_fault address_fault
-all_due part p frames h due count are = by (has_frame_at part (base_of part h)) refl
+all_due part p frames h due count are = by (is_frame_address part (base_of part h)) refl
   where
     free : (z g : Bool) → None ≡ (if z then None else if g then (if true then None else Some (Address (base_of part h))) else None)
     free true g = refl
     free false true = refl
     free false false = refl
 
-    by : (b : Bool) → has_frame_at part (base_of part h) ≡ b → None ≡ drop_fault part (base_of part h) (count_given part h - (due + count)) count
+    by : (b : Bool) → is_frame_address part (base_of part h) ≡ b → None ≡ drop_fault part (base_of part h) (count_given part h - (due + count)) count
     by true t = rw t (free (count == 0) (count_given part h - (due + count) == 0))
     by false f =
         let none = (flow_sound part h).nowhere f in
@@ -256,9 +256,9 @@ other_read part p frames h r count place b are =
 pub some_read : (r count : ℕ) (x : Bool) → (r == 3 && (not (count == 0) && x)) ≡ true → (count == 0) ≡ false
 some_read r count x t = grind (arith, nat_tests)
 
-from_address : (part : PartData) (base count : ℕ) → (count == 0) ≡ false → None ≡ (if count == 0 then None else address_fault part base) → has_frame_at part base ≡ true
+from_address : (part : PartData) (base count : ℕ) → (count == 0) ≡ false → None ≡ (if count == 0 then None else address_fault part base) → is_frame_address part base ≡ true
 unfolding address_fault
-from_address part base count some none = by (count == 0) (has_frame_at part base) some none
+from_address part base count some none = by (count == 0) (is_frame_address part base) some none
   where
     by : (z b : Bool) → z ≡ false → None ≡ (if z then None else if b then None else Some (Address base)) → b ≡ true
     by true b e f = absurd cc
@@ -273,7 +273,7 @@ frame_read part p frames h r count place b allowed are =
     let f : Flow = flow_of part h in
     let a : asked_after part.idcode h (Read r count) ≡ Reads count = read_asked (settings_of part.idcode h) r count true b in
     let none : None ≡ fault_by part (Reads count) f = allowed f (same_flow part p (without_due 0 f) f (sym (no_less f)) are.flow) in
-    let t : has_frame_at part f.base ≡ true = from_address part f.base count (some_read r count (gives_frames (settings_of part.idcode h)) b) none in
+    let t : is_frame_address part f.base ≡ true = from_address part f.base count (some_read r count (gives_frames (settings_of part.idcode h)) b) none in
     let begun = read_begins part p frames (entry (Read r count) place) h count a t are in
     (ap (λ (x : Asked). fault_by part x f) a ∙ sym none, begun.0, begun.1)
 

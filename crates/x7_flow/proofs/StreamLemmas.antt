@@ -13,7 +13,7 @@ use Rattle.x7_memory.proofs.MapLemmas.{override_again, override_same}
 use Rattle.x7_regs.specs.Command.{command_with}
 use Rattle.x7_pipeline.specs.RunsInWords.{pair_of}
 use Rattle.x7_pipeline.specs.Runs.{older_frames, frames_of, written_frames, onto, put_over, rest_of, Lands}
-use Rattle.x7_pipeline.specs.FarAsRead.{has_frame_at, loaded_base}
+use Rattle.x7_pipeline.specs.FarAsRead.{is_frame_address, loaded_base}
 use Rattle.x7_pipeline.specs.Copies.{copied_pairs, is_mfw}
 use Rattle.x7_pipeline.proofs.LawLemmas.{landed_empty, landed_in_order, reverse_cons}
 use Rattle.x7_pipeline.proofs.RunLemmas.{frames_completes, frames_goes_on, rest_completes, rest_goes_on}
@@ -159,19 +159,19 @@ copied_all part n word ws h t =
     kept_all (IsCopied part (flow_of part h) (settings_of part.idcode h) (memory_of part h) (copy_pairs part (flow_of part h))) 10 (again part (flow_of part h) (settings_of part.idcode h) (memory_of part h) t)
     (n + 4) ws (entry (Write 10 word) (n + 4) ∷ h) (first_copy part h word (n + 4) t)
 
-copies_here : (part : PartData) (w place : ℕ) (earlier : History) (frame : List ℕ) → is_mfw (command_with (command_held earlier)) ≡ true → source_of part earlier ≡ Some frame → has_frame_at part (loaded_base part w) ≡ true →
+copies_here : (part : PartData) (w place : ℕ) (earlier : History) (frame : List ℕ) → is_mfw (command_with (command_held earlier)) ≡ true → source_of part earlier ≡ Some frame → is_frame_address part (loaded_base part w) ≡ true →
     copy_pairs part (flow_of part (entry (Write 1 w) place ∷ earlier)) ≡ record { far = loaded_base part w; words = frame } ∷ []
 unfolding flow_of
 copies_here part w place earlier frame m s a =
     let i = flow_sound part earlier in
     let mfw : is_mfw (flow_of part earlier).command ≡ true = ap is_mfw i.command_is ∙ m in
-    ap (λ (b : Bool). if b && has_frame_at part (loaded_base part w) then copied_pairs (loaded_base part w) (source_of part earlier) else []) mfw
+    ap (λ (b : Bool). if b && is_frame_address part (loaded_base part w) then copied_pairs (loaded_base part w) (source_of part earlier) else []) mfw
     ∙ ap (λ (b : Bool). if b then copied_pairs (loaded_base part w) (source_of part earlier) else []) a
     ∙ ap (copied_pairs (loaded_base part w)) s
 
 -- words of MFWR, one at least, put the source at the base
 pub copies_put : (part : PartData) (earlier : History) (w place n word : ℕ) (ws frame : List ℕ) → takes_copies (settings_of part.idcode earlier) ≡ true →
-    is_mfw (command_with (command_held earlier)) ≡ true → source_of part earlier ≡ Some frame → has_frame_at part (loaded_base part w) ≡ true →
+    is_mfw (command_with (command_held earlier)) ≡ true → source_of part earlier ≡ Some frame → is_frame_address part (loaded_base part w) ≡ true →
     HaveSameFrames (memory_of part (entered_all n (payload_steps 10 (word ∷ ws)) (entry (Write 1 w) place ∷ earlier)))
     (put_over (record { far = loaded_base part w; words = frame } ∷ []) (memory_of part earlier))
 copies_put part earlier w place n word ws frame t m s a far =

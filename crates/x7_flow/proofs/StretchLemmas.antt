@@ -8,7 +8,7 @@ use Rattle.x7_memory.specs.Plan.{PlanRow, planned}
 use Rattle.x7_memory.proofs.MapLemmas.{override_same}
 use Rattle.x7_regs.specs.Command.{command_by}
 use Rattle.x7_pipeline.specs.Runs.{written_frames, put_over}
-use Rattle.x7_pipeline.specs.FarAsRead.{has_frame_at}
+use Rattle.x7_pipeline.specs.FarAsRead.{is_frame_address}
 use Rattle.x7_pipeline.specs.Copies.{copied_pairs, is_mfw, is_wcfg}
 use Rattle.x7_pipeline.proofs.LawLemmas.{landed_empty, put_twice}
 use Rattle.x7_flow.specs.FrameAccess.{asks_frame_copy}
@@ -85,7 +85,7 @@ copy_last : (part : PartData) (f : Flow) (old : List PlanRow) → (is_wcfg f.com
     written_frames part f.base f.run ++ (copy_pairs part f ++ old) ≡ copy_pairs part f ++ (written_frames part f.base f.run ++ old)
 copy_last part f old idle = by (is_mfw f.command) refl
   where
-    by : (b : Bool) → is_mfw f.command ≡ b → written_frames part f.base f.run ++ ((if b && has_frame_at part f.base then copied_pairs f.base f.source else []) ++ old) ≡ (if b && has_frame_at part f.base then copied_pairs f.base f.source else []) ++ (written_frames part f.base f.run ++ old)
+    by : (b : Bool) → is_mfw f.command ≡ b → written_frames part f.base f.run ++ ((if b && is_frame_address part f.base then copied_pairs f.base f.source else []) ++ old) ≡ (if b && is_frame_address part f.base then copied_pairs f.base f.source else []) ++ (written_frames part f.base f.run ++ old)
     by true e = rw (no_landing part f.base f.run (idle (mfw_not_wcfg f.command e))) refl
     by false e = refl
 

@@ -7,7 +7,7 @@ use Rattle.x7_regs.specs.declared.command.Command.{Command}
 use Rattle.x7_regs.specs.declared.command.Command.TheVariants as command
 use Rattle.x7_regs.specs.Command.{command_by, command_with}
 use Rattle.x7_pipeline.specs.Runs.{frames_of}
-use Rattle.x7_pipeline.specs.FarAsRead.{has_frame_at, loaded_base}
+use Rattle.x7_pipeline.specs.FarAsRead.{is_frame_address, loaded_base}
 use Rattle.x7_pipeline.specs.Copies.{is_mfw, is_wcfg, newest_of, source_after}
 use Rattle.x7_flow.specs.FrameAccess.{reads_frame_data, writes_frame_data}
 use Rattle.x7_flow.specs.Asking.{LoadsFar, Commands, AddsWord, CopiesSource, Reads, NothingAsked}
@@ -115,7 +115,7 @@ base_is part e h = base_step part (settings_of part.idcode h) e.access (flow_of 
 -- ---- the count given
 
 given_step : (part : PartData) (idcode : ℕ) (h : History) (access : Access) (f : Flow) →
-    (flow_by part (asked_after idcode h access) f).given ≡ (if access_begins_stretch access then 0 else if reads_frame_data h access && has_frame_at part f.base then f.given + count_asked access else f.given)
+    (flow_by part (asked_after idcode h access) f).given ≡ (if access_begins_stretch access then 0 else if reads_frame_data h access && is_frame_address part f.base then f.given + count_asked access else f.given)
 given_step part idcode h (Write r w) f = by (r == 1) (r == 4) (r == 2 && takes_frames (settings_of idcode h)) (r == 10 && takes_copies (settings_of idcode h))
   where
     by : (far cmd word mfwr : Bool) → (flow_by part (if far then LoadsFar w else if cmd then Commands (command_by w) else if word then AddsWord w else if mfwr then CopiesSource else NothingAsked) f).given
@@ -128,7 +128,7 @@ given_step part idcode h (Write r w) f = by (r == 1) (r == 4) (r == 2 && takes_f
     by false false false false = refl
 given_step part idcode h (Read r count) f = by (r == 3 && (not (count == 0) && gives_frames (settings_of idcode h)))
   where
-    by : (b : Bool) → (flow_by part (if b then Reads count else NothingAsked) f).given ≡ (if b && has_frame_at part f.base then f.given + count else f.given)
+    by : (b : Bool) → (flow_by part (if b then Reads count else NothingAsked) f).given ≡ (if b && is_frame_address part f.base then f.given + count else f.given)
     by true = refl
     by false = refl
 given_step part idcode h (Bad w) f = refl
@@ -138,7 +138,7 @@ unfolding flow_of sum_of_reads
 given_is part [] = refl
 given_is part (e ∷ h) =
     given_step part part.idcode h e.access (flow_of part h)
-    ∙ ap (λ (n : ℕ). if access_begins_stretch e.access then 0 else if reads_frame_data h e.access && has_frame_at part (base_of part h) then n + count_asked e.access else n) (given_is part h)
+    ∙ ap (λ (n : ℕ). if access_begins_stretch e.access then 0 else if reads_frame_data h e.access && is_frame_address part (base_of part h) then n + count_asked e.access else n) (given_is part h)
 
 -- ---- the source
 

@@ -8,7 +8,7 @@ use Rattle.x7_regs.specs.declared.register.Reg.TheVariants as reg
 use Rattle.x7_regs.specs.Command.{code_of}
 use Rattle.x7_regs.specs.Register.{number_of}
 use Rattle.x7_pipeline.specs.Runs.{frames_of}
-use Rattle.x7_pipeline.specs.FarAsRead.{has_frame_at, loaded_base}
+use Rattle.x7_pipeline.specs.FarAsRead.{is_frame_address, loaded_base}
 use Rattle.x7_pipeline.specs.Copies.{newest_of}
 use Rattle.x7_flow.specs.FrameAccess.{reads_frame_data, writes_frame_data}
 use Rattle.x7_flow.specs.Stretches.{access_begins_stretch}
@@ -42,7 +42,7 @@ unfoldable pub sum_of_reads : PartData → History → ℕ
 sum_of_reads part [] = 0
 sum_of_reads part (e ∷ h) =
     if access_begins_stretch e.access then 0 else
-    if reads_frame_data h e.access && has_frame_at part (base_of part h) then sum_of_reads part h + count_asked e.access else sum_of_reads part h
+    if reads_frame_data h e.access && is_frame_address part (base_of part h) then sum_of_reads part h + count_asked e.access else sum_of_reads part h
 
 -- under MFW the newest whole frame of the run that the latest write to CMD ended, if the command was WCFG before it;
 -- else none

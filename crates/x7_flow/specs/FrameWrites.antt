@@ -7,7 +7,7 @@ use Rattle.x7_regs.specs.Command.{code_of, command_code_of}
 use Rattle.x7_part.specs.Part.{PartData, frame_words}
 use Rattle.x7_memory.specs.Plan.{PlanRow}
 use Rattle.x7_pipeline.specs.Copies.{copied_pairs}
-use Rattle.x7_pipeline.specs.FarAsRead.{has_frame_at, loaded_base}
+use Rattle.x7_pipeline.specs.FarAsRead.{is_frame_address, loaded_base}
 use Rattle.x7_pipeline.specs.RunsInWords.{placed_from}
 use Rattle.x7_pipeline.specs.Runs.{onto}
 use Rattle.x7_flow.specs.Settings.{settings_of, takes_copies, takes_frames}
@@ -80,10 +80,10 @@ with_frame_copies x h = with_copies x.place (x.first ∷ x.words) (after_load x.
 abbrev pub pair_copied : PartData → FrameCopies → List PlanRow
 pair_copied part x = copied_pairs (loaded_base part x.far) (Some x.frame)
 
--- a device takes the words of MFWR after a history: it takes copies, CMD holds MFW, the frame is the source, and the
--- word of FAR an address
-pub record TakesCopies (part : PartData) (h : History) (x : FrameCopies) : Type 0 where
+-- the copies that the words of MFWR ask for after a history land: the device takes copies, CMD holds MFW, the frame is
+-- the source, and the word of FAR an address
+pub record CopiesLand (part : PartData) (h : History) (x : FrameCopies) : Type 0 where
   pub takes : takes_copies (settings_of part.idcode h) ≡ true
   pub mfw : has_mfw h ≡ true
   pub source : source_of part h ≡ Some x.frame
-  pub address : has_frame_at part (loaded_base part x.far) ≡ true
+  pub address : is_frame_address part (loaded_base part x.far) ≡ true

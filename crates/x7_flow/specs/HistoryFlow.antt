@@ -7,7 +7,7 @@ use Rattle.x7_regs.specs.declared.register.Reg.TheVariants as reg
 use Rattle.x7_regs.specs.Command.{command_by}
 use Rattle.x7_regs.specs.Register.{number_of}
 use Rattle.x7_pipeline.specs.declared.fault.RunFault.{RunFault}
-use Rattle.x7_pipeline.specs.FarAsRead.{far_of, has_frame_at, loaded_base}
+use Rattle.x7_pipeline.specs.FarAsRead.{far_of, is_frame_address, loaded_base}
 pub use Rattle.x7_pipeline.specs.Flow.{Flow, first_flow}
 use Rattle.x7_pipeline.specs.Flow.{begun_at, begun_by}
 use Rattle.x7_pipeline.specs.Fault.{address_fault, copy_fault, write_fault}
@@ -66,7 +66,7 @@ abbrev pub flow_by : PartData → Asked → Flow → Flow
 flow_by part (LoadsFar w) f = begun_at (loaded_base part w) f
 flow_by part (Commands c) f = begun_by part c f
 flow_by part (AddsWord w) f = record f { run = w ∷ f.run }
-flow_by part (Reads count) f = record f { given = if has_frame_at part f.base then f.given + count else f.given }
+flow_by part (Reads count) f = record f { given = if is_frame_address part f.base then f.given + count else f.given }
 flow_by part _ f = f
 
 -- the flow of a history
@@ -92,7 +92,7 @@ count_given part h = (flow_of part h).given
 
 -- the run or readback of a history begins at an address
 abbrev pub HasAddress : PartData → History → Type 0
-HasAddress part h = has_frame_at part (base_of part h) ≡ true
+HasAddress part h = is_frame_address part (base_of part h) ≡ true
 
 -- FAR as read after a history
 abbrev pub far_read : PartData → History → ℕ

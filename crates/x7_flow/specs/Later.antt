@@ -3,14 +3,13 @@
 use Rattle.std.specs.Prelude.{◌≡◌, ℕ, Bool, true, List, [], ◌∷◌, ◌++◌, Option, None}
 use Rattle.x7_packets.specs.History.{History, Write, command_held, entry}
 use Rattle.x7_part.specs.Part.{PartData}
-use Rattle.x7_memory.specs.FrameMap.{HaveSameFrames}
 use Rattle.x7_memory.specs.Plan.{PlanRow}
 use Rattle.x7_regs.specs.declared.register.Reg.TheVariants as reg
 use Rattle.x7_regs.specs.Register.{number_of}
 use Rattle.x7_regs.specs.Command.{command_with}
 use Rattle.x7_pipeline.specs.Copies.{is_mfw}
 use Rattle.x7_pipeline.specs.FarAsRead.{loaded_base}
-use Rattle.x7_pipeline.specs.Runs.{put_over}
+use Rattle.x7_pipeline.specs.Runs.{GetsPairs}
 use Rattle.x7_flow.specs.Settings.{Settings, settings_from, settings_of, takes_frames}
 use Rattle.x7_flow.specs.HistoryFlow.{Flow, asked_under, flow_by, flow_of, source_of}
 use Rattle.x7_flow.specs.FrameMemory.{memory_of, pairs_put}
@@ -79,4 +78,4 @@ pub record BeginsRun (x : Start) (later : History) : Type 0 where
 
 -- a history's memory is that of another with these pairs put over it
 abbrev pub MemoryGets : PartData → History → History → List PlanRow → Type 0
-MemoryGets part h earlier pairs = HaveSameFrames (memory_of part h) (put_over pairs (memory_of part earlier))
+MemoryGets part h earlier pairs = GetsPairs pairs (memory_of part earlier) (memory_of part h)

@@ -4,7 +4,7 @@ use Rattle.std.specs.Prelude.{◌≡◌, ℕ, ◌==◌, ◌&&◌, not, Bool, tru
 use Rattle.x7_packets.specs.History.{Access, History}
 use Rattle.x7_part.specs.Part.{PartData}
 use Rattle.x7_pipeline.specs.Copies.{is_mfw}
-use Rattle.x7_pipeline.specs.FarAsRead.{has_frame_at}
+use Rattle.x7_pipeline.specs.FarAsRead.{is_frame_address}
 use Rattle.x7_pipeline.specs.RunsInWords.{Overruns}
 use Rattle.x7_flow.specs.Asking.{Asked, AddsWord, CopiesSource, Reads}
 use Rattle.x7_flow.specs.HistoryFlow.{Flow, asked_after, base_of, flow_of, asks_copy, run_of}
@@ -24,7 +24,7 @@ needs_address _ f = false
 -- an access after a history needs an address, and the base, `far`, is none
 abbrev pub LacksAddress : PartData → History → Access → ℕ → Type 0
 LacksAddress part h access far =
-    (needs_address (asked_after part.idcode h access) (flow_of part h) ≡ true) × (has_frame_at part (base_of part h) ≡ false) × (far ≡ base_of part h)
+    (needs_address (asked_after part.idcode h access) (flow_of part h) ≡ true) × (is_frame_address part (base_of part h) ≡ false) × (far ≡ base_of part h)
 
 -- an access after a history is a copy, and there is no frame to copy: the command isn't MFW, or MFW took none
 abbrev pub LacksSource : PartData → History → Access → Type 0
@@ -34,7 +34,7 @@ LacksSource part h access =
 -- an access after a history writes this word of frame data, and the base is an address
 pub record WritesWord (part : PartData) (h : History) (access : Access) (w : ℕ) : Type 0 where
   pub word : asked_after part.idcode h access ≡ AddsWord w
-  pub address : has_frame_at part (base_of part h) ≡ true
+  pub address : is_frame_address part (base_of part h) ≡ true
 
 -- the slots from the base are used up by the frames of the run, and this word completes one more
 abbrev pub LacksSlot : PartData → History → ℕ → Type 0
@@ -42,4 +42,4 @@ LacksSlot part h w = Overruns part (base_of part h) (w ∷ run_of part h)
 
 -- a history has a run only where its base is an address of the part
 abbrev pub RunsAtAddress : PartData → History → Type 0
-RunsAtAddress part h = has_frame_at part (base_of part h) ≡ false → run_of part h ≡ []
+RunsAtAddress part h = is_frame_address part (base_of part h) ≡ false → run_of part h ≡ []

@@ -8,11 +8,11 @@ use Rattle.x7_pipeline.specs.declared.fault.RunFault.{RunFault}
 use Rattle.x7_part.specs.Part.{PartData}
 use Rattle.x7_memory.specs.FrameMap.{FrameMap, HaveSameFrames}
 use Rattle.x7_memory.specs.PartFrames.{frame_at}
-use Rattle.x7_pipeline.specs.FarAsRead.{has_frame_at}
+use Rattle.x7_pipeline.specs.FarAsRead.{is_frame_address}
 use Rattle.x7_pipeline.specs.Flow.{HoldsFlow}
 use Rattle.x7_pipeline.specs.Pipeline.{AreOfPart, PipelineData}
 use Rattle.x7_pipeline.specs.Readback.{readback_at}
-use Rattle.x7_pipeline.specs.Runs.{put_over}
+use Rattle.x7_pipeline.specs.Runs.{GetsPairs}
 use Rattle.x7_flow.specs.Asking.{Asked, Reads}
 use Rattle.x7_flow.specs.declared.settings.FrameSettings.{FrameSettings}
 use Rattle.x7_flow.specs.HistoryFlow.{Flow, HasAddress, asked_after, base_of, far_in, flow_by, flow_of, frame_fault, count_given}
@@ -24,7 +24,7 @@ use Rattle.x7_flow.specs.Settings.{AreSettingsAfter}
 -- the pipeline stands for a flow, which has given words only where its base is an address
 pub record HasFlow (part : PartData) (p : PipelineData) (f : Flow) : Type 0 where
   pub stands : HoldsFlow part p f
-  pub nowhere : has_frame_at part f.base ≡ false → f.given ≡ 0
+  pub nowhere : is_frame_address part f.base ≡ false → f.given ≡ 0
 
 -- a flow without the last `due` of its words given, which are still due
 abbrev pub without_due : ℕ → Flow → Flow
@@ -53,7 +53,7 @@ frames_state pipeline memory = record { pipeline = pipeline; memory = memory }
 -- frames, old before and new after they did what an access asks
 pub record HaveDone (part : PartData) (a : Asked) (old new : FramesState) : Type 0 where
   pub flow : (f : Flow) → HasFlow part old.pipeline f → HasFlow part new.pipeline (flow_by part a f)
-  pub memory : (f : Flow) → HasFlow part old.pipeline f → HaveSameFrames (frame_at part new.memory) (put_over (pairs_put part a f) (frame_at part old.memory))
+  pub memory : (f : Flow) → HasFlow part old.pipeline f → GetsPairs (pairs_put part a f) (frame_at part old.memory) (frame_at part new.memory)
 
 -- `count` words of a readback, the first of which is its word `place`, from 0
 abbrev pub readback_words : PartData → ℕ → FrameMap → ℕ → ℕ → List ℕ
@@ -110,6 +110,11 @@ pub record ReadsFrames (part : PartData) (f : FramesState) (h : History) (access
 -- the access by which a word is written to a register
 abbrev pub write_access : Reg → ℕ → Access
 write_access register word = Write (number_of register) word
+
+-- `Fact` holds of what a word written to a register asks, after each history that leaves these settings
+abbrev pub ForEachAsked : PartData → FrameSettings → Reg → ℕ → (Asked → Type 0) → Type 0
+ForEachAsked part settings register word Fact =
+    (h : History) → AreSettingsAfter part.idcode settings h → Fact (asked_after part.idcode h (write_access register word))
 
 -- the entry of a word written to a register at a place
 abbrev pub write_entry : Reg → ℕ → ℕ → Entry

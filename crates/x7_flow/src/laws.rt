@@ -14,7 +14,7 @@ ghost use Rattle.x7_flow.specs.Alike.{AreSameButForMask, WritesMaskBeforeCtl0};
 ghost use Rattle.x7_flow.specs.HistoryFlow.{Flow, HasAddress, asked_after, base_of, begins_stretch, far_read, flow_of, frame_fault, count_given, asks_copy, asks_frame_read, adds_frame_word, run_of, source_of};
 ghost use Rattle.x7_flow.specs.FrameAccess.{asks_frame_copy, reads_frame_data, writes_frame_data};
 ghost use Rattle.x7_flow.specs.FrameMemory.{written_frames_more, memory_of};
-ghost use Rattle.x7_flow.specs.FrameWrites.{FrameCopies, FrameWrite, MfwAfter, TakesCopies, TakesWrite, pair_copied, pairs_placed, with_frame_copies, with_frames};
+ghost use Rattle.x7_flow.specs.FrameWrites.{CopiesLand, FrameCopies, FrameWrite, MfwAfter, TakesWrite, pair_copied, pairs_placed, with_frame_copies, with_frames};
 ghost use Rattle.x7_flow.specs.FlowInWords.{base_after, frame_taken, sum_of_reads, words_written};
 ghost use Rattle.x7_flow.specs.HasOnlyFramesOf.{HasOnlyFramesOf};
 ghost use Rattle.x7_flow.specs.Later.{BeginsRun, MemoryGets, Start, after_load, flow_from, flow_on, has_mfw, pairs_after, pairs_alone, pairs_after_load, pairs_from, pairs_loaded, pairs_on, start_on};
@@ -135,7 +135,7 @@ pub fn later_histories_join()
 pub fn written_frames_land_in_order()
     ensures write { (part : PartData) (earlier : History) (x : FrameWrite) → TakesWrite part earlier x →
         MemoryGets part (with_frames x earlier) earlier (reverse (pairs_placed part x)) }
-    ensures copies { (part : PartData) (earlier : History) (x : FrameCopies) → TakesCopies part earlier x →
+    ensures copies { (part : PartData) (earlier : History) (x : FrameCopies) → CopiesLand part earlier x →
         MemoryGets part (with_frame_copies x earlier) earlier (pair_copied part x) }
 {}
 

@@ -2,12 +2,11 @@
 ghost use Rattle.std.specs.Prelude.{◌≡◌, ◌/◌, ◌≤◌, ℕ, length, IfNone, OnSome};
 ghost use Rattle.x7_words.specs.Word.{AreWholeWords};
 ghost use Rattle.x7_regs.specs.declared.register.Reg.TheVariants as reg;
-ghost use Rattle.x7_flow.specs.Settings.{AreSettingsAfter, takes_copies as takes_copies_by};
+ghost use Rattle.x7_flow.specs.Settings.{takes_copies as takes_copies_by};
 ghost use Rattle.x7_flow.specs.WordsTaken.{ForEachHistoryThatTakes, WordsTaken, words_to};
-ghost use Rattle.x7_packets.specs.History.{History};
 ghost use Rattle.x7_pipeline.specs.Pipeline.{AreOfPart};
-ghost use Rattle.x7_flow.specs.HistoryFlow.{Flow, asked_after, fault_by};
-ghost use Rattle.x7_flow.specs.Standing.{HaveDone, HasFlow, frames_state, write_access};
+ghost use Rattle.x7_flow.specs.HistoryFlow.{Flow, fault_by};
+ghost use Rattle.x7_flow.specs.Standing.{ForEachAsked, HaveDone, HasFlow, frames_state};
 
 use crate::asking::{takes_copies, takes_frames};
 use crate::settings::FrameSettings;
@@ -27,10 +26,9 @@ pub(crate) fn take_written_word(
     memory: &mut Memory,
 ) -> Option<RunFault>
     requires part { AreOfPart part.now pipeline.old memory.old }
-    ensures done { (h : History) → AreSettingsAfter part.now.idcode settings h →
-        IfNone result (HaveDone part.now (asked_after part.now.idcode h (write_access reg word)) (frames_state pipeline.old memory.old) (frames_state pipeline.new memory.new)) }
-    ensures fault { (h : History) (f : Flow) → AreSettingsAfter part.now.idcode settings h → HasFlow part.now pipeline.old f →
-        result ≡ fault_by part.now (asked_after part.now.idcode h (write_access reg word)) f }
+    ensures done { ForEachAsked part.now settings reg word (λ asked.
+        IfNone result (HaveDone part.now asked (frames_state pipeline.old memory.old) (frames_state pipeline.new memory.new))) }
+    ensures fault { ForEachAsked part.now settings reg word (λ asked. (f : Flow) → HasFlow part.now pipeline.old f → result ≡ fault_by part.now asked f) }
 
     // Whatever the answer.
     ensures part { AreOfPart part.now pipeline.new memory.new }

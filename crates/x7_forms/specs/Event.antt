@@ -81,13 +81,22 @@ input_fault_text input.Image = codes "image"
 input_fault_text input.Long = codes "long"
 input_fault_text (input.Layout place) = codes "layout byte " ++ decimal place
 
+-- what the line of a refusal says of a record's sum: its line, the byte that makes the sum 0, and the one that stands
+-- there
+abbrev pub sum_text : ℕ → ℕ → ℕ → List ℕ
+sum_text line want got = decimal line ++ (codes " want " ++ (hex_byte want ++ (codes " got " ++ hex_byte got)))
+
 -- what the line of a refusal says after its label
 abbrev pub detail_text : Detail → List ℕ
 detail_text detail.Nothing = []
 detail_text (detail.Number number) = decimal number
 detail_text (detail.Word word) = hex_word word
-detail_text (detail.Sum line want got) = decimal line ++ (codes " want " ++ (hex_byte want ++ (codes " got " ++ hex_byte got)))
+detail_text (detail.Sum line want got) = sum_text line want got
 detail_text (detail.Key place) = which_text place
+
+-- the line of a refusal: what stands before the name, the name, a label, and what comes after that
+abbrev pub refusal_line : List ℕ → List ℕ → List ℕ → List ℕ → List ℕ
+refusal_line before_name name label detail = before_name ++ (name ++ (label ++ (detail ++ codes "\n")))
 
 -- a row of the table of reasons: the status and the cause of a reason, and what its line says between `x7: ` and the
 -- name, and after the name

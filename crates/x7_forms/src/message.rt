@@ -1,8 +1,7 @@
 //! What the line of a refusal says after the name of the input or of the flash, and the line. No memory is taken.
-ghost use Rattle.std.specs.Prelude.{◌≡◌, ◌++◌, codes, decimal};
+ghost use Rattle.std.specs.Prelude.{◌≡◌, ◌++◌, Some, codes};
 ghost use Rattle.x7_words.specs.Sink.{PutsOrFails};
-ghost use Rattle.x7_text.specs.Digits.{hex_byte};
-ghost use Rattle.x7_forms.specs.Event.{detail_text, input_fault_text, part_fault_text, reason_row, which_text};
+ghost use Rattle.x7_forms.specs.Event.{detail_text, input_fault_text, part_fault_text, placed_key, reason_row, refusal_line, sum_text, which_text};
 
 use crate::bad_input::InputFault;
 use crate::refusal::Why;
@@ -90,7 +89,7 @@ fn write_text<'x, E: Sink>(
     label: &'x [u8],
     text: &'x [u8],
 ) -> Result<(), Failed>
-    ensures { PutsOrFails (E.state err.old) (before_name.now ++ (name.now ++ (label.now ++ (text.now ++ codes "\n")))) (E.state err.new) }
+    ensures { PutsOrFails (E.state err.old) (refusal_line before_name.now name.now label.now text.now) (E.state err.new) }
 {
     write_pieces(err, &[before_name, name.as_bytes(), label, text, b"\n"])
 }
@@ -105,8 +104,7 @@ fn write_sum<'x, E: Sink>(
     want: u8,
     got: u8,
 ) -> Result<(), Failed>
-    ensures { PutsOrFails (E.state err.old) (before_name.now ++ (name.now ++ (label.now
-        ++ ((decimal line ++ (codes " want " ++ (hex_byte want ++ (codes " got " ++ hex_byte got)))) ++ codes "\n")))) (E.state err.new) }
+    ensures { PutsOrFails (E.state err.old) (refusal_line before_name.now name.now label.now (sum_text line want got)) (E.state err.new) }
 {
     let mut buffer = Buffer::new();
     let line = buffer.format(line).as_bytes();
@@ -135,8 +133,7 @@ fn write_in_row<'x, E: Sink>(
     key: &'x str,
     row: u32,
 ) -> Result<(), Failed>
-    ensures { PutsOrFails (E.state err.old) (before_name.now ++ (name.now ++ (label.now
-        ++ ((key.now ++ codes " in row " ++ decimal row) ++ codes "\n")))) (E.state err.new) }
+    ensures { PutsOrFails (E.state err.old) (refusal_line before_name.now name.now label.now (placed_key key.now (Some row))) (E.state err.new) }
 {
     let mut buffer = Buffer::new();
     let row = buffer.format(row).as_bytes();
@@ -162,7 +159,7 @@ fn write_key<'x, E: Sink>(
     label: &'x [u8],
     place: Which,
 ) -> Result<(), Failed>
-    ensures { PutsOrFails (E.state err.old) (before_name.now ++ (name.now ++ (label.now ++ (which_text place ++ codes "\n")))) (E.state err.new) }
+    ensures { PutsOrFails (E.state err.old) (refusal_line before_name.now name.now label.now (which_text place)) (E.state err.new) }
 {
     let key = place.key.name();
     match place.row {
@@ -179,7 +176,7 @@ pub(crate) fn write_line<E: Sink>(
     label: &[u8],
     detail: Detail,
 ) -> Result<(), Failed>
-    ensures { PutsOrFails (E.state err.old) (before_name.now ++ (name.now ++ (label.now ++ (detail_text detail ++ codes "\n")))) (E.state err.new) }
+    ensures { PutsOrFails (E.state err.old) (refusal_line before_name.now name.now label.now (detail_text detail)) (E.state err.new) }
 {
     match detail {
         Detail::Nothing => write_text(err, before_name, name, label, b""),

@@ -1,5 +1,6 @@
 -- A frames text that is read line by line (this project's choice).
 use Rattle.std.specs.Prelude.{◌≡◌, ◌⊎◌, ◌≤◌, ℕ, Bool, List, [], ◌∷◌, ◌++◌, Result, Err}
+use Rattle.x7_text.specs.LineReader.{ReaderState, StandsFor, WantsIn}
 use Rattle.x7_text.specs.Lines.{split}
 use Rattle.x7_part.specs.Part.{PartData, frame_words}
 use Rattle.x7_memory.specs.Plan.{AreApart, PlanData, PlanRow}
@@ -28,6 +29,14 @@ HasRows part r lines = (r.part ≡ part) × AreGood part lines r.rows
 -- lines that stay good with one line more after them: only at such a line may memory be wanting
 abbrev pub StayGoodWith : PartData → List (List ℕ) → List ℕ → Type 0
 StayGoodWith part lines line = (rows : List PlanRow) × AreGood part (lines ++ line ∷ []) rows
+
+-- a reader was given this text for a part, and memory may be wanting as it takes this piece
+abbrev pub WantsForPiece : PartData → ReaderState RowsRead → List ℕ → List ℕ → Type 0
+WantsForPiece part r text piece = (s : StandsFor (HasRows part) r text) × WantsIn (HasRows part) (StayGoodWith part) s.lines piece
+
+-- a reader was given this text for a part, and memory may be wanting at its last line, the one without an end
+abbrev pub WantsForEnd : PartData → ReaderState RowsRead → List ℕ → Type 0
+WantsForEnd part r text = (s : StandsFor (HasRows part) r text) × StayGoodWith part s.lines r.held
 
 -- each text of these lines comes to this plan or this fault
 abbrev pub ComeTo : PartData → Result PlanData FramesFault → List (List ℕ) → Type 0

@@ -1,10 +1,10 @@
 //! Laws of frame texts. The functions do nothing: their contracts are the laws.
 ghost use Rattle.std.specs.Prelude.{◌≡◌, ◌∷◌, ℕ, List, Ok, Err};
 ghost use Rattle.x7_text.specs.Lines.{split};
-ghost use Rattle.x7_text.specs.LineReader.{ReaderState, StandsFor, WantsIn};
+ghost use Rattle.x7_text.specs.LineReader.{ReaderState};
 ghost use Rattle.x7_part.specs.Part.{PartData};
 ghost use Rattle.x7_memory.specs.Plan.{IsPlanFor, PlanData};
-ghost use Rattle.x7_frames.specs.FrameLines.{StayGoodWith, HasRows, RowsRead};
+ghost use Rattle.x7_frames.specs.FrameLines.{RowsRead, WantsForEnd, WantsForPiece};
 ghost use Rattle.x7_frames.specs.FramesText.{HasPlanOrFault, IsGoodText, IsPlanOf, plan_text};
 ghost use Rattle.x7_frames.specs.LineTaken.{IsGoodLine};
 ghost use Rattle.x7_frames.specs.declared.fault.FramesFault.{FramesFault};
@@ -25,10 +25,9 @@ pub fn every_text_is_read()
 /// first line ends in the piece, that line is good after the lines taken; if it may be at the last line of the text,
 /// the one without an end, the text has a plan.
 pub fn memory_wants_for_good_lines()
-    ensures piece { (part : PartData) (r : ReaderState RowsRead) (text piece line after : List ℕ) (s : StandsFor (HasRows part) r text)
-        → WantsIn (HasRows part) (StayGoodWith part) s.lines piece → split piece ≡ line ∷ split after → IsGoodLine part r.taker.rows line }
-    ensures end { (part : PartData) (r : ReaderState RowsRead) (text : List ℕ) (s : StandsFor (HasRows part) r text)
-        → StayGoodWith part s.lines r.held → IsGoodText part text }
+    ensures piece { (part : PartData) (r : ReaderState RowsRead) (text piece line after : List ℕ) → WantsForPiece part r text piece
+        → split piece ≡ line ∷ split after → IsGoodLine part r.taker.rows line }
+    ensures end { (part : PartData) (r : ReaderState RowsRead) (text : List ℕ) → WantsForEnd part r text → IsGoodText part text }
 {}
 
 /// The text of a plan for a part, read for the part, has that plan.

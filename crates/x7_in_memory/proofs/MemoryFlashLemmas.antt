@@ -6,7 +6,7 @@ use Rattle.std.specs.Cmp.Lexicographic.{bytes_decides}
 use Rattle.std.specs.Str.{bytes_eq}
 use Rattle.x7_words.specs.Count.{HasRisen}
 use Rattle.x7_words.specs.Flash.{replaced, FlashIsAskedFor, IsTorn, TimeElapses, KeepsBytes, OnlyReads, SeesBytes, WritesNothing}
-use Rattle.x7_in_memory.specs.Memory.{FlashInMemory, PastWrite, WriteRecord, left_by, write_refused, next_tear, latest_tear, flash_write_fails, known_flash, names_asked, seen_in, after_memory_attach, after_read_at, flash_fails, begun, after_refusal, after_tear, after_begun_write, after_flash_write, recorded, has_room}
+use Rattle.x7_in_memory.specs.Memory.{FlashInMemory, PastWrite, WriteRecord, left_by, write_refused, next_tear, latest_tear, flash_write_fails, known_flash, names_asked, seen_in, after_memory_attach, after_read_at, flash_call_fails, begun, after_refusal, after_tear, after_begun_write, after_flash_write, recorded, has_room}
 use Rattle.x7_in_memory.specs.FoundSince.{FoundSince}
 use Rattle.x7_words.proofs.CountLemmas.{raised_risen}
 use Rattle.x7_words.proofs.FlashLemmas.{get_or_slice_range, old_is_torn}
@@ -221,7 +221,7 @@ attach_stays old new name e faults absences = record {
 module _ (old new : FlashInMemory) (place count : ℕ) (e : new ≡ after_read_at old place count) where
   -- what was seen stays so
   stays_seen : (at byte : ℕ) → IsTrue (seen_in old at byte) → IsTrue (seen_in new at byte)
-  stays_seen at byte h = subst (λ (n : FlashInMemory). IsTrue (seen_in n at byte)) (sym e) (wider (flash_fails old))
+  stays_seen at byte h = subst (λ (n : FlashInMemory). IsTrue (seen_in n at byte)) (sym e) (wider (flash_call_fails old))
     where
       wider : (fails : Bool) → IsTrue (nat_le (cond fails old.seen_from (min old.seen_from place)) at && (nat_lt at (cond fails old.seen_to (max old.seen_to (place + count))) && (byte == get_or old.bytes at 0)))
       wider true = h
@@ -240,8 +240,8 @@ module _ (old new : FlashInMemory) (place count : ℕ) (e : new ≡ after_read_a
   }
 
   -- what was read is seen
-  read_seen : (read : List ℕ) → length read ≡ count → flash_fails old ≡ false → read ≡ slice_range old.bytes place (place + count) → SeesBytes (known_flash new) place read
-  read_seen read long works is i h = subst (λ (n : FlashInMemory). IsTrue (seen_in n (place + i) (get_or read i 0))) (sym e) (between (flash_fails old) works)
+  read_seen : (read : List ℕ) → length read ≡ count → flash_call_fails old ≡ false → read ≡ slice_range old.bytes place (place + count) → SeesBytes (known_flash new) place read
+  read_seen read long works is i h = subst (λ (n : FlashInMemory). IsTrue (seen_in n (place + i) (get_or read i 0))) (sym e) (between (flash_call_fails old) works)
     where
       same : get_or read i 0 ≡ get_or old.bytes (place + i) 0
       same = ap (λ b. get_or b i 0) is ∙ get_or_slice_range old.bytes place count i (omega (arith, h, long))
@@ -251,6 +251,6 @@ module _ (old new : FlashInMemory) (place count : ℕ) (e : new ≡ after_read_a
       between true w = absurd (cc)
       between false w = grind (arith, nat_tests, h, long, same)
 
-  pub read_sees : (read : List ℕ) (answer : Result (Unit {0}) FailedWrite) → length read ≡ count → is_err answer ≡ flash_fails old → OnOk answer (read ≡ slice_range old.bytes place (place + count)) → OnOk answer (SeesBytes (known_flash new) place read)
+  pub read_sees : (read : List ℕ) (answer : Result (Unit {0}) FailedWrite) → length read ≡ count → is_err answer ≡ flash_call_fails old → OnOk answer (read ≡ slice_range old.bytes place (place + count)) → OnOk answer (SeesBytes (known_flash new) place read)
   read_sees read (Ok _) long a is = read_seen read long (sym a) is
   read_sees read (Err _) long a is = tt

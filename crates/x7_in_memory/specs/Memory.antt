@@ -106,8 +106,8 @@ abbrev pub read_count : InputsInMemory → ℕ → ℕ
 read_count m room = min (min room m.most) (length (unwrap_or m.rest []))
 
 -- the inputs after a read into a buffer with room for `room` bytes
-abbrev pub after_read : InputsInMemory → ℕ → InputsInMemory
-after_read m room =
+abbrev pub inputs_after_read : InputsInMemory → ℕ → InputsInMemory
+inputs_after_read m room =
     record m {
       calls = numbered m.calls;
       faults = raised_if (next_fails m.calls) m.faults;
@@ -129,8 +129,8 @@ pub record SinkInMemory : Type 0 where
   pub faults : ℕ
 
 -- a write of the piece fails, as planned, or since the room is full and the piece has a byte
-abbrev pub write_fails : SinkInMemory → List ℕ → Bool
-write_fails s piece = next_fails s.calls || (nat_le s.room (length s.bytes) && nat_lt 0 (length piece))
+abbrev pub sink_write_fails : SinkInMemory → List ℕ → Bool
+sink_write_fails s piece = next_fails s.calls || (nat_le s.room (length s.bytes) && nat_lt 0 (length piece))
 
 -- how many bytes of the piece a write takes
 abbrev pub write_count : SinkInMemory → List ℕ → ℕ
@@ -141,8 +141,8 @@ abbrev pub after_write : SinkInMemory → List ℕ → SinkInMemory
 after_write s piece =
     record s {
       calls = numbered s.calls;
-      faults = raised_if (write_fails s piece) s.faults;
-      bytes = if write_fails s piece then s.bytes else s.bytes ++ take (write_count s piece) piece;
+      faults = raised_if (sink_write_fails s piece) s.faults;
+      bytes = if sink_write_fails s piece then s.bytes else s.bytes ++ take (write_count s piece) piece;
     }
 
 -- one write of a flash in memory
@@ -266,28 +266,28 @@ known_flash f = record {
 }
 
 -- the next call of the flash fails, as planned or since a write was torn
-abbrev pub flash_fails : FlashInMemory → Bool
-flash_fails f = f.stopped || next_fails f.calls
+abbrev pub flash_call_fails : FlashInMemory → Bool
+flash_call_fails f = f.stopped || next_fails f.calls
 
 -- what an attach under the name answers
 abbrev pub attach_answer : FlashInMemory → List ℕ → Result (Unit {0}) SelectFault
 attach_answer f name =
-    if flash_fails f then Err Failed
+    if flash_call_fails f then Err Failed
     else if bytes_eq f.name name then Ok tt
     else Err Missing
 
 -- the absences after an attach under the name
 abbrev pub absences_after_attach : FlashInMemory → List ℕ → ℕ
 absences_after_attach f name =
-    if flash_fails f || bytes_eq f.name name then f.absences else raised f.absences
+    if flash_call_fails f || bytes_eq f.name name then f.absences else raised f.absences
 
 -- the flash after an attach under the name
 abbrev pub after_memory_attach : FlashInMemory → List ℕ → FlashInMemory
 after_memory_attach f name =
     record f {
       calls = numbered f.calls;
-      read_faults = raised_if (flash_fails f) f.read_faults;
-      attached = not (flash_fails f) && bytes_eq f.name name;
+      read_faults = raised_if (flash_call_fails f) f.read_faults;
+      attached = not (flash_call_fails f) && bytes_eq f.name name;
       asked = f.asked || bytes_eq f.name name;
       absences = absences_after_attach f name;
     }
@@ -297,15 +297,15 @@ abbrev pub after_read_at : FlashInMemory → ℕ → ℕ → FlashInMemory
 after_read_at f place count =
     record f {
       calls = numbered f.calls;
-      read_faults = raised_if (flash_fails f) f.read_faults;
-      seen_from = if flash_fails f then f.seen_from else min f.seen_from place;
-      seen_to = if flash_fails f then f.seen_to else max f.seen_to (place + count);
+      read_faults = raised_if (flash_call_fails f) f.read_faults;
+      seen_from = if flash_call_fails f then f.seen_from else min f.seen_from place;
+      seen_to = if flash_call_fails f then f.seen_to else max f.seen_to (place + count);
     }
 
 -- a write of `count` bytes is refused and changes no byte: as planned, since a write was torn, or since the record has
 -- no room
 abbrev pub write_refused : FlashInMemory → ℕ → Bool
-write_refused f count = flash_fails f || not (has_room f.writes count)
+write_refused f count = flash_call_fails f || not (has_room f.writes count)
 
 -- the pattern by which the next call, if it is a write, is torn; none where it isn't the call that is to be torn
 abbrev pub next_tear : FlashInMemory → Option ℕ

@@ -3,7 +3,7 @@ ghost use Rattle.std.specs.Prelude.{◌≡◌, ◌+◌, ◌<◌, ◌≤◌, ◌^
 ghost use Rattle.x7_words.specs.Count.{IsLaterCount};
 ghost use Rattle.x7_words.specs.Word.{AreBytes};
 ghost use Rattle.x7_words.specs.Flash.{zip_with, cleared, erased_sector, replaced, sector_size, sector_place};
-ghost use Rattle.x7_in_memory.specs.Memory.{new_flash, with_failing_call, flash_fails, numbered, with_room, has_room, recorded, left_by, torn_byte, attach_answer, after_memory_attach, after_read_at, write_refused, flash_write_fails, begun, after_refusal, after_flash_write, latest_tear, after_tear};
+ghost use Rattle.x7_in_memory.specs.Memory.{new_flash, with_failing_call, flash_call_fails, numbered, with_room, has_room, recorded, left_by, torn_byte, attach_answer, after_memory_attach, after_read_at, write_refused, flash_write_fails, begun, after_refusal, after_flash_write, latest_tear, after_tear};
 
 use crate::calls::Calls;
 use crate::record::Record;
@@ -211,7 +211,7 @@ impl MemoryFlash {
 
     /// Takes the next number for a call; an error where the call is to fail, or a write was torn before.
     fn next_call(&mut self) -> Result<(), Failed>
-        ensures answer { is_err result ≡ flash_fails self.old }
+        ensures answer { is_err result ≡ flash_call_fails self.old }
         ensures after { self.new ≡ record self.old { calls = numbered self.old.calls } }
     {
         self.calls.next()?;
@@ -314,7 +314,7 @@ impl Flash for MemoryFlash {
     fn read_at(&mut self, place: u64, buf: &mut [u8]) -> Result<(), Failed>
         requires attached { self.old.attached ≡ true }
         requires within { place + length buf.old ≤ length self.old.bytes }
-        ensures answer { is_err result ≡ flash_fails self.old }
+        ensures answer { is_err result ≡ flash_call_fails self.old }
         ensures read { OnOk result (buf.new ≡
             slice_range self.old.bytes place (place + length buf.old)) }
         ensures same_buffer { OnErr result (buf.new ≡ buf.old) }

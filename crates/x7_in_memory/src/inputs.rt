@@ -2,7 +2,7 @@
 ghost use Rattle.std.specs.Prelude.{◌≡◌, [], ◌<◌, ◌≤◌, ◌+◌, ◌^◌, take, drop, length, Some, None, true, is_some, is_err, OnOk, OnErr, IfOk};
 ghost use Rattle.x7_words.specs.Count.{IsLaterCount};
 ghost use Rattle.x7_words.specs.Input.{preceded, AtEnd};
-ghost use Rattle.x7_in_memory.specs.Memory.{next_fails, with_failing_call, no_calls, after_put, select_answer, after_memory_select, read_count, after_read, known_inputs};
+ghost use Rattle.x7_in_memory.specs.Memory.{next_fails, with_failing_call, no_calls, after_put, select_answer, after_memory_select, read_count, inputs_after_read, known_inputs};
 
 use crate::calls::Calls;
 use crate::named_bytes::{NamedBytes, left_at, next_place, place_of};
@@ -163,7 +163,7 @@ impl Inputs for MemoryInputs {
         ensures kept { IfOk result (λ n. drop n buf.new ≡ drop n buf.old) }
         ensures same_buffer { OnErr result (buf.new ≡ buf.old) }
         ensures length { length buf.new ≡ length buf.old }
-        ensures after { self.new ≡ after_read self.old (length buf.old) }
+        ensures after { self.new ≡ inputs_after_read self.old (length buf.old) }
         ensures at_most_one_more { self.new.ends ≤ self.old.ends + 1 }
         ensures no_end { IfOk result (λ n. 0 < n → self.new.ends ≤ self.old.ends) }
         ensures no_end_on_error { OnErr result (self.new.ends ≤ self.old.ends) }

@@ -1,7 +1,7 @@
 //! A sink in memory.
 ghost use Rattle.std.specs.Prelude.{◌≡◌, [], ◌<◌, ◌≤◌, ◌^◌, length, Some, OnOk, OnErr, IfOk, is_err};
 ghost use Rattle.x7_words.specs.Count.{IsLaterCount};
-ghost use Rattle.x7_in_memory.specs.Memory.{no_calls, with_failing_call, write_fails, write_count, after_write};
+ghost use Rattle.x7_in_memory.specs.Memory.{no_calls, with_failing_call, sink_write_fails, write_count, after_write};
 
 use crate::calls::Calls;
 use std::alloc::Global;
@@ -99,7 +99,7 @@ impl Sink for MemorySink {
     ghost state = { λ s. record { written = Some s.bytes; faults = s.faults } };
 
     fn write(&mut self, piece: &[u8]) -> Result<usize, Failed>
-        ensures answer { is_err result ≡ write_fails self.old piece.now }
+        ensures answer { is_err result ≡ sink_write_fails self.old piece.now }
         ensures count { IfOk result (λ n. n ≡ write_count self.old piece.now) }
         ensures progress { IfOk result (λ n. 0 < length piece.now → 0 < n) }
         ensures after { self.new ≡ after_write self.old piece.now }

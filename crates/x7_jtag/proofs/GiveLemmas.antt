@@ -18,7 +18,7 @@ use Rattle.x7_engine.specs.UntilRead.{RoomBefore}
 use Rattle.x7_engine.proofs.ReadsLemmas.{reads_grow}
 use Rattle.x7_jtag.specs.Port.{words_read_out}
 use Rattle.x7_jtag.specs.Queue.{Queue, dropped, in_turn, most_bytes_held, offered, waits, queue_with_room, queue_of}
-use Rattle.x7_jtag.specs.Tap.{QueueHolds, QueueStandsFor, QueueState, TookOfGiven, given_by, words_taken}
+use Rattle.x7_jtag.specs.Tap.{QueueHolds, QueueStandsFor, QueueState, TookOfGiven, given_by, reads_taken}
 use Rattle.x7_jtag.proofs.TookLemmas.{reads_took, taken_all, took_more}
 
 -- ---- bytes offered while no word waits
@@ -66,21 +66,21 @@ module _ (part : PartData) (given bytes piece : List ℕ) (t : ℕ) where
       subst (λ (x : List ℕ). TookOfGiven part (given ++ prefix) (bytes ++ x)) same (took_more part given bytes prefix t (prefix_bytes count piece f) took z ends)
 
   holds_piece : (k : QueueState) (d e : DeviceState) (held : List ℕ) (out count : ℕ) → (h : QueueHolds part k d (queue_of given held out)) → h.bytes ≡ bytes → k.bits_left ≡ 0 → TookOfGiven part (given ++ take count piece) (bytes ++ take t piece)
-      → DeviceStandsFor part on_the_bench false e (bytes ++ take t piece) → words_taken part e (bytes ++ take t piece) ≡ words_taken part d bytes → QueueHolds part k e (queue_of (given ++ take count piece) held out)
+      → DeviceStandsFor part on_the_bench false e (bytes ++ take t piece) → reads_taken part e (bytes ++ take t piece) ≡ reads_taken part d bytes → QueueHolds part k e (queue_of (given ++ take count piece) held out)
   holds_piece k d e held out count h is z took stands same = record {
     bytes = bytes ++ take t piece;
     took = took;
     device = stands;
     held_is = h.held_is;
     held_fits = h.held_fits;
-    out_is = omega (arith, h.out_is, ap length same, ap (λ (b : List ℕ). length (words_taken part d b)) is);
+    out_is = omega (arith, h.out_is, ap length same, ap (λ (b : List ℕ). length (reads_taken part d b)) is);
     bits_left_is = h.bits_left_is;
     prefix = [];
     word_is = λ m. absurd (omega (arith, m, z));
   }
 
 -- where no word is due after a piece, none is read out of it
-quiet_whole : (part : PartData) (e : DeviceState) (given bytes piece : List ℕ) (words : List ℕ) → TookOfGiven part (given ++ piece) bytes → NoWordDue e → words_taken part e bytes ≡ words
+quiet_whole : (part : PartData) (e : DeviceState) (given bytes piece : List ℕ) (words : List ℕ) → TookOfGiven part (given ++ piece) bytes → NoWordDue e → reads_taken part e bytes ≡ words
     → (k : ℕ) → length (words_read_out part (given ++ take k piece)) ≤ length words
 quiet_whole part e given bytes piece words took due is k =
     let joined : (given ++ take k piece) ++ drop k piece ≡ given ++ piece = append_assoc given (take k piece) (drop k piece) ∙ ap (λ (x : List ℕ). given ++ x) (take-append-drop k piece) in
@@ -117,19 +117,19 @@ record Given (part : PartData) (k : QueueState) (d e : DeviceState) (q : Queue) 
 module _ (part : PartData) (k : QueueState) (d e : DeviceState) (q : Queue) (piece : List ℕ) where
   given_whole : (t : ℕ) → (s : QueueStandsFor part k d q) → k.bits_left ≡ 0 → AreBytes piece → t ≤ length piece → DeviceStandsFor part on_the_bench false e (s.holds.bytes ++ take t piece)
       → NoWordDue e → IsSome (first_stop_of_bytes part on_the_bench (s.holds.bytes ++ take t piece)) ⊎ (t ≡ length piece)
-      → words_taken part e (s.holds.bytes ++ take t piece) ≡ words_taken part d s.holds.bytes → (IsSome (first_stop_of_bytes part on_the_bench s.holds.bytes) → t ≡ 0) → Given part k d e q piece (length piece)
+      → reads_taken part e (s.holds.bytes ++ take t piece) ≡ reads_taken part d s.holds.bytes → (IsSome (first_stop_of_bytes part on_the_bench s.holds.bytes) → t ≡ 0) → Given part k d e q piece (length piece)
   given_whole t s z f l stands due over same stopped =
       let h : QueueHolds part k d q = s.holds in
       let took : TookOfGiven part (q.given ++ take (length piece) piece) (h.bytes ++ take t piece) = took_piece part q.given h.bytes piece t (length piece) f l (omega arith) h.took stopped over in
       record {
         holds = holds_piece part q.given h.bytes piece t k d e q.held q.out (length piece) h refl z took stands same;
-        quiet = λ i m. none_waits_by (words_read_out part) (q.given ++ take i (take (length piece) piece)) q.out (length (words_taken part d h.bytes))
-            (quiet_whole part e q.given (h.bytes ++ take t piece) (take (length piece) piece) (words_taken part d h.bytes) took due same i) (omega (arith, h.out_is, z));
+        quiet = λ i m. none_waits_by (words_read_out part) (q.given ++ take i (take (length piece) piece)) q.out (length (reads_taken part d h.bytes))
+            (quiet_whole part e q.given (h.bytes ++ take t piece) (take (length piece) piece) (reads_taken part d h.bytes) took due same i) (omega (arith, h.out_is, z));
       }
 
   given_prefix : (n : ℕ) → (s : QueueStandsFor part k d q) → k.bits_left ≡ 0 → AreBytes piece → n ≤ length piece → DeviceStandsFor part on_the_bench false e (s.holds.bytes ++ take n piece)
-      → words_taken part e (s.holds.bytes ++ take n piece) ≡ words_taken part d s.holds.bytes → (IsSome (first_stop_of_bytes part on_the_bench s.holds.bytes) → n ≡ 0)
-      → RoomBefore (record { part = part; kept = on_the_bench; wrapped = false; bytes = s.holds.bytes }) piece n (words_taken part d s.holds.bytes) no_room → Given part k d e q piece n
+      → reads_taken part e (s.holds.bytes ++ take n piece) ≡ reads_taken part d s.holds.bytes → (IsSome (first_stop_of_bytes part on_the_bench s.holds.bytes) → n ≡ 0)
+      → RoomBefore (record { part = part; kept = on_the_bench; wrapped = false; bytes = s.holds.bytes }) piece n (reads_taken part d s.holds.bytes) no_room → Given part k d e q piece n
   given_prefix n s z f l stands same stopped before =
       let h : QueueHolds part k d q = s.holds in
       let took : TookOfGiven part (q.given ++ take n piece) (h.bytes ++ take n piece) = took_piece part q.given h.bytes piece n n f (omega arith) l h.took stopped (inr refl) in
@@ -138,15 +138,15 @@ module _ (part : PartData) (k : QueueState) (d e : DeviceState) (q : Queue) (pie
         holds = holds_piece part q.given h.bytes piece n k d e q.held q.out n h refl z took stands same;
         quiet = λ i m.
             let inside : i < n = omega (arith, m, long) in
-            none_waits_by (words_read_out part) (q.given ++ take i (take n piece)) q.out (length (words_taken part d h.bytes))
-            (quiet_before part q.given h.bytes piece (words_taken part d h.bytes) n l (given_is part q.given h.bytes n h.took stopped (omega (arith, inside))) before i inside) (omega (arith, h.out_is, z));
+            none_waits_by (words_read_out part) (q.given ++ take i (take n piece)) q.out (length (reads_taken part d h.bytes))
+            (quiet_before part q.given h.bytes piece (reads_taken part d h.bytes) n l (given_is part q.given h.bytes n h.took stopped (omega (arith, inside))) before i inside) (omega (arith, h.out_is, z));
       }
 
   given_by_is : (f : Fed) (read : ReadBufState) → (s : QueueStandsFor part k d q) → k.bits_left ≡ 0 → AreBytes piece → taken_in (length piece) f ≤ length piece
       → DeviceStandsFor part on_the_bench false e (s.holds.bytes ++ take (taken_in (length piece) f) piece)
       → AnswersAt (past_of part on_the_bench false (s.holds.bytes ++ take (taken_in (length piece) f) piece)) e read f
-      → words_taken part e (s.holds.bytes ++ take (taken_in (length piece) f) piece) ≡ words_taken part d s.holds.bytes
-      → RoomBefore (record { part = part; kept = on_the_bench; wrapped = false; bytes = s.holds.bytes }) piece (taken_in (length piece) f) (words_taken part d s.holds.bytes) no_room
+      → reads_taken part e (s.holds.bytes ++ take (taken_in (length piece) f) piece) ≡ reads_taken part d s.holds.bytes
+      → RoomBefore (record { part = part; kept = on_the_bench; wrapped = false; bytes = s.holds.bytes }) piece (taken_in (length piece) f) (reads_taken part d s.holds.bytes) no_room
       → (IsSome (first_stop_of_bytes part on_the_bench s.holds.bytes) → taken_in (length piece) f ≡ 0) → Given part k d e q piece (given_by f (length piece))
   given_by_is fed.All read s z b l stands a same before stopped = given_whole (length piece) s z b l stands a.1 (inr refl) same stopped
   given_by_is (fed.Stopped n) read s z b l stands a same before stopped = given_whole n s z b l stands a.2 (inl (ap is_some a.1)) same stopped
@@ -164,8 +164,8 @@ none_got (w ∷ words) read e f =
 pub gives : (part : PartData) (k n : QueueState) (d e g : DeviceState) (q : Queue) (piece : List ℕ) (read : ReadBufState) (f : Fed) (count : ℕ) → (s : QueueStandsFor part k d q) → k.bits_left ≡ 0 → AreBytes piece → taken_in (length piece) f ≤ length piece
     → DeviceStandsFor part on_the_bench false e (s.holds.bytes ++ take (taken_in (length piece) f) piece)
     → AnswersAt (past_of part on_the_bench false (s.holds.bytes ++ take (taken_in (length piece) f) piece)) e read f
-    → words_taken part e (s.holds.bytes ++ take (taken_in (length piece) f) piece) ≡ words_taken part d s.holds.bytes
-    → RoomBefore (record { part = part; kept = on_the_bench; wrapped = false; bytes = s.holds.bytes }) piece (taken_in (length piece) f) (words_taken part d s.holds.bytes) no_room
+    → reads_taken part e (s.holds.bytes ++ take (taken_in (length piece) f) piece) ≡ reads_taken part d s.holds.bytes
+    → RoomBefore (record { part = part; kept = on_the_bench; wrapped = false; bytes = s.holds.bytes }) piece (taken_in (length piece) f) (reads_taken part d s.holds.bytes) no_room
     → (IsSome (first_stop_of_bytes part on_the_bench s.holds.bytes) → (e ≡ d) × (taken_in (length piece) f ≡ 0)) → count ≡ given_by f (length piece)
     → ((given held : List ℕ) (out : ℕ) → QueueHolds part k e (queue_of given held out) → QueueStandsFor part n g (queue_of (given ++ []) held out))
     → QueueStandsFor part n g (fold (offered (words_read_out part)) q (take count piece))

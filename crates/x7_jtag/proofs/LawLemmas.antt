@@ -17,7 +17,7 @@ use Rattle.x7_jtag.specs.Port.{port_after, words_read_out}
 use Rattle.x7_jtag.specs.Shown.{bytes_taken, state_shown}
 use Rattle.x7_jtag.specs.State.{PortClock}
 use Rattle.x7_jtag.specs.Queue.{queue_of}
-use Rattle.x7_jtag.specs.Tap.{QueueHolds, TapStandsFor, TapState, TookOfGiven, words_taken, QueueState, QueueStandsFor}
+use Rattle.x7_jtag.specs.Tap.{QueueHolds, TapStandsFor, TapState, TookOfGiven, reads_taken, QueueState, QueueStandsFor}
 use Rattle.x7_jtag.proofs.TookLemmas.{reads_took}
 
 place_of : (n : ℕ) (line : Option StopCause) (s : Stopped) → stop_at_place n line ≡ Some s → s.place ≡ n
@@ -56,11 +56,11 @@ due_by part k d given held out s =
     let left : List ℕ = words_still_due part (history_taken part on_the_bench h.bytes) d.registers.due in
     let count : length reads ≡ length h.device.due_are.given + due_count d.registers.due = ap length h.device.due_are.all ∙ length-append h.device.due_are.given left ∙ ap (λ n. length h.device.due_are.given + n) (length_left part (history_taken part on_the_bench h.bytes) d.registers.due) in
     let whole : length (words_read_out part given) ≡ length reads = ap length (reads_took part given h.bytes h.took) in
-    let taken : length (words_taken part d h.bytes) ≡ length reads - due_count d.registers.due = length-take-le (length reads - due_count d.registers.due) reads (omega arith) in
+    let taken : length (reads_taken part d h.bytes) ≡ length reads - due_count d.registers.due = length-take-le (length reads - due_count d.registers.due) reads (omega arith) in
     by k.bits_left refl count whole taken
   where
     by : (left : ℕ) → k.bits_left ≡ left → length (reads_of part on_the_bench s.holds.bytes) ≡ length s.holds.device.due_are.given + due_count d.registers.due → length (words_read_out part given) ≡ length (reads_of part on_the_bench s.holds.bytes)
-        → length (words_taken part d s.holds.bytes) ≡ length (reads_of part on_the_bench s.holds.bytes) - due_count d.registers.due → due_count d.registers.due ≡ length (words_read_out part given) - (out / 32 + 1)
+        → length (reads_taken part d s.holds.bytes) ≡ length (reads_of part on_the_bench s.holds.bytes) - due_count d.registers.due → due_count d.registers.due ≡ length (words_read_out part given) - (out / 32 + 1)
     by zero z count whole taken = omega (arith, z, count, whole, taken, s.holds.out_is, s.no_word_due z)
     by (suc m) z count whole taken = omega (arith, z, count, whole, taken, s.holds.out_is, s.holds.bits_left_is)
 

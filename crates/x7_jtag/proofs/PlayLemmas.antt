@@ -16,7 +16,7 @@ use Rattle.x7_svf.specs.declared.statement.Statement.{Statement}
 use Rattle.x7_svf.specs.declared.statement.Statement.TheVariants as statement
 use Rattle.x7_jtag.specs.Clocks.{clock, clocks, clocks_of, from_exit, from_reset, inner_clocks, shift_clocks, to_shift}
 use Rattle.x7_svf.specs.Bits.{bytes_bits}
-use Rattle.x7_jtag.specs.Play.{MayClock, after_clocks, scan_bit, difference, difference_from, differs_at, first_by, first_from, first_found, differs_from_wanted, least, tdo_at, walk_clocks}
+use Rattle.x7_jtag.specs.Play.{MayClock, after_clocks, scan_bit, difference, difference_from, tdo_differs_at, first_by, first_from, first_found, differs_from_wanted, least, tdo_at, walk_clocks}
 use Rattle.x7_jtag.specs.Port.{Port, after_clock, new_port, port_after, tdo_of}
 use Rattle.x7_jtag.specs.State.{PortClock, moved_by, state_after, test_logic_reset}
 use Rattle.x7_jtag.specs.Tap.{CanAllBeOffered, CanBeOffered, TapStandsFor, TapState}
@@ -164,8 +164,8 @@ pub found_first : (part : PartData) (p : Port) (s : Scan) (first : ℕ) → (0 <
 found_first part p s zero none l = refl
 found_first part p s (suc n) none l =
     let e : s.tdo ≡ None = none (omega arith) in
-    let f : (i : ℕ) → differs_at part p s i ≡ false = λ i. ap (λ (o : Option (List Bool)). differs_from_wanted o s.mask i (tdo_at part p s.tdi i)) e in
-    least_none (differs_at part p s) f 0 (length s.tdi - 0) ∙ sym (least_none (differs_at part p s) f (suc n) (length s.tdi - suc n))
+    let f : (i : ℕ) → tdo_differs_at part p s i ≡ false = λ i. ap (λ (o : Option (List Bool)). differs_from_wanted o s.mask i (tdo_at part p s.tdi i)) e in
+    least_none (tdo_differs_at part p s) f 0 (length s.tdi - 0) ∙ sym (least_none (tdo_differs_at part p s) f (suc n) (length s.tdi - suc n))
 
 -- the first place found, or a later one
 abbrev pub found_or : Option ℕ → Option ℕ → Option ℕ
@@ -195,7 +195,7 @@ found_ends holds found n i all l e =
     sym (e ∙ ap (λ k. found_or found (least holds i k)) count ∙ found_none found)
 
 -- what TDO shows at a shift clock
-pub shown_is : (part : PartData) (cs : List PortClock) (s : Scan) (i : ℕ) (shown b : Bool) → shown ≡ tdo_of part (port_after part (cs ++ take i (shift_clocks s.tdi))) → b ≡ differs_from_wanted s.tdo s.mask i shown → b ≡ differs_at part (port_after part cs) s i
+pub shown_is : (part : PartData) (cs : List PortClock) (s : Scan) (i : ℕ) (shown b : Bool) → shown ≡ tdo_of part (port_after part (cs ++ take i (shift_clocks s.tdi))) → b ≡ differs_from_wanted s.tdo s.mask i shown → b ≡ tdo_differs_at part (port_after part cs) s i
 shown_is part cs s i shown b e f = f ∙ ap (differs_from_wanted s.tdo s.mask i) (e ∙ ap (tdo_of part) (after part cs (take i (shift_clocks s.tdi))))
 
 -- ---- lengths of walks

@@ -17,7 +17,7 @@ use Rattle.x7_engine.specs.State.{history_taken, reads_of, first_stop_of_bytes}
 use Rattle.x7_engine.proofs.FrameLemmas.{length_left}
 use Rattle.x7_jtag.specs.Port.{words_read_out}
 use Rattle.x7_jtag.specs.Queue.{Queue, bits_read, bit_shown, dropped, empty_queue, in_turn, most_bytes_held, give_held, shifted_out, waits, queue_with_room, word_bit, queue_of}
-use Rattle.x7_jtag.specs.Tap.{QueueHolds, QueueStandsFor, QueueState, TookOfGiven, words_taken, with_word_taken}
+use Rattle.x7_jtag.specs.Tap.{QueueHolds, QueueStandsFor, QueueState, TookOfGiven, reads_taken, with_word_taken}
 use Rattle.x7_jtag.proofs.QueueLemmas.{turns_wait}
 use Rattle.x7_jtag.proofs.TookLemmas.{goes_on, goes_on_dropping, none_given, reads_took, taken_all, taken_few, taken_first, took_more}
 
@@ -26,13 +26,13 @@ use Rattle.x7_jtag.proofs.TookLemmas.{goes_on, goes_on_dropping, none_given, rea
 pub none_waits : (part : PartData) (k : QueueState) (d : DeviceState) (given held : List ℕ) (out : ℕ) → QueueStandsFor part k d (queue_of given held out) → k.bits_left ≡ 0 → waits (words_read_out part) given out ≡ false
 none_waits part k d given held out s z =
     let h : QueueHolds part k d (queue_of given held out) = s.holds in
-    let all : length (words_read_out part given) ≡ length (words_taken part d h.bytes) = ap length (reads_took part given h.bytes h.took) ∙ ap length (sym (taken_all part d h.bytes (s.no_word_due z))) in
+    let all : length (words_read_out part given) ≡ length (reads_taken part d h.bytes) = ap length (reads_took part given h.bytes h.took) ∙ ap length (sym (taken_all part d h.bytes (s.no_word_due z))) in
     grind (arith, all, h.out_is, z)
 
 pub one_waits : (part : PartData) (k : QueueState) (d : DeviceState) (given held : List ℕ) (out : ℕ) → QueueHolds part k d (queue_of given held out) → 0 < k.bits_left → waits (words_read_out part) given out ≡ true
 one_waits part k d given held out h l =
     let all : length (words_read_out part given) ≡ length (reads_of part on_the_bench h.bytes) = ap length (reads_took part given h.bytes h.took) in
-    let few : length (words_taken part d h.bytes) ≤ length (reads_of part on_the_bench h.bytes) = taken_few part d h.bytes in
+    let few : length (reads_taken part d h.bytes) ≤ length (reads_of part on_the_bench h.bytes) = taken_few part d h.bytes in
     let more : out < 32 * length (words_read_out part given) = omega (arith, all, few, h.out_is, l) in
     grind (arith, more)
 
@@ -43,7 +43,7 @@ seam prefix more words w n e f =
 
 pub bit_is : (part : PartData) (k : QueueState) (d : DeviceState) (given held : List ℕ) (out : ℕ) → QueueHolds part k d (queue_of given held out) → 0 < k.bits_left → word_bit (words_read_out part given) out ≡ (k.word / 2 ^ (k.bits_left - 1) % 2 == 1)
 bit_is part k d given held out h l =
-    let first : (more : List ℕ) × (words_taken part d h.bytes ++ more ≡ reads_of part on_the_bench h.bytes) = taken_first part d h.bytes in
+    let first : (more : List ℕ) × (reads_taken part d h.bytes ++ more ≡ reads_of part on_the_bench h.bytes) = taken_first part d h.bytes in
     let all : words_read_out part given ≡ (h.prefix ++ k.word ∷ []) ++ first.0 = reads_took part given h.bytes h.took ∙ sym first.1 ∙ ap (λ t. t ++ first.0) (h.word_is l) in
     let count : out + k.bits_left ≡ 32 * (length h.prefix + 1) = omega (arith, h.out_is, ap length (h.word_is l), length-append h.prefix (k.word ∷ [])) in
     let place : out / 32 ≡ length h.prefix = omega (arith, count, l, h.bits_left_is) in
@@ -126,7 +126,7 @@ fed_by : (part : PartData) (k n : QueueState) (d e : DeviceState) (given held pi
     → (0 < length piece → NoWordDue d) → taken_in (length piece) f ≤ length piece
     → DeviceStandsFor part on_the_bench false e (h.bytes ++ take (taken_in (length piece) f) piece)
     → AnswersAt (past_of part on_the_bench false (h.bytes ++ take (taken_in (length piece) f) piece)) e read f
-    → words_taken part e (h.bytes ++ take (taken_in (length piece) f) piece) ≡ words_taken part d h.bytes ++ more
+    → reads_taken part e (h.bytes ++ take (taken_in (length piece) f) piece) ≡ reads_taken part d h.bytes ++ more
     → (IsSome (first_stop_of_bytes part on_the_bench h.bytes) → taken_in (length piece) f ≡ 0)
     → read ≡ record { most = Some 1; words = more } → length more ≤ 1 → n ≡ with_word_taken k more → QueueStandsFor part n e (queue_of (given ++ piece) held out)
 fed_by part k n d e given held piece [] out read f h z fits few none w stands a grown stopped is l with =
@@ -140,7 +140,7 @@ fed_by part k n d e given held piece [] out read f h z fits few none w stands a 
         device = stands;
         held_is = h.held_is;
         held_fits = h.held_fits;
-        out_is = omega (arith, h.out_is, z, ap length grown, length-append (words_taken part d h.bytes) []);
+        out_is = omega (arith, h.out_is, z, ap length grown, length-append (reads_taken part d h.bytes) []);
         bits_left_is = h.bits_left_is;
         prefix = [];
         word_is = λ m. absurd (omega (arith, m, z));
@@ -157,9 +157,9 @@ fed_by part k n d e given held piece (v ∷ []) out read f h z fits few none w s
         device = stands;
         held_is = h.held_is;
         held_fits = h.held_fits;
-        out_is = omega (arith, h.out_is, z, ap length grown, length-append (words_taken part d h.bytes) (v ∷ []));
+        out_is = omega (arith, h.out_is, z, ap length grown, length-append (reads_taken part d h.bytes) (v ∷ []));
         bits_left_is = omega arith;
-        prefix = words_taken part d h.bytes;
+        prefix = reads_taken part d h.bytes;
         word_is = λ m. grown;
       };
       no_word_due = λ m. absurd (omega (arith, m));
@@ -171,7 +171,7 @@ pub fed : (part : PartData) (k n : QueueState) (d e : DeviceState) (given held p
     → (0 < length piece → NoWordDue d) → taken_in (length piece) f ≤ length piece
     → DeviceStandsFor part on_the_bench false e (h.bytes ++ take (taken_in (length piece) f) piece)
     → AnswersAt (past_of part on_the_bench false (h.bytes ++ take (taken_in (length piece) f) piece)) e read f
-    → ((more : List ℕ) × (read ≡ read_with old more) × (words_taken part e (h.bytes ++ take (taken_in (length piece) f) piece) ≡ words_taken part d h.bytes ++ more))
+    → ((more : List ℕ) × (read ≡ read_with old more) × (reads_taken part e (h.bytes ++ take (taken_in (length piece) f) piece) ≡ reads_taken part d h.bytes ++ more))
     → (IsSome (first_stop_of_bytes part on_the_bench h.bytes) → taken_in (length piece) f ≡ 0)
     → old ≡ record { most = Some 1; words = [] } → words ≡ read.words → HoldsWithinMost read.most words → n ≡ with_word_taken k words → QueueStandsFor part n e (queue_of (given ++ piece) held out)
 fed part k n d e given held piece words out old read f h z fits few none w stands a reads stopped is there holds with =
@@ -186,7 +186,7 @@ fed part k n d e given held piece words out old read f h z fits few none w stand
 pub all_dropped : (part : PartData) (k n : QueueState) (d e : DeviceState) (given held piece : List ℕ) (out : ℕ) (old read : ReadBufState) (f : Fed) → (s : QueueStandsFor part k d (queue_of given held out)) → piece ≡ k.held
     → DeviceStandsFor part on_the_bench false e (s.holds.bytes ++ take (taken_in (length piece) f) piece)
     → AnswersAt (past_of part on_the_bench false (s.holds.bytes ++ take (taken_in (length piece) f) piece)) e read f
-    → ((more : List ℕ) × (read ≡ read_with old more) × (words_taken part e (s.holds.bytes ++ take (taken_in (length piece) f) piece) ≡ words_taken part d s.holds.bytes ++ more))
+    → ((more : List ℕ) × (read ≡ read_with old more) × (reads_taken part e (s.holds.bytes ++ take (taken_in (length piece) f) piece) ≡ reads_taken part d s.holds.bytes ++ more))
     → (IsSome (first_stop_of_bytes part on_the_bench s.holds.bytes) → taken_in (length piece) f ≡ 0)
     → old ≡ record { most = None; words = [] } → n ≡ record { held = []; word = k.word; bits_left = 0 } → QueueStandsFor part n e (queue_of (given ++ held) [] (bits_read (words_read_out part) (given ++ held)))
 all_dropped part k n d e given held piece out old read f s there stands a reads stopped is with =
@@ -199,7 +199,7 @@ all_dropped part k n d e given held piece out old read f s there stands a reads 
     took_more part given h.bytes piece (taken_in (length piece) f) (subst AreBytes (sym all) h.held_fits) h.took stopped (goes_on_dropping part e h.bytes piece read f a full) in
     let due : NoWordDue e = none_given part e h.bytes piece read f a full in
     let took_held : TookOfGiven part (given ++ held) new = subst (λ p. TookOfGiven part (given ++ p) new) all took in
-    let whole : length (words_read_out part (given ++ held)) ≡ length (words_taken part e new) = ap length (reads_took part (given ++ held) new took_held) ∙ ap length (sym (taken_all part e new due)) in
+    let whole : length (words_read_out part (given ++ held)) ≡ length (reads_taken part e new) = ap length (reads_took part (given ++ held) new took_held) ∙ ap length (sym (taken_all part e new due)) in
     let P : QueueState → Type 0 = λ q. QueueStandsFor part q e (queue_of (given ++ held) [] (bits_read (words_read_out part) (given ++ held))) in
     subst P (sym with) (record {
       holds = record {

@@ -15,7 +15,7 @@ use Rattle.x7_engine.specs.Standing.{DeviceState, NoWordDue, due_count, taken_in
 use Rattle.x7_engine.specs.State.{reads_of, state_of, first_stop_of_bytes}
 use Rattle.x7_engine.specs.Stop.{Stopped}
 use Rattle.x7_engine.proofs.StateLemmas.{stop_is_final_reads, stop_is_final_state}
-use Rattle.x7_jtag.specs.Tap.{TookOfGiven, words_taken}
+use Rattle.x7_jtag.specs.Tap.{TookOfGiven, reads_taken}
 
 -- what is given where nothing is left over
 took_whole : (part : PartData) (given bytes : List ℕ) (t : TookOfGiven part given bytes) → t.rest ≡ [] → given ≡ bytes
@@ -73,27 +73,27 @@ pub state_took : (part : PartData) (given bytes : List ℕ) → TookOfGiven part
 state_took part given bytes t = state_by part given bytes t t.over
 
 -- where no word is due, the words taken are all those read out
-pub taken_all : (part : PartData) (d : DeviceState) (bytes : List ℕ) → NoWordDue d → words_taken part d bytes ≡ reads_of part on_the_bench bytes
+pub taken_all : (part : PartData) (d : DeviceState) (bytes : List ℕ) → NoWordDue d → reads_taken part d bytes ≡ reads_of part on_the_bench bytes
 taken_all part d bytes none =
     let all : length (reads_of part on_the_bench bytes) - due_count d.registers.due ≡ length (reads_of part on_the_bench bytes) = omega (arith, none) in
     ap (λ (n : ℕ). take n (reads_of part on_the_bench bytes)) all ∙ take-length (reads_of part on_the_bench bytes)
 
 -- the words taken are the first of those read out
-pub taken_first : (part : PartData) (d : DeviceState) (bytes : List ℕ) → (more : List ℕ) × (words_taken part d bytes ++ more ≡ reads_of part on_the_bench bytes)
+pub taken_first : (part : PartData) (d : DeviceState) (bytes : List ℕ) → (more : List ℕ) × (reads_taken part d bytes ++ more ≡ reads_of part on_the_bench bytes)
 taken_first part d bytes =
     let n : ℕ = length (reads_of part on_the_bench bytes) - due_count d.registers.due in
     (drop n (reads_of part on_the_bench bytes), take-append-drop n (reads_of part on_the_bench bytes))
 
-pub taken_few : (part : PartData) (d : DeviceState) (bytes : List ℕ) → length (words_taken part d bytes) ≤ length (reads_of part on_the_bench bytes)
+pub taken_few : (part : PartData) (d : DeviceState) (bytes : List ℕ) → length (reads_taken part d bytes) ≤ length (reads_of part on_the_bench bytes)
 taken_few part d bytes =
-    let first : (more : List ℕ) × (words_taken part d bytes ++ more ≡ reads_of part on_the_bench bytes) = taken_first part d bytes in
-    omega (arith, ap length first.1, length-append (words_taken part d bytes) first.0)
+    let first : (more : List ℕ) × (reads_taken part d bytes ++ more ≡ reads_of part on_the_bench bytes) = taken_first part d bytes in
+    omega (arith, ap length first.1, length-append (reads_taken part d bytes) first.0)
 
 -- ---- what a feed of at most one byte came to, by its answer
 
 -- the device has stopped, or took the whole piece; a word that is due has come with its byte
 pub goes_on : (part : PartData) (d e : DeviceState) (bytes piece more : List ℕ) (read : ReadBufState) (f : Fed) → AnswersAt (past_of part on_the_bench false (bytes ++ take (taken_in (length piece) f) piece)) e read f → taken_in (length piece) f ≤ length piece → length piece ≤ 1
-    → (0 < length piece → NoWordDue d) → (IsFull read → length more ≡ 1) → words_taken part e (bytes ++ take (taken_in (length piece) f) piece) ≡ words_taken part d bytes ++ more
+    → (0 < length piece → NoWordDue d) → (IsFull read → length more ≡ 1) → reads_taken part e (bytes ++ take (taken_in (length piece) f) piece) ≡ reads_taken part d bytes ++ more
     → IsSome (first_stop_of_bytes part on_the_bench (bytes ++ take (taken_in (length piece) f) piece)) ⊎ (taken_in (length piece) f ≡ length piece)
 goes_on part d e bytes piece more read fed.All a w l z full grown = inr refl
 goes_on part d e bytes piece more read (fed.Stopped n) a w l z full grown = inl (ap is_some a.1)
@@ -107,8 +107,8 @@ goes_on part d e bytes (x ∷ xs) more read (fed.ReadFull n) a w l z full grown 
     by : (m : ℕ) → n ≡ m → n ≡ length (x ∷ xs)
     by zero g =
         let same : bytes ++ take n (x ∷ xs) ≡ bytes = here g in
-        let count : length (words_taken part e (bytes ++ take n (x ∷ xs))) ≡ length (words_taken part d bytes) + length more = ap length grown ∙ length-append (words_taken part d bytes) more in
-        let before : length (words_taken part d bytes) ≡ length (reads_of part on_the_bench bytes) = ap length (taken_all part d bytes (z (omega arith))) in
+        let count : length (reads_taken part e (bytes ++ take n (x ∷ xs))) ≡ length (reads_taken part d bytes) + length more = ap length grown ∙ length-append (reads_taken part d bytes) more in
+        let before : length (reads_taken part d bytes) ≡ length (reads_of part on_the_bench bytes) = ap length (taken_all part d bytes (z (omega arith))) in
         let after : length (reads_of part on_the_bench (bytes ++ take n (x ∷ xs))) ≡ length (reads_of part on_the_bench bytes) = ap (λ b. length (reads_of part on_the_bench b)) same in
         absurd (omega (arith, count, before, after, full a.2, taken_few part e (bytes ++ take n (x ∷ xs))))
     by (suc m) g = omega (arith, g, w, l)

@@ -56,12 +56,12 @@ least holds from zero = None
 least holds from (suc n) = if holds from then Some from else least holds (from + 1) n
 
 -- whether TDO differs at shift clock i from what is wanted, where `p` is the port before shift clock 0
-abbrev pub differs_at : PartData → Port → Scan → ℕ → Bool
-differs_at part p s i = differs_from_wanted s.tdo s.mask i (tdo_at part p s.tdi i)
+abbrev pub tdo_differs_at : PartData → Port → Scan → ℕ → Bool
+tdo_differs_at part p s i = differs_from_wanted s.tdo s.mask i (tdo_at part p s.tdi i)
 
 -- the least bit from `first` on at which TDO of a scan differs, where `p` is the port before shift clock 0
 abbrev pub difference_from : PartData → Port → Scan → ℕ → Option ℕ
-difference_from part p s first = least (differs_at part p s) first (length s.tdi - first)
+difference_from part p s first = least (tdo_differs_at part p s) first (length s.tdi - first)
 
 -- the least differing bit of a statement, where `p` is the port before it; none but a scan has one
 abbrev pub difference : PartData → Port → Statement → Option ℕ

@@ -52,8 +52,8 @@ given_by (fed.ReadFull taken) count = taken
 given_by _ count = count
 
 -- the words that were taken of a device that took `bytes`: those read out, but for the ones that are still due
-abbrev pub words_taken : PartData → DeviceState → List ℕ → List ℕ
-words_taken part device bytes = reads_given part on_the_bench device bytes
+abbrev pub reads_taken : PartData → DeviceState → List ℕ → List ℕ
+reads_taken part device bytes = reads_given part on_the_bench device bytes
 
 -- ---- how many bytes
 
@@ -79,10 +79,10 @@ pub record QueueHolds (part : PartData) (k : QueueState) (d : DeviceState) (q : 
   pub device : DeviceStandsFor part on_the_bench false d bytes
   pub held_is : k.held ≡ q.held
   pub held_fits : AreBytes q.held
-  pub out_is : q.out + k.bits_left ≡ 32 * length (words_taken part d bytes)
+  pub out_is : q.out + k.bits_left ≡ 32 * length (reads_taken part d bytes)
   pub bits_left_is : k.bits_left ≤ 32
   pub prefix : List ℕ
-  pub word_is : 0 < k.bits_left → words_taken part d bytes ≡ prefix ++ k.word ∷ []
+  pub word_is : 0 < k.bits_left → reads_taken part d bytes ≡ prefix ++ k.word ∷ []
 
 -- a queue and its device stand for the queue of a port, and where no bit is left the device owes no word: the next one
 -- is taken of it as soon as the last bit of the one before has gone out

@@ -4,7 +4,7 @@ use Rattle.std.specs.List.{AllByRecursion}
 use Rattle.x7_words.proofs.ListLemmas.{all_back, same_prefix}
 use Rattle.x7_packets.specs.SyncWord.{sync_bytes}
 use Rattle.x7_packets.specs.Packet.{Packet, EachPacket, ended, stepped}
-use Rattle.x7_packets.specs.Machine.{ends_by, is_end}
+use Rattle.x7_packets.specs.Machine.{session_ends_by, is_end}
 use Rattle.x7_packets.specs.Reading.{Place, Searching, Synced, EndedSession, IsReading, IsEndedSession, tail_of}
 use Rattle.x7_packets.specs.Cutter.{CutAdds, LongerSession, ChangesMode}
 use Rattle.x7_packets.specs.declared.header.Step.{Step}
@@ -97,7 +97,7 @@ end_next i (Read r n) e = absurd (cc)
 end_next i (Bad x) e = absurd (cc)
 
 -- after words that end a session no line is open
-ends_next : (i : ℕ) (more : List (ℕ × Step)) → ends_by more ≡ true → in_line_after_words i more ≡ 0
+ends_next : (i : ℕ) (more : List (ℕ × Step)) → session_ends_by more ≡ true → in_line_after_words i more ≡ 0
 ends_next i [] e = absurd (cc)
 ends_next i (s ∷ []) e = end_next i s.1 e
 ends_next i (s ∷ t ∷ more) e = ends_next (in_line_after_word i s.1) (t ∷ more) e

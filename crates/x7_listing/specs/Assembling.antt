@@ -1,5 +1,5 @@
 -- A text that is assembled line by line: what its lines gave so far (this project's choice).
-use Rattle.std.specs.Prelude.{◌≡◌, ◌⊎◌, ℕ, ◌+◌, ◌-◌, ◌<◌, ◌≤◌, Bool, true, false, List, [], ◌∷◌, ◌++◌, drop, take, length, Ok, Err}
+use Rattle.std.specs.Prelude.{◌≡◌, ◌⊎◌, ℕ, ◌+◌, ◌-◌, ◌<◌, ◌≤◌, Bool, true, false, List, [], ◌∷◌, ◌++◌, drop, take, length, Result, Ok, Err, MatchResult}
 use Rattle.std.specs.List.{AllByRecursion, flat_map}
 use Rattle.x7_crc.specs.Checker.{CheckerState, KeepsCheckOf}
 use Rattle.x7_header.specs.Header.{HeaderContents, header_bytes, longest_header}
@@ -140,3 +140,8 @@ ReadsNext old new n line =
 abbrev pub FailsNext : Output → ℕ → List ℕ → AsmFault → Type 0
 FailsNext old n line f = (f ≡ fault.NoMemory) ⊎ ((all left : List (List ℕ)) (k : ℕ) → n ≡ k + 1
     → TextsAreRead all (line ∷ left) old k → AreHeadedAsm all (Err f))
+
+-- after these lines one more was read, and there is room for the next; or each text that goes on so has the fault
+abbrev pub ReadsOneMore : List (List ℕ) → List ℕ → Result (Unit {0}) AsmFault → Output → Type 0
+ReadsOneMore lines line result new =
+    MatchResult result (λ _. HasReadWithRoom new (lines ++ line ∷ [])) (λ f. (left : List (List ℕ)) → HasAsmFault f (lines ++ line ∷ left))

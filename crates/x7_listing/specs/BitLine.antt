@@ -38,6 +38,14 @@ pub record IsField (field : List ℕ) : Type 0 where
 abbrev pub IsTextOfField : List ℕ → List ℕ → Type 0
 IsTextOfField text field = IsField field × (text ≡ field_text field)
 
+-- the texts are those of these two fields
+abbrev pub AreTextsOfFields : List ℕ → List ℕ → List ℕ → List ℕ → Type 0
+AreTextsOfFields text other a b = IsTextOfField text a × IsTextOfField other b
+
+-- one of the texts is no field's
+abbrev pub AreNoTwoFields : List ℕ → List ℕ → Type 0
+AreNoTwoFields text other = (a b : List ℕ) → IsField a → IsField b → text ≡ field_text a → other ≢ field_text b
+
 -- `bytes` are those of a header whose line is `line`
 pub record IsHeaderOf (line bytes : List ℕ) : Type 0 where
   pub header : HeaderContents

@@ -1,5 +1,5 @@
 -- Lines that are too long for a record, or no pairs of digits.
-use Rattle.std.proofs.Common.{◌≡◌, ◌==◌, ℕ, ◌+◌, ◌-◌, ◌*◌, ◌%◌, ◌<◌, not, Bool, true, false, if◌then◌else◌, List, [], ◌∷◌, MatchBool, Option, None, Some, Ok, Err, length, drop, get_or, refl, ap, subst, sym, ◌∙◌, arith, length-drop}
+use Rattle.std.proofs.Common.{◌≡◌, ◌==◌, ℕ, ◌+◌, ◌*◌, ◌%◌, ◌<◌, not, Bool, true, false, if◌then◌else◌, List, [], ◌∷◌, MatchBool, Option, None, Some, Ok, Err, length, drop, get_or, refl, ap, subst, sym, ◌∙◌, arith, length-drop}
 use Rattle.x7_words.specs.Word.{AreBytes}
 use Rattle.x7_text.proofs.CaseLemmas.{pairs_fit, pairs_long}
 use Rattle.std.proofs.lemmas.Grind.{common_steps}

@@ -1,5 +1,7 @@
 -- A flash text that is read line by line (this project's choice).
 use Rattle.std.specs.Prelude.{◌≡◌, ◌⊎◌, ℕ, List, [], ◌∷◌, ◌++◌, map, Option, MatchOption, Result, Err, MatchResult}
+use Rattle.std.specs.Borrow.{Bor}
+use Rattle.x7_text.specs.LineReader.{FailsAfter}
 use Rattle.x7_text.specs.Lines.{split}
 use Rattle.x7_mcs.specs.Flash.{FlashReading, after_lines, flash_in, of_no_line, with_end}
 use Rattle.x7_mcs.specs.Readings.{CameTo, FailsAsReading, HasNoFault}
@@ -40,6 +42,10 @@ pub record TakesFirstLine (lines : List (List ℕ)) (text rest : List ℕ) (new 
   pub cut : split text ≡ line ∷ split rest
   pub read : HasReadRecords new (lines ++ line ∷ [])
 
--- the first line of a text was taken after these lines, where a rest was found; where none was found, no line was taken
-abbrev pub TakesIfEnded : {R : Type 0} → (R → List ℕ) → List (List ℕ) → List ℕ → Option R → McsLines → Type 0
-TakesIfEnded bytes lines text found new = MatchOption found (HasReadRecords new lines) (λ rest. TakesFirstLine lines text (bytes rest) new)
+-- After these lines the first line of a text was taken, and the answer is what is left of the text; or that line has no
+-- end, and then it was not taken and the answer is none. Or every text that goes on so has the fault.
+abbrev pub TakesIfEnded : List (List ℕ) → List ℕ → Result (Option (Bor (List ℕ))) McsFault → McsLines → Type 0
+TakesIfEnded lines text result new =
+    MatchResult result
+    (λ found. MatchOption found (HasReadRecords new lines) (λ rest. TakesFirstLine lines text rest.now new))
+    (λ f. FailsAfter (HasMcsFault f) lines text)

@@ -27,6 +27,10 @@ IsRecordTaken image n records r = (with_record n records r ≡ Ok (r ∷ records
 abbrev pub IsRecordRefused : ℕ → List DataRecord → DataRecord → McsFault → Type 0
 IsRecordRefused n records r f = ((f ≡ fault.NoMemory) × (with_record n records r ≡ Ok (r ∷ records))) ⊎ (with_record n records r ≡ Err f)
 
+-- the record of line n was taken into the image, which had these records, or refused; or memory is wanting for it
+abbrev pub TakesRecord : Result (Unit {0}) McsFault → Image → ℕ → List DataRecord → DataRecord → Type 0
+TakesRecord result image n records r = MatchResult result (λ _. IsRecordTaken image n records r) (λ f. IsRecordRefused n records r f)
+
 -- ---- the lines so far
 
 -- what the lines so far gave: a context's base and whether a record 01 has come, and these records

@@ -1,9 +1,9 @@
 //! The bytes of a flash that is being read, and the places that its records gave.
-ghost use Rattle.std.specs.Prelude.{◌≡◌, ℕ, ◌≤◌, ◌<◌, ◌+◌, ◌-◌, ◌*◌, ◌/◌, ◌%◌, ◌^◌, ◌==◌, ◌&&◌, List, [], length, get_or, IfSome, OnOk, MatchResult, MatchOption};
+ghost use Rattle.std.specs.Prelude.{◌≡◌, ℕ, ◌≤◌, ◌<◌, ◌+◌, ◌-◌, ◌*◌, ◌/◌, ◌%◌, ◌^◌, ◌==◌, ◌&&◌, List, [], length, get_or, IfSome, OnOk, MatchOption};
 ghost use Rattle.std.specs.Int.{bit_at};
 ghost use Rattle.x7_words.specs.Flash.{erased_byte};
 ghost use Rattle.x7_mcs.specs.DataRecords.{DataRecord, overlap};
-ghost use Rattle.x7_mcs.specs.Readings.{ImageHolds, IsRecordTaken, IsRecordRefused, data_at};
+ghost use Rattle.x7_mcs.specs.Readings.{ImageHolds, TakesRecord, data_at};
 ghost use Rattle.x7_mcs.specs.Record.{byte_values};
 ghost use Rattle.x7_mcs.specs.Image.{AreFree, AreMarked, HasMarksUpTo, IsFirstMarked, IsGrownTo, IsWrittenFrom, places_per_mark, written_byte};
 
@@ -199,8 +199,7 @@ pub(crate) fn take_content(
 ) -> Result<(), McsFault>
     requires place { place < 2 ^ 33 }
     requires content { length content.now < byte_values }
-    ensures { (xs : List DataRecord) → ImageHolds image.old xs
-        → MatchResult result (λ _. IsRecordTaken image.new line_number xs (data_at place content.now)) (λ fault. IsRecordRefused line_number xs (data_at place content.now) fault) }
+    ensures { (xs : List DataRecord) → ImageHolds image.old xs → TakesRecord result image.new line_number xs (data_at place content.now) }
 {
     if content.len() == 0 {
         return Ok(());

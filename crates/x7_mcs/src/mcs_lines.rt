@@ -1,6 +1,6 @@
 //! What the lines of a flash text give, as they come.
-ghost use Rattle.std.specs.Prelude.{◌≡◌, ◌+◌, ◌<◌, ◌∷◌, [], List, ℕ, length, Ok, IfErr, IfOk, MatchOption, MatchResult};
-ghost use Rattle.x7_text.specs.LineReader.{FailsAfter, WantsAt};
+ghost use Rattle.std.specs.Prelude.{◌≡◌, ◌<◌, ◌∷◌, [], List, ℕ, length, Ok, IfErr, IfOk, MatchOption};
+ghost use Rattle.x7_text.specs.LineReader.{GetsLine, WantsAt};
 ghost use Rattle.x7_text.specs.Lines.{split};
 ghost use Rattle.x7_mcs.specs.Flash.{after_data, after_line};
 ghost use Rattle.x7_mcs.specs.Readings.{ImageHolds, flash_reading_at};
@@ -79,9 +79,8 @@ impl McsLines {
         line_number: u64,
         text: &'t [u8],
     ) -> Result<Option<&'t [u8]>, McsFault>
-        ensures read { (lines : List (List ℕ)) → line_number ≡ length lines + 1 → HasReadRecords self.old lines
-            → MatchResult result (λ found. TakesIfEnded (λ rest. rest.now) lines text.now found self.new) (λ f. FailsAfter (HasMcsFault f) lines text.now) }
-        ensures memory { (lines : List (List ℕ)) → line_number ≡ length lines + 1 → HasReadRecords self.old lines
+        ensures read { (lines : List (List ℕ)) → GetsLine HasReadRecords self.old lines line_number → TakesIfEnded lines text.now result self.new }
+        ensures memory { (lines : List (List ℕ)) → GetsLine HasReadRecords self.old lines line_number
             → IfErr result (λ f. f ≡ McsFault.NoMemory → WantsAt AreGoodMcsLines lines text.now) }
         ensures left { IfOk result (λ found. MatchOption found (split text.now ≡ text.now ∷ []) (λ rest. length rest.now < length text.now)) }
     {

@@ -12,12 +12,12 @@ use Rattle.x7_packets.specs.declared.header.Step.{Step}
 use Rattle.x7_packets.specs.declared.header.Step.TheVariants.{Nop, Open, Payload}
 use Rattle.x7_packets.specs.declared.cutter.Cut.TheVariants.{Body, Head, Skip}
 use Rattle.x7_packets.specs.Mode.{Mode}
-use Rattle.x7_packets.specs.AtOnce.{BeginsWrite, EndsGap, in_write, longest_gap_and_sync, longest_short_write, most_short_words, short_gap_room, WritesShort, WritesOne}
+use Rattle.x7_packets.specs.AtOnce.{BeginsWrite, EndsGap, in_write, longest_gap_and_sync, longest_short_write, most_short_words, short_gap_room, write_head_step, WritesShort, WritesOne}
 use Rattle.x7_packets.specs.Cutter.{AtPlace, CutterState, CutterStandsFor, LongerSession, AfterRun, TakesAsOneRun}
 use Rattle.x7_packets.specs.PacketWords.{dummy_word, no_op, sync_word, type1_count_bound, type1_write_header, type1_write_kind}
 use Rattle.x7_packets.specs.Packet.{Packet, ends_session, meaning, packet_type_of, payload_steps, register_of, type1_count_of, header_kind_of}
 use Rattle.x7_packets.specs.Reading.{EndedSession, Place, Searching, Synced, packet_bytes, session_bytes}
-use Rattle.x7_packets.specs.Machine.{HasTakenWords, MachineStandsFor, MachineState, ends_by, is_end}
+use Rattle.x7_packets.specs.Machine.{AddsWords, HasTakenWords, MachineStandsFor, MachineState, session_ends_by, is_end}
 use Rattle.x7_packets.proofs.CutLemmas.{body_more, joined_more, packet_bytes_grown, skip_found, sync_given, word_more}
 use Rattle.x7_packets.proofs.NopLemmas.{nop_grows}
 use Rattle.x7_packets.proofs.PacketLemmas.{words_of_payload}
@@ -110,8 +110,7 @@ begins_write bytes head word rest register h w a r b long e f g range fits = rec
 pub writes_one : (old new : CutterState) (bs : List ℕ) (register w : ℕ) → old.mode ≡ Mode.Synced
     → new.mode ≡ (if ends_session register w then Mode.Searching else Mode.Synced) → (ends_session register w ≡ true → MatcherStandsFor new.matcher [])
     → old.kept ≡ [] → new.kept ≡ [] → BeginsWrite bs register w
-    → ((ps : List Packet) → MachineStandsFor old.machine ps → HasTakenWords ps ((type1_write_header register 1, Open register 1) ∷ []) (in_write register 1))
-    → ((ps : List Packet) → MachineStandsFor (in_write register 1) ps → HasTakenWords ps ((w, Payload register w) ∷ []) new.machine)
+    → AddsWords old.machine (write_head_step register 1 ∷ []) (in_write register 1) → AddsWords (in_write register 1) ((w, Payload register w) ∷ []) new.machine
     → WritesOne old new bs register w
 writes_one old new bs register w is to matcher none none2 begins opens ends =
     let middle : CutterState = record { mode = Mode.Synced; matcher = old.matcher; machine = in_write register 1; kept = [] } in
@@ -133,22 +132,22 @@ first_four (a ∷ b ∷ c ∷ d ∷ bs) l = refl
 
 -- payload words of a register other than CMD, all that are due
 takes_words : (c n : CutterState) (register count : ℕ) (run : Bor (List ℕ)) → c.mode ≡ Mode.Synced → n.mode ≡ Mode.Synced → c.kept ≡ [] → n.kept ≡ [] → AreBytes run.now → length run.now ≡ 4 * count → 0 < count → (register ≡ 4 → ⊥)
-    → c.machine ≡ in_write register count → ((ps : List Packet) (ws : List ℕ) → AreWords ws → 0 < length ws → MachineStandsFor (in_write register (length ws)) ps → HasTakenWords ps (payload_steps register ws) n.machine) → TakesAsOneRun c n run.now (Body register run)
+    → c.machine ≡ in_write register count → ((ws : List ℕ) → AreWords ws → 0 < length ws → AddsWords (in_write register (length ws)) (payload_steps register ws) n.machine) → TakesAsOneRun c n run.now (Body register run)
 takes_words c n register count run is to none none2 fits long some other machine grows bytes sessions place s =
     let ws : List ℕ = words_of_bytes run.now in
     let number : length (words_of_bytes run.now) ≡ count = length_words run.now count long in
     let same : c.machine ≡ in_write register (length (words_of_bytes run.now)) = machine ∙ ap (in_write register) (sym number) in
-    let all : (ps : List Packet) → MachineStandsFor c.machine ps → HasTakenWords ps (payload_steps register (words_of_bytes run.now)) n.machine =
-    λ ps t. grows ps (words_of_bytes run.now) (words_fit run.now fits) (omega (arith, number, some)) (subst (λ (m : MachineState). MachineStandsFor m ps) same t) in
+    let all : AddsWords c.machine (payload_steps register (words_of_bytes run.now)) n.machine =
+    λ ps t. grows (words_of_bytes run.now) (words_fit run.now fits) (omega (arith, number, some)) ps (subst (λ (m : MachineState). MachineStandsFor m ps) same t) in
     let word : flat_map bytes_of_word (map (λ (x : ℕ × Step). x.0) (payload_steps register (words_of_bytes run.now))) ≡ c.kept ++ run.now =
     ap (flat_map bytes_of_word) (words_of_payload register (words_of_bytes run.now)) ∙ bytes_words run.now count fits long ∙ ap (λ t. t ++ run.now) (sym none) in
-    let calm : ends_by (payload_steps register (words_of_bytes run.now)) ≡ false = calm_words register (words_of_bytes run.now) other in
+    let calm : session_ends_by (payload_steps register (words_of_bytes run.now)) ≡ false = calm_words register (words_of_bytes run.now) other in
     body_more c n bytes run.now sessions place register run s is all fits word none2 (to ∙ ap (λ (b : Bool). if b then Mode.Searching else Mode.Synced) (sym calm)) (λ e. absurd (let f : true ≡ false = sym e ∙ calm in cc))
 
 pub writes_short : (old new : CutterState) (bs : List ℕ) (head register count : ℕ) → old.mode ≡ Mode.Synced → new.mode ≡ Mode.Synced → old.kept ≡ [] → new.kept ≡ [] → longest_short_write ≤ length bs → AreBytes bs
     → bytes_of_word head ≡ get_or bs 0 0 ∷ get_or bs 1 0 ∷ get_or bs 2 0 ∷ get_or bs 3 0 ∷ [] → head ≡ type1_write_header register count → register < reg_number_count → (register ≡ 4 → ⊥) → 0 < count → count ≤ most_short_words
-    → ((ps : List Packet) (n : ℕ) → 0 < n → n < type1_count_bound → MachineStandsFor old.machine ps → HasTakenWords ps ((type1_write_header register n, Open register n) ∷ []) (in_write register n))
-    → ((ps : List Packet) (ws : List ℕ) → AreWords ws → 0 < length ws → MachineStandsFor (in_write register (length ws)) ps → HasTakenWords ps (payload_steps register ws) new.machine)
+    → ((n : ℕ) → 0 < n → n < type1_count_bound → AddsWords old.machine (write_head_step register n ∷ []) (in_write register n))
+    → ((ws : List ℕ) → AreWords ws → 0 < length ws → AddsWords (in_write register (length ws)) (payload_steps register ws) new.machine)
     → WritesShort old new bs register count
 writes_short old new bs head register count is to none none2 long fits e g range other some few opens goes =
     let middle : CutterState = record { mode = Mode.Synced; matcher = old.matcher; machine = in_write register count; kept = [] } in
@@ -162,7 +161,7 @@ writes_short old new bs head register count is to none none2 long fits e g range
       few = few;
       long = long;
       bytes = first_four bs (omega (arith, long)) ∙ sym e ∙ ap bytes_of_word g;
-      head = takes_head old middle (type1_write_header register count) (Open register count) is refl none refl refl (λ ps t. opens ps count some (omega (arith, few)) t);
+      head = takes_head old middle (type1_write_header register count) (Open register count) is refl none refl refl (opens count some (omega (arith, few)));
       words = λ run f. takes_words middle new register count run refl to refl none2 (subst AreBytes (sym f) (all_take (λ b. b < 256) (4 * count) (drop 4 bs) after)) (ap length f ∙ size) some other refl goes;
       none_kept = none2;
     }

@@ -7,7 +7,7 @@ use Rattle.x7_words.proofs.ListLemmas.{all_append}
 use Rattle.x7_packets.specs.SyncWord.{sync_bytes, HasNoSync}
 use Rattle.x7_packets.specs.Matching.{MatcherStandsFor, IsSearchOutcome}
 use Rattle.x7_packets.specs.Packet.{Packet, words, stepped}
-use Rattle.x7_packets.specs.Machine.{MachineStandsFor, HasTakenWords, ends_by}
+use Rattle.x7_packets.specs.Machine.{MachineStandsFor, HasTakenWords, session_ends_by}
 use Rattle.x7_packets.specs.Reading.{Place, Searching, Synced, EndedSession, IsReading, IsEndedSession, packet_bytes, session_bytes}
 use Rattle.x7_packets.specs.Cutter.{CutterState, CutterStandsFor, AtPlace, CutsRun, KeepsNone, LongerSession, AfterRun, run_steps}
 use Rattle.x7_packets.specs.declared.header.Step.{Step}
@@ -125,7 +125,7 @@ pub joined_more : (r bytes gap tail new new_session session word : List ℕ) →
 joined_more r bytes gap tail new new_session session word e f g = rw (e, f, g) (simp append_assoc)
 
 by_end : (n : CutterState) (bytes new : List ℕ) (sessions : List EndedSession) (gap tail : List ℕ) (packets : List Packet) (more : List (ℕ × Step)) (b : Bool)
-    → ends_by more ≡ b → IsReading bytes sessions (Synced gap packets tail) → (g : HasTakenWords packets more n.machine) → AreBytes new
+    → session_ends_by more ≡ b → IsReading bytes sessions (Synced gap packets tail) → (g : HasTakenWords packets more n.machine) → AreBytes new
     → flat_map bytes_of_word (map (λ (s : ℕ × Step). s.0) more) ≡ tail ++ new → n.kept ≡ [] → n.mode ≡ (if b then Mode.Searching else Mode.Synced) → (b ≡ true → MatcherStandsFor n.matcher [])
     → WordsMore n (bytes ++ new) sessions gap packets more
 by_end n bytes new sessions gap tail packets more true q r g fits word none to matcher =
@@ -168,41 +168,41 @@ words_more : (c n : CutterState) (bytes new : List ℕ) (sessions : List EndedSe
     → CutterStandsFor c bytes sessions (Synced gap packets tail) → c.mode ≡ Mode.Synced
     → ((ps : List Packet) → MachineStandsFor c.machine ps → HasTakenWords ps more n.machine) → AreBytes new
     → flat_map bytes_of_word (map (λ (s : ℕ × Step). s.0) more) ≡ c.kept ++ new → n.kept ≡ []
-    → n.mode ≡ (if ends_by more then Mode.Searching else Mode.Synced) → (ends_by more ≡ true → MatcherStandsFor n.matcher [])
+    → n.mode ≡ (if session_ends_by more then Mode.Searching else Mode.Synced) → (session_ends_by more ≡ true → MatcherStandsFor n.matcher [])
     → WordsMore n (bytes ++ new) sessions gap packets more
 words_more c n bytes new sessions gap tail packets more s is grows fits word none to matcher =
     let h : MachineStandsFor c.machine packets × (tail ≡ c.kept) = rw is at s.at in
-    by_end n bytes new sessions gap tail packets more (ends_by more) refl s.reading (grows packets h.0) fits (word ∙ ap (λ t. t ++ new) (sym h.1)) none to matcher
+    by_end n bytes new sessions gap tail packets more (session_ends_by more) refl s.reading (grows packets h.0) fits (word ∙ ap (λ t. t ++ new) (sym h.1)) none to matcher
 
 pub head_more : (c n : CutterState) (bytes new : List ℕ) (sessions : List EndedSession) (place : Place) (w : ℕ) (step : Step)
     → CutterStandsFor c bytes sessions place → c.mode ≡ Mode.Synced
     → ((ps : List Packet) → MachineStandsFor c.machine ps → HasTakenWords ps ((w, step) ∷ []) n.machine) → AreBytes new
-    → bytes_of_word w ≡ c.kept ++ new → n.kept ≡ [] → n.mode ≡ (if ends_by ((w, step) ∷ []) then Mode.Searching else Mode.Synced) → (ends_by ((w, step) ∷ []) ≡ true → MatcherStandsFor n.matcher [])
+    → bytes_of_word w ≡ c.kept ++ new → n.kept ≡ [] → n.mode ≡ (if session_ends_by ((w, step) ∷ []) then Mode.Searching else Mode.Synced) → (session_ends_by ((w, step) ∷ []) ≡ true → MatcherStandsFor n.matcher [])
     → AfterRun c n (bytes ++ new) sessions place (Head w step)
 head_more c n bytes new sessions (Searching gap) w step s is grows fits word none to matcher = absurd (let h : AtPlace c Mode.Synced (Searching gap) = rw is at s.at in h)
 head_more c n bytes new sessions (Synced gap packets tail) w step s is grows fits word none to matcher =
     let m = words_more c n bytes new sessions gap tail packets ((w, step) ∷ []) s is grows fits (append-nil (bytes_of_word w) ∙ word) none to matcher in
-    record { new_sessions = m.0; new_place = m.1; stands = m.2; adds = m.3; mode_changes = (λ e. absurd (let f : Mode.Synced ≡ Mode.SyncFound = sym is ∙ e in cc), λ e. absurd (not_sync_found (ends_by ((w, step) ∷ [])) to e)) }
+    record { new_sessions = m.0; new_place = m.1; stands = m.2; adds = m.3; mode_changes = (λ e. absurd (let f : Mode.Synced ≡ Mode.SyncFound = sym is ∙ e in cc), λ e. absurd (not_sync_found (session_ends_by ((w, step) ∷ [])) to e)) }
 
 pub word_more : (c n : CutterState) (bytes new : List ℕ) (sessions : List EndedSession) (place : Place) (register w : ℕ)
     → CutterStandsFor c bytes sessions place → c.mode ≡ Mode.Synced
     → ((ps : List Packet) → MachineStandsFor c.machine ps → HasTakenWords ps ((w, Payload register w) ∷ []) n.machine) → AreBytes new
-    → bytes_of_word w ≡ c.kept ++ new → n.kept ≡ [] → n.mode ≡ (if ends_by ((w, Payload register w) ∷ []) then Mode.Searching else Mode.Synced) → (ends_by ((w, Payload register w) ∷ []) ≡ true → MatcherStandsFor n.matcher [])
+    → bytes_of_word w ≡ c.kept ++ new → n.kept ≡ [] → n.mode ≡ (if session_ends_by ((w, Payload register w) ∷ []) then Mode.Searching else Mode.Synced) → (session_ends_by ((w, Payload register w) ∷ []) ≡ true → MatcherStandsFor n.matcher [])
     → AfterRun c n (bytes ++ new) sessions place (Word register w)
 word_more c n bytes new sessions (Searching gap) register w s is grows fits word none to matcher = absurd (let h : AtPlace c Mode.Synced (Searching gap) = rw is at s.at in h)
 word_more c n bytes new sessions (Synced gap packets tail) register w s is grows fits word none to matcher =
     let m = words_more c n bytes new sessions gap tail packets ((w, Payload register w) ∷ []) s is grows fits (append-nil (bytes_of_word w) ∙ word) none to matcher in
-    record { new_sessions = m.0; new_place = m.1; stands = m.2; adds = m.3; mode_changes = (λ e. absurd (let f : Mode.Synced ≡ Mode.SyncFound = sym is ∙ e in cc), λ e. absurd (not_sync_found (ends_by ((w, Payload register w) ∷ [])) to e)) }
+    record { new_sessions = m.0; new_place = m.1; stands = m.2; adds = m.3; mode_changes = (λ e. absurd (let f : Mode.Synced ≡ Mode.SyncFound = sym is ∙ e in cc), λ e. absurd (not_sync_found (session_ends_by ((w, Payload register w) ∷ [])) to e)) }
 
 pub body_more : (c n : CutterState) (bytes new : List ℕ) (sessions : List EndedSession) (place : Place) (register : ℕ) (run : Bor (List ℕ))
     → CutterStandsFor c bytes sessions place → c.mode ≡ Mode.Synced
     → ((ps : List Packet) → MachineStandsFor c.machine ps → HasTakenWords ps (run_steps (Body register run)) n.machine) → AreBytes new
-    → flat_map bytes_of_word (map (λ (s : ℕ × Step). s.0) (run_steps (Body register run))) ≡ c.kept ++ new → n.kept ≡ [] → n.mode ≡ (if ends_by (run_steps (Body register run)) then Mode.Searching else Mode.Synced) → (ends_by (run_steps (Body register run)) ≡ true → MatcherStandsFor n.matcher [])
+    → flat_map bytes_of_word (map (λ (s : ℕ × Step). s.0) (run_steps (Body register run))) ≡ c.kept ++ new → n.kept ≡ [] → n.mode ≡ (if session_ends_by (run_steps (Body register run)) then Mode.Searching else Mode.Synced) → (session_ends_by (run_steps (Body register run)) ≡ true → MatcherStandsFor n.matcher [])
     → AfterRun c n (bytes ++ new) sessions place (Body register run)
 body_more c n bytes new sessions (Searching gap) register run s is grows fits word none to matcher = absurd (let h : AtPlace c Mode.Synced (Searching gap) = rw is at s.at in h)
 body_more c n bytes new sessions (Synced gap packets tail) register run s is grows fits word none to matcher =
     let m = words_more c n bytes new sessions gap tail packets (run_steps (Body register run)) s is grows fits word none to matcher in
-    record { new_sessions = m.0; new_place = m.1; stands = m.2; adds = m.3; mode_changes = (λ e. absurd (let f : Mode.Synced ≡ Mode.SyncFound = sym is ∙ e in cc), λ e. absurd (not_sync_found (ends_by (run_steps (Body register run))) to e)) }
+    record { new_sessions = m.0; new_place = m.1; stands = m.2; adds = m.3; mode_changes = (λ e. absurd (let f : Mode.Synced ≡ Mode.SyncFound = sym is ∙ e in cc), λ e. absurd (not_sync_found (session_ends_by (run_steps (Body register run))) to e)) }
 
 -- a call that skipped bytes, up to and including a sync word
 pub cuts_found : (c n : CutterState) (rest : List ℕ) (run : Bor (List ℕ)) (count taken : ℕ)

@@ -8,7 +8,7 @@ use Rattle.x7_words.proofs.ListLemmas.{flat_map_last, all_append}
 use Rattle.x7_packets.specs.declared.header.Step.{Step}
 use Rattle.x7_packets.specs.declared.header.Step.TheVariants.{Filler, Nop, Open, Payload, Read, Bad}
 use Rattle.x7_packets.specs.Packet.{Packet, IsPacket, IsWhole, NoneEnds, latest_of, latest_after, count_of, register_named_by, words, payload_steps, stepped, meaning, ends_session, last_ends}
-use Rattle.x7_packets.specs.Machine.{MachineState, MachineStandsFor, AtHeader, InPayload, HasTakenWords, is_end, ends_by}
+use Rattle.x7_packets.specs.Machine.{MachineState, MachineStandsFor, AtHeader, InPayload, HasTakenWords, is_end, session_ends_by}
 use Rattle.x7_packets.proofs.PacketLemmas.{whole_more, each_more, latest_more, none_more, only_more, header_ends, last_ends_more, ended_more}
 use Rattle.x7_packets.specs.ByHand.{with_payload_word}
 use Rattle.std.proofs.lemmas.List.{map-append}
@@ -129,7 +129,7 @@ same_latest l (Bad n) h k = refl
 pub calm_word : (register w : ℕ) → (register ≡ 4 → ⊥) → ends_session register w ≡ false
 calm_word register w c = let e : (register == 4) ≡ false = grind (arith, nat_tests) in rw e refl
 
-pub calm_words : (register : ℕ) (ws : List ℕ) → (register ≡ 4 → ⊥) → ends_by (payload_steps register ws) ≡ false
+pub calm_words : (register : ℕ) (ws : List ℕ) → (register ≡ 4 → ⊥) → session_ends_by (payload_steps register ws) ≡ false
 calm_words register [] c = refl
 calm_words register (w ∷ []) c = calm_word register w c
 calm_words register (w ∷ x ∷ ws) c = calm_words register (x ∷ ws) c

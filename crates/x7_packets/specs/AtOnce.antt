@@ -12,6 +12,7 @@ use Rattle.x7_packets.specs.Machine.{MachineState}
 use Rattle.x7_packets.specs.Matching.{places_reach}
 use Rattle.x7_packets.specs.SyncWord.{sync_bytes}
 use Rattle.x7_packets.specs.declared.cutter.Cut.TheVariants.{Body, Head, Skip, Sync, Word}
+use Rattle.x7_packets.specs.declared.header.Step.{Step}
 use Rattle.x7_packets.specs.declared.header.Step.TheVariants.{Open}
 
 -- how many words a short write has at most
@@ -37,6 +38,10 @@ pub record BeginsWrite (bytes : List ℕ) (register w : ℕ) : Type 0 where
   pub fits : w < 2 ^ 32
   pub whole : 8 ≤ length bytes
   pub are : take 8 bytes ≡ bytes_of_word (type1_write_header register 1) ++ bytes_of_word w
+
+-- the header of a type 1 write of `count` words, with its step
+abbrev pub write_head_step : ℕ → ℕ → ℕ × Step
+write_head_step register count = (type1_write_header register count, Open register count)
 
 -- a machine between the header of a type 1 write of `count` words and these words
 abbrev pub in_write : ℕ → ℕ → MachineState

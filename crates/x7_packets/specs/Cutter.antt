@@ -8,7 +8,7 @@ use Rattle.x7_regs.specs.declared.register.Reg.TheVariants.{Cmd}
 use Rattle.x7_packets.specs.SyncWord.{sync_bytes}
 use Rattle.x7_packets.specs.Matching.{LastThree, MatcherStandsFor}
 use Rattle.x7_packets.specs.Packet.{Packet, stepped, ended, payload_steps}
-use Rattle.x7_packets.specs.Machine.{ends_by, MachineState, MachineStandsFor}
+use Rattle.x7_packets.specs.Machine.{session_ends_by, MachineState, MachineStandsFor}
 use Rattle.x7_packets.specs.ByHand.{Reading}
 use Rattle.x7_packets.specs.Reading.{Place, Searching, Synced, EndedSession, IsReading}
 use Rattle.x7_packets.specs.declared.header.Step.{Step}
@@ -64,7 +64,7 @@ run_steps _ = []
 pub record LongerSession (gap : List ℕ) (packets : List Packet) (more : List (ℕ × Step)) (sessions new_sessions : List EndedSession) (new : Place) : Type 0 where
   pub all : List Packet
   pub grown : flat_map stepped all ≡ flat_map stepped packets ++ more
-  pub end : ended all ≡ ends_by more
+  pub end : ended all ≡ session_ends_by more
   pub ends : ended all ≡ true → (new_sessions ≡ sessions ++ record { gap = gap; packets = all } ∷ []) × (new ≡ Searching [])
   pub goes_on : ended all ≡ false → (new_sessions ≡ sessions) × (new ≡ Synced gap all [])
 

@@ -49,10 +49,10 @@ is_end (Payload register w) = ends_session register w
 is_end _ = false
 
 -- the last of these words ends the session
-abbrev pub ends_by : List (ℕ × Step) → Bool
-ends_by [] = false
-ends_by (s ∷ []) = is_end s.1
-ends_by (s ∷ t ∷ more) = ends_by (t ∷ more)
+abbrev pub session_ends_by : List (ℕ × Step) → Bool
+session_ends_by [] = false
+session_ends_by (s ∷ []) = is_end s.1
+session_ends_by (s ∷ t ∷ more) = session_ends_by (t ∷ more)
 
 -- what the machine `m` has after more words, each with its step: its packets are those before and just these words, and
 -- where the last of these ends the session it stands for no packet
@@ -60,5 +60,10 @@ pub record HasTakenWords (ps : List Packet) (more : List (ℕ × Step)) (m : Mac
   pub packets : List Packet
   pub each : EachPacket None packets
   pub grown : flat_map stepped packets ≡ flat_map stepped ps ++ more
-  pub end : ended packets ≡ ends_by more
-  pub stands : MachineStandsFor m (if ends_by more then [] else packets)
+  pub end : ended packets ≡ session_ends_by more
+  pub stands : MachineStandsFor m (if session_ends_by more then [] else packets)
+
+-- whatever packets the old machine stands for, the new one has what the machine has after these words more, each with
+-- its step
+abbrev pub AddsWords : MachineState → List (ℕ × Step) → MachineState → Type 0
+AddsWords old more new = (ps : List Packet) → MachineStandsFor old ps → HasTakenWords ps more new

@@ -53,7 +53,7 @@ pub(crate) fn meaning(latest: Option<u8>, word: u32) -> Step
 
 /// Whether the register with this number is CMD.
 #[inline(always)]
-pub fn is_cmd(register: u8) -> bool
+pub(crate) fn is_cmd(register: u8) -> bool
     ensures { result ≡ (register == number_of Cmd) }
 {
     register == Reg::Cmd.number()

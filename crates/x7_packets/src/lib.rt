@@ -18,7 +18,7 @@ pub use cutter::{Cut, Cutter};
 pub use examples::{
     examples_of_ends, examples_of_headers, examples_of_the_history, examples_of_the_search,
 };
-pub use header::{Step, is_cmd};
+pub use header::Step;
 pub use laws::{
     accesses_fit, four_bytes_enter_one, histories_grow, nothing_enters, one_list_of_packets,
     one_reading, packets_are_found, reading_is_found, searching_after_desync, words_after,

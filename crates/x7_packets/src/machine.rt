@@ -3,10 +3,10 @@ ghost use Rattle.std.specs.Prelude.{◌≡◌, ℕ, List, [], ◌∷◌, ◌≤�
 ghost use Rattle.x7_words.specs.Word.{AreWords, words_of_bytes};
 ghost use Rattle.x7_regs.specs.Register.{number_of, reg_number_count};
 ghost use Rattle.x7_regs.specs.declared.register.Reg.TheVariants.{Cmd};
-ghost use Rattle.x7_packets.specs.AtOnce.{in_write};
-ghost use Rattle.x7_packets.specs.PacketWords.{type1_count_bound, type1_write_header};
-ghost use Rattle.x7_packets.specs.Packet.{Packet, ends_session, payload_steps};
-ghost use Rattle.x7_packets.specs.Machine.{ends_by, HasTakenWords, MachineStandsFor};
+ghost use Rattle.x7_packets.specs.AtOnce.{in_write, write_head_step};
+ghost use Rattle.x7_packets.specs.PacketWords.{type1_count_bound};
+ghost use Rattle.x7_packets.specs.Packet.{ends_session, payload_steps};
+ghost use Rattle.x7_packets.specs.Machine.{AddsWords, MachineStandsFor, session_ends_by};
 
 use crate::header::{Step, ends_session, is_cmd, meaning};
 use std::marker::Model;
@@ -54,7 +54,7 @@ impl Machine {
     pub fn take(&mut self, word: u32) -> Step
         ensures payload { 0 < self.old.due → result ≡ Step.Payload self.old.register word }
         ensures register { (register x : ℕ) → result ≡ Step.Payload register x → (x ≡ word) × (register < reg_number_count) × (0 < self.old.due) }
-        ensures grows { (ps : List Packet) → MachineStandsFor self.old ps → HasTakenWords ps ((word, result) ∷ []) self.new }
+        ensures grows { AddsWords self.old ((word, result) ∷ []) self.new }
     {
         if self.due > 0 {
             let register = self.register;
@@ -103,9 +103,8 @@ impl Machine {
         requires not_empty { 0 < length body.now }
         requires within_due { length body.now / 4 ≤ self.old.due }
         requires one_word_of_cmd { self.old.register ≡ number_of Cmd → length body.now ≡ 4 }
-        ensures ends { result ≡ ends_by (payload_steps self.old.register (words_of_bytes body.now)) }
-        ensures grows { (ps : List Packet) → MachineStandsFor self.old ps
-            → HasTakenWords ps (payload_steps self.old.register (words_of_bytes body.now)) self.new }
+        ensures ends { result ≡ session_ends_by (payload_steps self.old.register (words_of_bytes body.now)) }
+        ensures grows { AddsWords self.old (payload_steps self.old.register (words_of_bytes body.now)) self.new }
     {
         if is_cmd(self.register) {
             return self
@@ -122,9 +121,8 @@ impl Machine {
         requires at_header { self.old.due ≡ 0 }
         requires register { register < reg_number_count }
         ensures ends { result ≡ ends_session register word }
-        ensures head { (ps : List Packet) → MachineStandsFor self.old ps
-            → HasTakenWords ps ((type1_write_header register 1, Step.Open register 1) ∷ []) (in_write register 1) }
-        ensures word { (ps : List Packet) → MachineStandsFor (in_write register 1) ps → HasTakenWords ps ((word, Step.Payload register word) ∷ []) self.new }
+        ensures head { AddsWords self.old (write_head_step register 1 ∷ []) (in_write register 1) }
+        ensures word { AddsWords (in_write register 1) ((word, Step.Payload register word) ∷ []) self.new }
     {
         if ends_session(register, word) {
             *self = Machine::new();
@@ -141,10 +139,8 @@ impl Machine {
         requires at_header { self.old.due ≡ 0 }
         requires register { register < reg_number_count }
         requires not_cmd { register ≡ number_of Cmd → ⊥ }
-        ensures head { (ps : List Packet) (count : ℕ) → 0 < count → count < type1_count_bound → MachineStandsFor self.old ps
-            → HasTakenWords ps ((type1_write_header register count, Step.Open register count) ∷ []) (in_write register count) }
-        ensures words { (ps : List Packet) (ws : List ℕ) → AreWords ws → 0 < length ws → MachineStandsFor (in_write register (length ws)) ps
-            → HasTakenWords ps (payload_steps register ws) self.new }
+        ensures head { (count : ℕ) → 0 < count → count < type1_count_bound → AddsWords self.old (write_head_step register count ∷ []) (in_write register count) }
+        ensures words { (ws : List ℕ) → AreWords ws → 0 < length ws → AddsWords (in_write register (length ws)) (payload_steps register ws) self.new }
     {
         self.register = register;
         self.latest = Some(register);

@@ -19,6 +19,10 @@ slots widths rows = flat_map (λ r. map Frame (addresses_of widths r) ++ Pad ∷
 abbrev pub row_slots : FieldWidths → RowData → List Slot → List Slot
 row_slots widths r later = map Frame (addresses_of widths r) ++ (Pad ∷ Pad ∷ later)
 
+-- the slots of these rows of a part
+abbrev pub slots_of_rows : PartData → List RowData → List Slot
+slots_of_rows part rows = slots part.field_widths rows
+
 -- the slots of a part
 abbrev pub slots_in : PartData → List Slot
 slots_in part = slots part.field_widths part.rows

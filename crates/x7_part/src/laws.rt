@@ -10,7 +10,7 @@ ghost use Rattle.x7_part.specs.Ranges.{IsPart};
 ghost use Rattle.x7_part.specs.Row.{sorted_rows, RowsRise};
 ghost use Rattle.x7_part.specs.Values.{rows_in_file};
 ghost use Rattle.x7_part.specs.AddressOrder.{addresses_in, IsFollowedBy};
-ghost use Rattle.x7_part.specs.Slot.{pads_after_row, slots, slots_in, slots_from, row_slots, slot_after, addresses_among, AreInOneRow};
+ghost use Rattle.x7_part.specs.Slot.{pads_after_row, slots_of_rows, slots_in, slots_from, row_slots, slot_after, addresses_among, AreInOneRow};
 ghost use Rattle.x7_part.specs.declared.slot.Slot.{Slot};
 ghost use Rattle.x7_part.specs.declared.slot.Slot.TheVariants.{Frame};
 
@@ -24,7 +24,7 @@ pub fn slots_follow_the_addresses()
     ensures length { (part : PartData) → length (slots_in part) ≡ length (addresses_in part) + pads_after_row * length part.rows }
     ensures all_from_first { (part : PartData) → IsPart part → slots_from part (slice_index (addresses_in part) 0) ≡ slots_in part }
     ensures rows { (part : PartData) (before after : List RowData) (r : RowData) → part.rows ≡ before ++ r ∷ after →
-        slots_in part ≡ slots part.field_widths before ++ row_slots part.field_widths r (slots part.field_widths after) }
+        slots_in part ≡ slots_of_rows part before ++ row_slots part.field_widths r (slots_of_rows part after) }
     ensures frames { (part : PartData) → addresses_among (slots_in part) ≡ addresses_in part }
     ensures next { (part : PartData) (far next : ℕ) → IsPart part → Contains (addresses_in part) far →
         (slot_after part far 1 ≡ Frame next) ↔ (IsFollowedBy (addresses_in part) far next × AreInOneRow part far next) }

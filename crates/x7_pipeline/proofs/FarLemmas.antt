@@ -7,15 +7,15 @@ use Rattle.x7_part.specs.Part.{PartData}
 use Rattle.x7_part.specs.declared.slot.Slot.{Slot}
 use Rattle.x7_part.specs.declared.slot.Slot.TheVariants.{Frame, Pad, End}
 use Rattle.x7_part.specs.Slot.{slots_from}
-use Rattle.x7_pipeline.specs.FarAsRead.{has_frame_at, first_address, last_address, far_at}
+use Rattle.x7_pipeline.specs.FarAsRead.{is_frame_address, first_address, last_address, far_at}
 use Rattle.x7_pipeline.specs.RunsInWords.{FarStandsAt, HasNoAddress, HasNoFrame, IsFirstAddress}
 
 -- a base that is no address is FAR itself
-pub far_at_none : (part : PartData) (base slot : ℕ) → has_frame_at part base ≡ false → base ≡ far_at part base slot
+pub far_at_none : (part : PartData) (base slot : ℕ) → is_frame_address part base ≡ false → base ≡ far_at part base slot
 unfolding far_at
 far_at_none part base slot f = rw f refl
 
-pub far_at_some : (part : PartData) (base slot : ℕ) → has_frame_at part base ≡ true → far_at part base slot ≡ unwrap_or (first_address (drop slot (slots_from part base))) (last_address part)
+pub far_at_some : (part : PartData) (base slot : ℕ) → is_frame_address part base ≡ true → far_at part base slot ≡ unwrap_or (first_address (drop slot (slots_from part base))) (last_address part)
 unfolding far_at
 far_at_some part base slot t = rw t refl
 
@@ -25,7 +25,7 @@ first_more : (places : List Slot) (i : ℕ) → i < length places → first_addr
 first_more places i h = ap first_address (drop_more places i End h)
 
 -- FAR at or after a slot is the address of the first frame there
-pub found_here : (part : PartData) (base slot place far : ℕ) → has_frame_at part base ≡ true → place < length (slots_from part base) →
+pub found_here : (part : PartData) (base slot place far : ℕ) → is_frame_address part base ≡ true → place < length (slots_from part base) →
     first_address (drop place (slots_from part base)) ≡ first_address (drop slot (slots_from part base)) →
     Frame far ≡ get_or (slots_from part base) place End → far ≡ far_at part base slot
 found_here part base slot place far t h same e =
@@ -33,7 +33,7 @@ found_here part base slot place far t h same e =
     sym (far_at_some part base slot t ∙ ap (λ o. unwrap_or o (last_address part)) (sym same ∙ there))
 
 -- FAR at or after a slot past the last one is the last address
-pub far_past : (part : PartData) (base slot place : ℕ) → has_frame_at part base ≡ true → length (slots_from part base) ≤ place →
+pub far_past : (part : PartData) (base slot place : ℕ) → is_frame_address part base ≡ true → length (slots_from part base) ≤ place →
     first_address (drop place (slots_from part base)) ≡ first_address (drop slot (slots_from part base)) → last_address part ≡ far_at part base slot
 far_past part base slot place t h same =
     let none : first_address (drop slot (slots_from part base)) ≡ None = sym same ∙ ap first_address (drop_all place (slots_from part base) h) in
@@ -96,7 +96,7 @@ first_found (Pad ∷ places) zero = slot_put_before Pad places 0 0 (first_addres
 first_found (End ∷ places) zero = slot_put_before End places 0 0 (first_address places) (omega arith) (λ i h. omega arith) (λ z far e. cc) (first_found places 0)
 first_found (slot ∷ places) (suc n) = slot_put_before slot places n (suc n) (first_address (drop n places)) (omega arith) (λ i h. omega arith) (λ z. absurd (omega arith)) (first_found places n)
 
-pub far_stands : (part : PartData) (base n : ℕ) → has_frame_at part base ≡ true → FarStandsAt part base n (far_at part base n)
+pub far_stands : (part : PartData) (base n : ℕ) → is_frame_address part base ≡ true → FarStandsAt part base n (far_at part base n)
 unfolding AddressFrom
 far_stands part base n t = by (first_address (drop n (slots_from part base))) (first_found (slots_from part base) n) (far_at_some part base n t)
   where

@@ -10,7 +10,7 @@ use Rattle.x7_part.specs.declared.slot.Slot.TheVariants.{End}
 use Rattle.x7_memory.specs.FrameMap.{FrameMap, HaveSameFrames}
 use Rattle.x7_regs.specs.declared.command.Command.{Command}
 use Rattle.x7_pipeline.specs.declared.fault.RunFault.{RunFault}
-use Rattle.x7_pipeline.specs.FarAsRead.{has_frame_at}
+use Rattle.x7_pipeline.specs.FarAsRead.{is_frame_address}
 use Rattle.x7_pipeline.specs.Runs.{at_slot, onto, put_over, Lands}
 use Rattle.x7_pipeline.specs.Fault.{write_fault}
 use Rattle.x7_pipeline.specs.RunWritten.{RunWritten, with_later_words, run_written}
@@ -62,7 +62,7 @@ passes_next : (part : PartData) (base w : ℕ) (run words : List ℕ) → None �
 passes_next part base w run words e f = ap (λ (x : RunWritten). x.fault) (written_next part base w run words e) ∙ f
 
 pub within : (part : PartData) (p : PipelineData) (memory : FrameMap) (command : Command) (base : ℕ) (run : List ℕ) (source : Option (List ℕ)) (given : ℕ) (words : List ℕ) →
-    StandsFor part p command base run source given → (p.frame_count ≡ 0 → length p.rest ≡ 0 → has_frame_at part p.base ≡ true) → length p.rest + length words < p.width →
+    StandsFor part p command base run source given → (p.frame_count ≡ 0 → length p.rest ≡ 0 → is_frame_address part p.base ≡ true) → length p.rest + length words < p.width →
     Within part p memory command base run source given words
 unfolding run_written
 within part p memory command base run source given [] s first short = record {
@@ -117,7 +117,7 @@ whole part p q old new command base run source given frame s begins wide slot e 
     let positive = s.some_words in
     let f : Front frame = prefix_of frame (omega arith) in
     let long : length frame ≡ length f.prefix + 1 = ap length f.are ∙ length-append f.prefix (f.last ∷ []) in
-    let first : p.frame_count ≡ 0 → length p.rest ≡ 0 → has_frame_at part p.base ≡ true = λ a b. lt-ltb 0 (length (slots_from part p.base)) (omega arith) in
+    let first : p.frame_count ≡ 0 → length p.rest ≡ 0 → is_frame_address part p.base ≡ true = λ a b. lt-ltb 0 (length (slots_from part p.base)) (omega arith) in
     let w : Within part p old command base run source given f.prefix = within part p old command base run source given f.prefix s first (omega arith) in
     let m : PipelineData = record p { rest = p.rest ++ f.prefix } in
     let filled : length (p.rest ++ f.prefix) ≡ length p.rest + length f.prefix = length-append p.rest f.prefix in

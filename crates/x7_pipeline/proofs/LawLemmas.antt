@@ -22,7 +22,7 @@ use Rattle.x7_pipeline.specs.declared.fault.RunFault.{RunFault}
 use Rattle.x7_pipeline.specs.declared.fault.RunFault.TheVariants.{Address, Overrun, Multi}
 use Rattle.x7_pipeline.specs.Runs.{rest_of, frames_of, at_slot, in_slots, older_frames, written_frames, put_over, Lands}
 use Rattle.x7_pipeline.specs.RunsInWords.{AreCutFrom, FarStandsAt, pair_of, place_in}
-use Rattle.x7_pipeline.specs.FarAsRead.{has_frame_at, first_address, last_address, far_at, far_of}
+use Rattle.x7_pipeline.specs.FarAsRead.{is_frame_address, first_address, last_address, far_at, far_of}
 use Rattle.x7_regs.specs.declared.command.Command.TheVariants.{Wcfg, Mfw}
 use Rattle.x7_pipeline.specs.Copies.{is_wcfg, is_mfw, newest_of, source_after}
 use Rattle.x7_pipeline.specs.Readback.{word_at, readback_at, readback_end, given_stored}
@@ -106,7 +106,7 @@ nothing_lands places [] none = refl
 nothing_lands places (frame ∷ older) none =
     ap (λ slot. at_slot slot frame (in_slots places older)) (get_or_past places (length older) End (omega arith)) ∙ nothing_lands places older none
 
-pub landed_nowhere : (part : PartData) (base : ℕ) (run : List ℕ) → has_frame_at part base ≡ false → written_frames part base run ≡ []
+pub landed_nowhere : (part : PartData) (base : ℕ) (run : List ℕ) → is_frame_address part base ≡ false → written_frames part base run ≡ []
 unfolding written_frames
 landed_nowhere part base run f = nothing_lands (slots_from part base) (older_frames (frames_of (frame_words part) run)) (no_slots part base f)
 
@@ -145,19 +145,19 @@ first_from far (Frame a ∷ places) h =
 first_from far (Pad ∷ places) h = first_from far places h
 first_from far (End ∷ places) h = first_from far places h
 
-loaded_at : (part : PartData) (base : ℕ) (b : Bool) → has_frame_at part base ≡ b → far_at part base 0 ≡ base
+loaded_at : (part : PartData) (base : ℕ) (b : Bool) → is_frame_address part base ≡ b → far_at part base 0 ≡ base
 loaded_at part base true t =
     far_at_some part base 0 t ∙ ap (λ o. unwrap_or o (last_address part)) (first_from base (slots_in part) (ltb-true 0 (length (slots_from part base)) t))
 loaded_at part base false f = sym (far_at_none part base 0 f)
 
 pub far_loaded : (part : PartData) (base : ℕ) → far_of part base [] 0 ≡ base
 unfolding far_of frames_of
-far_loaded part base = ap (far_at part base) (let z = nothing_divided (frame_words part) in let e : max 0 (0 / frame_words part) - 1 ≡ 0 = omega arith in e) ∙ loaded_at part base (has_frame_at part base) refl
+far_loaded part base = ap (far_at part base) (let z = nothing_divided (frame_words part) in let e : max 0 (0 / frame_words part) - 1 ≡ 0 = omega arith in e) ∙ loaded_at part base (is_frame_address part base) refl
   where
     nothing_divided : (w : ℕ) → 0 / w ≡ 0
     nothing_divided w = zero-div w
 
-pub far_nowhere : (part : PartData) (base : ℕ) (run : List ℕ) (given : ℕ) → has_frame_at part base ≡ false → far_of part base run given ≡ base
+pub far_nowhere : (part : PartData) (base : ℕ) (run : List ℕ) (given : ℕ) → is_frame_address part base ≡ false → far_of part base run given ≡ base
 unfolding far_of
 far_nowhere part base run given f = sym (far_at_none part base (max (length (frames_of (frame_words part) run)) (given / frame_words part) - 1) f)
 
@@ -170,7 +170,7 @@ frames_cut width count rest run e h =
     let short : length (rest_of width run) < width = (cut width run (omega arith)).short in
     sym (whole_count width (length (frames_of width run)) (length (rest_of width run)) short) ∙ ap (λ x. x / width) (sym (length_run width run) ∙ e) ∙ whole_count width count rest h
 
-pub far_written : (part : PartData) (base count rest : ℕ) (run : List ℕ) → has_frame_at part base ≡ true → length run ≡ place_in part count rest → rest < frame_words part → FarStandsAt part base count (far_of part base run 0)
+pub far_written : (part : PartData) (base count rest : ℕ) (run : List ℕ) → is_frame_address part base ≡ true → length run ≡ place_in part count rest → rest < frame_words part → FarStandsAt part base count (far_of part base run 0)
 unfolding far_of
 far_written part base count rest run t e h =
     let frames : length (frames_of (frame_words part) run) ≡ 1 + count = frames_cut (frame_words part) (1 + count) rest run e h in
@@ -178,7 +178,7 @@ far_written part base count rest run t e h =
     let at : max (length (frames_of (frame_words part) run)) (0 / frame_words part) - 1 ≡ count = omega arith in
     rw at (far_stands part base count t)
 
-pub far_given : (part : PartData) (base count rest : ℕ) → has_frame_at part base ≡ true → rest < frame_words part → FarStandsAt part base count (far_of part base [] (place_in part count rest))
+pub far_given : (part : PartData) (base count rest : ℕ) → is_frame_address part base ≡ true → rest < frame_words part → FarStandsAt part base count (far_of part base [] (place_in part count rest))
 unfolding far_of frames_of
 far_given part base count rest t h =
     let given : place_in part count rest / frame_words part ≡ 1 + count = whole_count (frame_words part) (1 + count) rest h in
@@ -195,7 +195,7 @@ far_begun part base given run r g =
     let frames : length (frames_of width run) ≡ 0 = frames_cut width 0 (length run) run (none_whole width (length run) r) r in
     let pads : given / width ≡ 0 = ap (λ x. x / width) (none_whole width given g) ∙ whole_count width 0 given g in
     let at : max (length (frames_of width run)) (given / width) - 1 ≡ 0 = omega arith in
-    ap (far_at part base) at ∙ loaded_at part base (has_frame_at part base) refl
+    ap (far_at part base) at ∙ loaded_at part base (is_frame_address part base) refl
 
 many_frames : (part : PartData) (base given : ℕ) → 0 < frame_words part → readback_end part base ≤ given → 1 + length (slots_from part base) ≤ given / frame_words part
 unfolding readback_end
@@ -203,7 +203,7 @@ many_frames part base given some h =
     (le-div_iff_mul-le {k = frame_words part} {x = 1 + length (slots_from part base)} {y = given} some).1
     (commute (frame_words part) (1 + length (slots_from part base)) given h)
 
-pub far_last : (part : PartData) (base : ℕ) (run : List ℕ) (given : ℕ) → 0 < frame_words part → has_frame_at part base ≡ true → readback_end part base ≤ given → far_of part base run given ≡ last_address part
+pub far_last : (part : PartData) (base : ℕ) (run : List ℕ) (given : ℕ) → 0 < frame_words part → is_frame_address part base ≡ true → readback_end part base ≤ given → far_of part base run given ≡ last_address part
 unfolding far_of
 far_last part base run given some t h =
     let many = many_frames part base given some h in
@@ -285,9 +285,9 @@ at_no_frame (Frame far) words pairs none = absurd (none far refl)
 at_no_frame Pad words pairs none = refl
 at_no_frame End words pairs none = refl
 
-no_address : (part : PartData) (base : ℕ) (fault : RunFault) → address_fault part base ≡ Some fault → (has_frame_at part base ≡ false) × (fault ≡ Address base)
+no_address : (part : PartData) (base : ℕ) (fault : RunFault) → address_fault part base ≡ Some fault → (is_frame_address part base ≡ false) × (fault ≡ Address base)
 unfolding address_fault
-no_address part base fault e = by (has_frame_at part base) e
+no_address part base fault e = by (is_frame_address part base) e
   where
     by : (b : Bool) → (if b then None else Some (Address base)) ≡ Some fault → (b ≡ false) × (fault ≡ Address base)
     by true e = absurd (none-some fault e)
@@ -332,7 +332,7 @@ none_after places i h ends =
     no_frame Pad none = refl
     no_frame End none = refl
 
-far_at_end : (part : PartData) (base i j : ℕ) (b : Bool) → has_frame_at part base ≡ b → length (slots_from part base) ≤ i + 1 → length (slots_from part base) ≤ j + 1 → far_at part base i ≡ far_at part base j
+far_at_end : (part : PartData) (base i j : ℕ) (b : Bool) → is_frame_address part base ≡ b → length (slots_from part base) ≤ i + 1 → length (slots_from part base) ≤ j + 1 → far_at part base i ≡ far_at part base j
 far_at_end part base i j false f h k = sym (far_at_none part base i f) ∙ far_at_none part base j f
 far_at_end part base i j true t h k =
     far_at_some part base i t ∙ ap (λ o. unwrap_or o (last_address part)) (none_after (slots_from part base) i h (last_slot part base) ∙ sym (none_after (slots_from part base) j k (last_slot part base)))
@@ -348,7 +348,7 @@ refused_far part base (v ∷ run) word given fault e =
     let more = ap length (frames_completes (frame_words part) word (v ∷ run) p.0) in
     let enough = p.1 in
     far_at_end part base (max (length (frames_of (frame_words part) (word ∷ v ∷ run))) (given / frame_words part) - 1) (max (length (frames_of (frame_words part) (v ∷ run))) (given / frame_words part) - 1)
-    (has_frame_at part base) refl (omega arith) (omega arith)
+    (is_frame_address part base) refl (omega arith) (omega arith)
 
 -- Overrun is the completion of a frame that has no slot
 pub overrun_is : (part : PartData) (base word v : ℕ) (run : List ℕ) → (write_fault part base (v ∷ run) ≡ Some Overrun)

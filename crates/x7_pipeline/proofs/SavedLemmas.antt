@@ -16,7 +16,7 @@ use Rattle.x7_memory.proofs.MapLemmas.{override_one}
 use Rattle.x7_pipeline.specs.Runs.{at_slot, older_frames, frames_of, in_slots, written_frames, put_over, rest_of, Lands}
 use Rattle.x7_regs.specs.declared.command.Command.{Command}
 use Rattle.x7_pipeline.specs.declared.fault.RunFault.TheVariants.{Address, Multi}
-use Rattle.x7_pipeline.specs.FarAsRead.{has_frame_at}
+use Rattle.x7_pipeline.specs.FarAsRead.{is_frame_address}
 use Rattle.x7_pipeline.specs.Fault.{address_fault, copy_fault}
 use Rattle.x7_pipeline.specs.Pipeline.{PipelineData}
 use Rattle.x7_pipeline.proofs.FlowLemmas.{StandsFor}
@@ -95,7 +95,7 @@ taken_back part (Some a) old new o n c = λ far. by far (frame_at part old a) re
     ]
 
 -- a copy that isn't refused puts a frame at the address that `next_put` gives
-copy_at : (part : PartData) (p : PipelineData) (m s b : Bool) → is_mfw p.command ≡ m → is_some p.source ≡ s → has_frame_at part p.base ≡ b → (if m && s then (if b then None else Some (Address p.base)) else Some Multi) ≡ None
+copy_at : (part : PartData) (p : PipelineData) (m s b : Bool) → is_mfw p.command ≡ m → is_some p.source ≡ s → is_frame_address part p.base ≡ b → (if m && s then (if b then None else Some (Address p.base)) else Some Multi) ≡ None
     → next_put part p ≡ Some p.base
 copy_at part p true true true e f g q = rw (e, f, g) refl
 copy_at part p true true false e f g q = absurd (none-some _ (sym q))
@@ -106,7 +106,7 @@ pub copy_changes : (part : PartData) (p : PipelineData) (command : Command) (bas
     → copy_fault part command base source ≡ None → HaveSameFrames new (put_over (copied_pairs base source) old) → ChangesAt (next_put part p) old new
 unfolding copy_fault address_fault
 copy_changes part p command base run source given old new s f same =
-    let at : next_put part p ≡ Some base = copy_at part p (is_mfw command) (is_some source) (has_frame_at part base) (ap is_mfw s.command_is) (ap is_some s.source_is) (ap (has_frame_at part) s.base_is) (rw s.base_is f) ∙ ap Some s.base_is in
+    let at : next_put part p ≡ Some base = copy_at part p (is_mfw command) (is_some source) (is_frame_address part base) (ap is_mfw s.command_is) (ap is_some s.source_is) (ap (is_frame_address part) s.base_is) (rw s.base_is f) ∙ ap Some s.base_is in
     rw at (changes_copy base source old new same)
 
 -- ---- a word

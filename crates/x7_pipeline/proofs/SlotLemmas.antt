@@ -12,7 +12,7 @@ use Rattle.x7_part.specs.declared.slot.Slot.{Slot}
 use Rattle.x7_part.specs.declared.slot.Slot.TheVariants.{Frame, Pad, End}
 use Rattle.x7_part.proofs.PartLemmas.{slots_count}
 use Rattle.x7_part.proofs.SlotLemmas.{among_slots}
-use Rattle.x7_pipeline.specs.FarAsRead.{has_frame_at}
+use Rattle.x7_pipeline.specs.FarAsRead.{is_frame_address}
 
 -- ---- the slots from an address on
 
@@ -79,19 +79,19 @@ length_from far (End ∷ places) = let ih = length_from far places in omega arit
 -- ---- of a part
 
 -- an address has slots from it on
-pub address_has : (part : PartData) (far : ℕ) → Contains (addresses_in part) far → has_frame_at part far ≡ true
+pub address_has : (part : PartData) (far : ℕ) → Contains (addresses_in part) far → is_frame_address part far ≡ true
 address_has part far has =
     lt-ltb 0 (length (slots_from part far)) (from_some far (slots_in part) (rw (among_slots part.field_widths part.rows) has))
 
-pub has_address : (part : PartData) (far : ℕ) → has_frame_at part far ≡ true → Contains (addresses_in part) far
+pub has_address : (part : PartData) (far : ℕ) → is_frame_address part far ≡ true → Contains (addresses_in part) far
 has_address part far t =
     rw (among_slots part.field_widths part.rows) at (some_from far (slots_in part) (ltb-true 0 (length (slots_from part far)) t))
 
 -- the test for an address
-pub is_base_so : (part : PartData) (far : ℕ) (b : Bool) → (b ≡ true) ↔ Contains (addresses_in part) far → b ≡ has_frame_at part far
+pub is_base_so : (part : PartData) (far : ℕ) (b : Bool) → (b ≡ true) ↔ Contains (addresses_in part) far → b ≡ is_frame_address part far
 is_base_so part far true h = sym (address_has part far (h.0 refl))
 is_base_so part far false h =
-    elim (tells (has_frame_at part far)) [
+    elim (tells (is_frame_address part far)) [
       | inl t ↦ absurd (false≢true (h.1 (has_address part far t)))
       | inr f ↦ sym f
     ]
@@ -101,10 +101,10 @@ is_base_so part far false h =
     tells false = inr refl
 
 -- what is no address has no slot
-pub no_slots : (part : PartData) (far : ℕ) → has_frame_at part far ≡ false → length (slots_from part far) ≡ 0
+pub no_slots : (part : PartData) (far : ℕ) → is_frame_address part far ≡ false → length (slots_from part far) ≡ 0
 no_slots part far f = grind (arith, nat_tests)
 
-pub no_slot : (part : PartData) (far n : ℕ) → has_frame_at part far ≡ false → End ≡ get_or (slots_from part far) n End
+pub no_slot : (part : PartData) (far n : ℕ) → is_frame_address part far ≡ false → End ≡ get_or (slots_from part far) n End
 no_slot part far n f = sym (get_or_past (slots_from part far) n End (let none = no_slots part far f in omega arith))
 
 -- a slot of a frame has an address of the part

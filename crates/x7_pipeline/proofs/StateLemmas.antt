@@ -16,7 +16,7 @@ use Rattle.x7_memory.proofs.MapLemmas.{override_one}
 use Rattle.x7_regs.specs.declared.command.Command.{Command}
 use Rattle.x7_pipeline.specs.declared.fault.RunFault.TheVariants.{Address, Overrun, Multi}
 use Rattle.x7_pipeline.specs.Runs.{rest_of, frames_of, at_slot, in_slots, older_frames, written_frames, put_over, Lands}
-use Rattle.x7_pipeline.specs.FarAsRead.{has_frame_at, far_at, far_of}
+use Rattle.x7_pipeline.specs.FarAsRead.{is_frame_address, far_at, far_of}
 use Rattle.x7_pipeline.specs.Copies.{is_mfw, newest_of, source_with, source_after, copied_pairs}
 use Rattle.x7_pipeline.specs.Readback.{word_at, read_slot, readback_at, readback_end, given_stored}
 use Rattle.x7_pipeline.specs.Fault.{address_fault, completes, has_filled, write_fault, copy_fault, readback_fault, drop_fault}
@@ -188,11 +188,11 @@ put_copy base at source frame old new b e put = rw (e, ← b) (override_one old 
 -- ---- faults
 
 -- a base that is no address is refused
-pub address_refused : (part : PartData) (base : ℕ) → has_frame_at part base ≡ false → Some (Address base) ≡ address_fault part base
+pub address_refused : (part : PartData) (base : ℕ) → is_frame_address part base ≡ false → Some (Address base) ≡ address_fault part base
 unfolding address_fault
 address_refused part base f = rw f refl
 
-pub address_allowed : (part : PartData) (base : ℕ) → has_frame_at part base ≡ true → None ≡ address_fault part base
+pub address_allowed : (part : PartData) (base : ℕ) → is_frame_address part base ≡ true → None ≡ address_fault part base
 unfolding address_fault
 address_allowed part base t = rw t refl
 
@@ -215,14 +215,14 @@ somewhere x y true e p q = refl
 somewhere x y false e p q = absurd (false≢true (sym e ∙ rw (p, q) refl))
 
 pub write_refused : (part : PartData) (p : PipelineData) (command : Command) (base : ℕ) (run : List ℕ) (source : Option (List ℕ)) (given : ℕ) → StandsFor part p command base run source given →
-    p.frame_count ≡ 0 → length p.rest ≡ 0 → has_frame_at part p.base ≡ false → Some (Address p.base) ≡ write_fault part base run
+    p.frame_count ≡ 0 → length p.rest ≡ 0 → is_frame_address part p.base ≡ false → Some (Address p.base) ≡ write_fault part base run
 unfolding write_fault
 write_refused part p command base run source given s none_whole no_rest f =
     rw (s.base_is, run_is_empty part p command base run source given s none_whole no_rest) (address_refused part base (rw s.base_is at f))
 
 -- what lets a word pass: an address, or words before it; and a slot for the frame that it completes
 pub write_allowed : (part : PartData) (p : PipelineData) (command : Command) (base : ℕ) (run : List ℕ) (source : Option (List ℕ)) (given : ℕ) → StandsFor part p command base run source given →
-    (p.frame_count ≡ 0 → length p.rest ≡ 0 → has_frame_at part p.base ≡ true) → (length p.rest + 1 ≡ p.width → p.frame_count < length (slots_from part p.base)) → None ≡ write_fault part base run
+    (p.frame_count ≡ 0 → length p.rest ≡ 0 → is_frame_address part p.base ≡ true) → (length p.rest + 1 ≡ p.width → p.frame_count < length (slots_from part p.base)) → None ≡ write_fault part base run
 unfolding write_fault rest_of frames_of
 write_allowed part p command base [] source given s first last =
     address_allowed part base (rw (← s.base_is) (first s.count_is (ap length s.rest_is)))
@@ -238,7 +238,7 @@ write_allowed part p command base (w ∷ run) source given s first last =
         ]
 
 pub overrun_refused : (part : PartData) (p : PipelineData) (command : Command) (base : ℕ) (run : List ℕ) (source : Option (List ℕ)) (given : ℕ) → StandsFor part p command base run source given →
-    (p.frame_count ≡ 0 → length p.rest ≡ 0 → has_frame_at part p.base ≡ true) → length p.rest + 1 ≡ p.width → length (slots_from part p.base) ≤ p.frame_count → Some Overrun ≡ write_fault part base run
+    (p.frame_count ≡ 0 → length p.rest ≡ 0 → is_frame_address part p.base ≡ true) → length p.rest + 1 ≡ p.width → length (slots_from part p.base) ≤ p.frame_count → Some Overrun ≡ write_fault part base run
 unfolding write_fault rest_of frames_of
 overrun_refused part p command base [] source given s first full past =
     let some : 0 < length (slots_from part p.base) = ltb-true 0 (length (slots_from part p.base)) (first s.count_is (ap length s.rest_is)) in
@@ -282,13 +282,13 @@ wide : (part : PartData) (p : PipelineData) (command : Command) (base : ℕ) (ru
 wide part p command base run source given s = rw s.width_is at s.some_words
 
 pub read_refused : (part : PartData) (p : PipelineData) (command : Command) (base : ℕ) (run : List ℕ) (source : Option (List ℕ)) (given : ℕ) → StandsFor part p command base run source given →
-    p.given ≡ 0 → has_frame_at part p.base ≡ false → Some (Address p.base) ≡ readback_fault part base given
+    p.given ≡ 0 → is_frame_address part p.base ≡ false → Some (Address p.base) ≡ readback_fault part base given
 unfolding readback_fault
 read_refused part p command base run source given s first f =
     rw (s.base_is, eq-eqb given 0 (none_given part base given (wide part p command base run source given s) (sym s.given_is ∙ first))) (address_refused part base (rw s.base_is at f))
 
 pub read_allowed : (part : PartData) (p : PipelineData) (command : Command) (base : ℕ) (run : List ℕ) (source : Option (List ℕ)) (given : ℕ) → StandsFor part p command base run source given →
-    (p.given ≡ 0 → has_frame_at part p.base ≡ true) → None ≡ readback_fault part base given
+    (p.given ≡ 0 → is_frame_address part p.base ≡ true) → None ≡ readback_fault part base given
 unfolding readback_fault
 read_allowed part p command base run source given s first =
     elim (cases_eq given 0) [

@@ -10,12 +10,12 @@ use Rattle.x7_part.specs.declared.slot.Slot.TheVariants.{Frame, Pad, End}
 use Rattle.x7_pipeline.specs.Runs.{frames_of}
 
 -- the part has a frame at the address: there are slots from the address on
-abbrev pub has_frame_at : PartData → ℕ → Bool
-has_frame_at part far = nat_lt 0 (length (slots_from part far))
+abbrev pub is_frame_address : PartData → ℕ → Bool
+is_frame_address part far = nat_lt 0 (length (slots_from part far))
 
 -- a run or a readback can begin at the address: the part has a frame there
 abbrev pub IsBase : PartData → ℕ → Type 0
-IsBase part far = has_frame_at part far ≡ true
+IsBase part far = is_frame_address part far ≡ true
 
 -- the base that a FAR load leaves: the lowest bits of the word, as many as an address has
 abbrev pub loaded_base : PartData → ℕ → ℕ
@@ -36,7 +36,7 @@ last_address part = slice_index (addresses_in part) (length (addresses_in part) 
 -- is none; a base that is no address stays as it is
 unfoldable pub far_at : PartData → ℕ → ℕ → ℕ
 far_at part base slot =
-    if has_frame_at part base then unwrap_or (first_address (drop slot (slots_from part base))) (last_address part) else base
+    if is_frame_address part base then unwrap_or (first_address (drop slot (slots_from part base))) (last_address part) else base
 
 -- FAR as read, after a run from the base or `given` words of a readback: after n whole frames of either, a readback's
 -- pad frame counted, it stands at slot n - 1, from 0, of those from the base on, and before any whole frame at slot 0

@@ -7,12 +7,12 @@ use Rattle.x7_regs.specs.declared.command.Command.{Command}
 use Rattle.x7_pipeline.specs.declared.fault.RunFault.{RunFault}
 use Rattle.x7_pipeline.specs.declared.fault.RunFault.TheVariants.{Address, Overrun, Multi}
 use Rattle.x7_pipeline.specs.Runs.{rest_of, frames_of}
-use Rattle.x7_pipeline.specs.FarAsRead.{has_frame_at}
+use Rattle.x7_pipeline.specs.FarAsRead.{is_frame_address}
 use Rattle.x7_pipeline.specs.Copies.{is_mfw}
 
 -- the fault of a base: Address where it is no address, else none
 unfoldable pub address_fault : PartData → ℕ → Option RunFault
-address_fault part base = if has_frame_at part base then None else Some (Address base)
+address_fault part base = if is_frame_address part base then None else Some (Address base)
 
 -- the next word of a run completes a frame
 abbrev pub completes : PartData → List ℕ → Bool

@@ -5,7 +5,7 @@ use Rattle.x7_part.specs.Part.{PartData, frame_words}
 use Rattle.x7_part.specs.Address.{far_width}
 use Rattle.x7_part.specs.Slot.{slots_from}
 use Rattle.x7_part.specs.declared.slot.Slot.TheVariants.{End}
-use Rattle.x7_memory.specs.FrameMap.{FrameMap, HaveSameFrames}
+use Rattle.x7_memory.specs.FrameMap.{FrameMap}
 use Rattle.x7_regs.specs.declared.command.Command.{Command}
 use Rattle.x7_regs.specs.declared.command.Command.TheVariants.{Null}
 use Rattle.x7_pipeline.specs.FarAsRead.{far_of}
@@ -16,7 +16,7 @@ use Rattle.x7_pipeline.specs.Copies.{copied_pairs, newest_of, source_after}
 use Rattle.x7_pipeline.specs.Fault.{copy_fault}
 use Rattle.x7_pipeline.specs.Readback.{given_stored, read_slot}
 use Rattle.x7_pipeline.specs.Pipeline.{PipelineData}
-use Rattle.x7_pipeline.specs.Runs.{Lands, at_slot, frames_of, onto, put_over, rest_of}
+use Rattle.x7_pipeline.specs.Runs.{GetsPairs, Lands, at_slot, frames_of, onto, rest_of}
 use Rattle.x7_pipeline.specs.RunWritten.{RunWritten, run_written}
 
 -- the command, the address that the run or readback began at, the words of the run (the newest first), the frame that
@@ -123,4 +123,4 @@ FramesLandUpToFault part p words old new =
 -- the newest whole frame, where there is one, was put at its slot, and nowhere where that is no frame's
 abbrev pub PutsNewest : PartData → PipelineData → FrameMap → FrameMap → Type 0
 PutsNewest part p old new = (frame : List ℕ) → p.newest ≡ Some frame →
-    HaveSameFrames new (put_over (at_slot (slice_index_or (slots_from part p.base) (p.frame_count - 1) End) frame []) old)
+    GetsPairs (at_slot (slice_index_or (slots_from part p.base) (p.frame_count - 1) End) frame []) old new

@@ -56,8 +56,12 @@ written_frames part base run = in_slots (slots_from part base) (older_frames (fr
 abbrev pub put_over : List PlanRow → FrameMap → FrameMap
 put_over pairs memory = override memory (planned pairs)
 
+-- the new memory is the old one with the frames of these pairs put over it
+abbrev pub GetsPairs : List PlanRow → FrameMap → FrameMap → Type 0
+GetsPairs pairs old new = HaveSameFrames new (put_over pairs old)
+
 -- the run became longer, and the memory got just the pairs by which the written frames grew
 pub record Lands (part : PartData) (base : ℕ) (run longer : List ℕ) (old new : FrameMap) : Type 0 where
   pub added : List PlanRow
   pub grows : written_frames part base longer ≡ added ++ written_frames part base run
-  pub memory : HaveSameFrames new (put_over added old)
+  pub memory : GetsPairs added old new

@@ -5,10 +5,10 @@ use Rattle.x7_part.specs.Part.{PartData, frame_words}
 use Rattle.x7_part.specs.Slot.{slots_from}
 use Rattle.x7_part.specs.declared.slot.Slot.{Slot}
 use Rattle.x7_part.specs.declared.slot.Slot.TheVariants.{Frame, Pad, End}
-use Rattle.x7_memory.specs.FrameMap.{FrameMap, HaveSameFrames}
+use Rattle.x7_memory.specs.FrameMap.{FrameMap}
 use Rattle.x7_memory.specs.Plan.{PlanRow}
 use Rattle.x7_pipeline.specs.FarAsRead.{last_address}
-use Rattle.x7_pipeline.specs.Runs.{frames_of, written_frames, onto, put_over, rest_of}
+use Rattle.x7_pipeline.specs.Runs.{GetsPairs, frames_of, written_frames, onto, rest_of}
 use Rattle.x7_pipeline.specs.RunWritten.{RunWritten}
 
 -- a run, whose newest word stands first, is whole frames of `width` words, the newest first, and after them a shorter
@@ -30,7 +30,7 @@ placed_from part base frames = filter_map pair_of (zip (slots_from part base) fr
 
 -- the memory is another one with what a run has written
 abbrev pub HasRun : PartData → ℕ → List ℕ → FrameMap → FrameMap → Type 0
-HasRun part base run under memory = HaveSameFrames memory (put_over (written_frames part base run) under)
+HasRun part base run under memory = GetsPairs (written_frames part base run) under memory
 
 -- what writing words leaves where none is refused
 abbrev pub all_written : List ℕ → List ℕ → RunWritten

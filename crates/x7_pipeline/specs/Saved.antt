@@ -9,7 +9,7 @@ use Rattle.x7_memory.specs.FrameMap.{FrameMap}
 use Rattle.x7_memory.specs.PartFrames.{AreFramesOf, frame_at}
 use Rattle.x7_memory.specs.Plan.{PlanRow}
 use Rattle.x7_part.specs.Slot.{slots_from}
-use Rattle.x7_pipeline.specs.FarAsRead.{has_frame_at}
+use Rattle.x7_pipeline.specs.FarAsRead.{is_frame_address}
 use Rattle.x7_pipeline.specs.Copies.{is_mfw}
 use Rattle.x7_pipeline.specs.Pipeline.{IsPipelineOf, PipelineData}
 
@@ -32,7 +32,7 @@ put_by_word part p = if length p.rest + 1 == p.width then address_at_slot (newes
 
 -- the address where a copy would put a frame: the base, and none where that is no address
 abbrev pub put_by_copy : PartData → PipelineData → Option ℕ
-put_by_copy part p = if has_frame_at part p.base then Some p.base else None
+put_by_copy part p = if is_frame_address part p.base then Some p.base else None
 
 -- a pipeline takes copies: the command is MFW, and there is a source
 abbrev pub may_copy : PipelineData → Bool

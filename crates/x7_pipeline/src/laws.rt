@@ -8,9 +8,9 @@ ghost use Rattle.x7_memory.specs.PartFrames.{frame_at};
 ghost use Rattle.x7_memory.specs.Plan.{PlanRow};
 ghost use Rattle.x7_regs.specs.declared.command.Command.{Command};
 ghost use Rattle.x7_pipeline.specs.declared.fault.RunFault.{RunFault};
-ghost use Rattle.x7_pipeline.specs.Runs.{rest_of, frames_of, older_frames, written_frames, put_over, Lands};
+ghost use Rattle.x7_pipeline.specs.Runs.{rest_of, frames_of, older_frames, written_frames, put_over, GetsPairs, Lands};
 ghost use Rattle.x7_pipeline.specs.RunsInWords.{AreCutFrom, FarStandsAt, HasRun, Overruns, all_written, place_in, placed_from};
-ghost use Rattle.x7_pipeline.specs.FarAsRead.{IsBase, has_frame_at, far_of, last_address};
+ghost use Rattle.x7_pipeline.specs.FarAsRead.{IsBase, is_frame_address, far_of, last_address};
 ghost use Rattle.x7_pipeline.specs.Copies.{is_wcfg, is_mfw, newest_of, source_after};
 ghost use Rattle.x7_pipeline.specs.Readback.{word_at, readback_at, readback_end, given_stored};
 ghost use Rattle.x7_pipeline.specs.Fault.{write_fault, copy_fault, readback_fault};
@@ -29,10 +29,9 @@ pub fn runs_land_in_slot_order()
     ensures order { (part : PartData) (base : ℕ) (run : List ℕ) →
         reverse (written_frames part base run) ≡ placed_from part base (reverse (older_frames (frames_of (frame_words part) run))) }
     ensures no_run_writes_nothing { (part : PartData) (base : ℕ) → written_frames part base [] ≡ [] }
-    ensures no_base_writes_nothing { (part : PartData) (base : ℕ) (run : List ℕ) → has_frame_at part base ≡ false → written_frames part base run ≡ [] }
+    ensures no_base_writes_nothing { (part : PartData) (base : ℕ) (run : List ℕ) → is_frame_address part base ≡ false → written_frames part base run ≡ [] }
     ensures no_word_lands_nothing { (part : PartData) (base : ℕ) (run : List ℕ) (old new : FrameMap) → HaveSameFrames new old → Lands part base run run old new }
-    ensures puts_join { (first second : List PlanRow) (old middle new : FrameMap) → HaveSameFrames middle (put_over first old) → HaveSameFrames new (put_over second middle) →
-        HaveSameFrames new (put_over (second ++ first) old) }
+    ensures puts_join { (first second : List PlanRow) (old middle new : FrameMap) → GetsPairs first old middle → GetsPairs second middle new → GetsPairs (second ++ first) old new }
     ensures words_join { (part : PartData) (base : ℕ) (run longer longest : List ℕ) (m n o : FrameMap) →
         Lands part base run longer m n → Lands part base longer longest n o → Lands part base run longest m o }
     ensures longer_run_over { (part : PartData) (base : ℕ) (run longer : List ℕ) (under m n : FrameMap) →
@@ -60,7 +59,7 @@ pub fn mfw_takes_the_newest_frame()
 /// the limit of a readback on (`readback_end`) it is the part's last address.
 pub fn far_is_read_by_slots()
     ensures loaded { (part : PartData) (base : ℕ) → far_of part base [] 0 ≡ base }
-    ensures nowhere { (part : PartData) (base : ℕ) (run : List ℕ) (given : ℕ) → has_frame_at part base ≡ false → far_of part base run given ≡ base }
+    ensures nowhere { (part : PartData) (base : ℕ) (run : List ℕ) (given : ℕ) → is_frame_address part base ≡ false → far_of part base run given ≡ base }
     ensures begun { (part : PartData) (base given : ℕ) (run : List ℕ) → length run < frame_words part → given < frame_words part → far_of part base run given ≡ base }
     ensures written { (part : PartData) (base count more : ℕ) (run : List ℕ) → IsBase part base → length run ≡ place_in part count more → more < frame_words part →
         FarStandsAt part base count (far_of part base run 0) }
@@ -84,7 +83,7 @@ pub fn readbacks_give_frames_along_slots()
 /// exactly where it completes a frame for which there is no slot; no written word is refused by Multi, no copy by
 /// Overrun, and a read by nothing but Address, with its base.
 pub fn faults_come_where()
-    ensures is_address { (part : PartData) (far : ℕ) → (has_frame_at part far ≡ true) ↔ Contains (addresses_in part) far }
+    ensures is_address { (part : PartData) (far : ℕ) → (is_frame_address part far ≡ true) ↔ Contains (addresses_in part) far }
     ensures overrun { (part : PartData) (base word newest : ℕ) (run : List ℕ) →
         (write_fault part base (newest ∷ run) ≡ Some RunFault.Overrun) ↔ Overruns part base (word ∷ newest ∷ run) }
     ensures no_multi_in_writes { (part : PartData) (base : ℕ) (run : List ℕ) → write_fault part base run ≢ Some RunFault.Multi }
@@ -111,7 +110,7 @@ pub fn a_saved_frame_leads_back()
     ensures back { (part : PartData) (at : Option ℕ) (old new : List (List ℕ)) → HaveChangedAt part at old new →
         HaveSameFrames (put_over (pair_at (frame_at part old) at) (frame_at part new)) (frame_at part old) }
     ensures copy { (part : PartData) (p : PipelineData) → ForEachFlow part p (λ f. (old new : FrameMap) → fault_of_copy part f ≡ None
-        → HaveSameFrames new (put_over (pairs_copied_by f) old) → ChangesNext part p old new) }
+        → GetsPairs (pairs_copied_by f) old new → ChangesNext part p old new) }
     ensures word { (part : PartData) (p : PipelineData) → ForEachFlow part p (λ f. (w : ℕ) (old new : FrameMap) → is_mfw f.command ≡ false
         → LandsAt part f (w ∷ []) old new → ChangesNext part p old new) }
 {}

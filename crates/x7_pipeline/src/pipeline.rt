@@ -4,12 +4,11 @@ ghost use Rattle.std.specs.Result.{result_err};
 ghost use Rattle.x7_words.specs.Word.{AreWholeWords, words_of_bytes};
 ghost use Rattle.x7_part.specs.Part.{PartData};
 ghost use Rattle.x7_part.specs.Slot.{slots_from};
-ghost use Rattle.x7_memory.specs.FrameMap.{HaveSameFrames};
 ghost use Rattle.x7_memory.specs.PartFrames.{frame_at, AreFramesOf};
 ghost use Rattle.x7_part.specs.declared.slot.Slot.{Slot};
 ghost use Rattle.x7_regs.specs.declared.command.Command.{Command};
-ghost use Rattle.x7_pipeline.specs.Runs.{put_over};
-ghost use Rattle.x7_pipeline.specs.FarAsRead.{far_of, loaded_base, has_frame_at};
+ghost use Rattle.x7_pipeline.specs.Runs.{GetsPairs};
+ghost use Rattle.x7_pipeline.specs.FarAsRead.{far_of, loaded_base, is_frame_address};
 ghost use Rattle.x7_pipeline.specs.Copies.{is_wcfg, is_mfw, source_with};
 ghost use Rattle.x7_pipeline.specs.Readback.{readback_at, word_at};
 ghost use Rattle.x7_pipeline.specs.Fault.{write_fault, readback_fault, drop_fault};
@@ -20,7 +19,7 @@ ghost use Rattle.x7_pipeline.specs.Flow.{AreWordsTaken, pairs_copied_by, fault_o
 mod saved;
 
 use crate::fault::RunFault;
-use crate::place::{far_at, has_frame_at, readback_slot, slot_count};
+use crate::place::{far_at, is_frame_address, readback_slot, slot_count};
 pub use saved::Saved;
 use std::alloc::Global;
 use std::marker::Model;
@@ -330,9 +329,9 @@ impl Pipeline {
 
     /// Whether the next word would be a run's first, and the base is no address.
     fn writes_nowhere(&self, part: &Part) -> bool
-        ensures { result ≡ ((self.now.frame_count == 0) && (length self.now.rest == 0) && not (has_frame_at part.now self.now.base)) }
+        ensures { result ≡ ((self.now.frame_count == 0) && (length self.now.rest == 0) && not (is_frame_address part.now self.now.base)) }
     {
-        self.frame_count == 0 && self.rest.is_empty() && !has_frame_at(part, self.base)
+        self.frame_count == 0 && self.rest.is_empty() && !is_frame_address(part, self.base)
     }
 
     /// Puts the newest whole frame into the memory, where there is one and its slot is no pad. `first` is the number,
@@ -358,7 +357,7 @@ impl Pipeline {
     /// MFW and without a source (`Multi`), and else where the base is no address (`Address`).
     pub fn copy(&mut self, part: &Part, memory: &mut Memory) -> Result<(), RunFault>
         requires part { AreOfPart part.now self.old memory.old }
-        ensures put { OnOk result (ForEachFlow part.now self.old (λ f. HaveSameFrames (frame_at part.now memory.new) (put_over (pairs_copied_by f) (frame_at part.now memory.old)))) }
+        ensures put { OnOk result (ForEachFlow part.now self.old (λ f. GetsPairs (pairs_copied_by f) (frame_at part.now memory.old) (frame_at part.now memory.new))) }
         ensures fault { ForEachFlow part.now self.old (λ f. result_err result ≡ fault_of_copy part.now f) }
 
         // Whatever the answer.
@@ -371,7 +370,7 @@ impl Pipeline {
         if !self.may_copy() {
             return Err(RunFault::Multi);
         }
-        if !has_frame_at(part, self.base) {
+        if !is_frame_address(part, self.base) {
             return Err(RunFault::Address(self.base));
         }
         memory.put(part, self.base, &self.source);
@@ -423,9 +422,9 @@ impl Pipeline {
 
     /// Whether the next word would be a readback's first, and the base is no address.
     fn reads_nowhere(&self, part: &Part) -> bool
-        ensures { result ≡ ((self.now.given == 0) && not (has_frame_at part.now self.now.base)) }
+        ensures { result ≡ ((self.now.given == 0) && not (is_frame_address part.now self.now.base)) }
     {
-        self.given == 0 && !has_frame_at(part, self.base)
+        self.given == 0 && !is_frame_address(part, self.base)
     }
 
     /// The next word of the readback, which is one of the frame at its slot, and 0 at a pad and past the last slot.

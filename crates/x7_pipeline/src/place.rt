@@ -2,13 +2,13 @@
 ghost use Rattle.std.specs.Prelude.{◌≡◌, ◌^◌, ◌<◌, ◌∷◌, length, slice_index_or};
 ghost use Rattle.x7_part.specs.declared.slot.Slot.{Slot};
 ghost use Rattle.x7_part.specs.Slot.{slots_from};
-ghost use Rattle.x7_pipeline.specs.FarAsRead.{far_at as address_at, last_address as greatest_address, has_frame_at};
+ghost use Rattle.x7_pipeline.specs.FarAsRead.{far_at as address_at, last_address as greatest_address, is_frame_address};
 
 use x7_part::{Part, Slot};
 
 /// Whether the part has a frame at the address.
-pub(crate) fn has_frame_at(part: &Part, far: u32) -> bool
-    ensures { result ≡ has_frame_at part.now far }
+pub(crate) fn is_frame_address(part: &Part, far: u32) -> bool
+    ensures { result ≡ is_frame_address part.now far }
 {
     part.is_address(far)
 }

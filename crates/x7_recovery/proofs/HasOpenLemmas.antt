@@ -21,9 +21,10 @@ use Rattle.x7_update.proofs.LawLemmas.{byte_between, no_sync}
 use Rattle.x7_update.proofs.SwitchLemmas.{length_switched, same_four, switch_switched, switched_others}
 use Rattle.x7_boot.specs.Boot.{start_address}
 use Rattle.x7_recovery.specs.OpenBoot.{HasFullGolden}
-use Rattle.x7_recovery.specs.OpenSlot.{BeginsAsImage, HasOpenSlot, IsOpenFlash, image_of_flash, slot_of_flash}
-use Rattle.x7_recovery.specs.PlannedImage.{HasImage, golden_image, place_after}
+use Rattle.x7_recovery.specs.OpenSlot.{BeginsAsImage, HasOpenSlot, HasUpdatableSlot, IsOpenFlash, image_of_flash, slot_of_flash}
+use Rattle.x7_recovery.specs.PlannedImage.{HasImage, flash_of_image, golden_image}
 use Rattle.x7_recovery.specs.Recovery.{HasGolden}
+use Rattle.x7_recovery.specs.Updated.{WasUpdated}
 use Rattle.x7_recovery.proofs.GoldenLemmas.{golden_stands}
 use Rattle.x7_recovery.proofs.UpdatableLemmas.{free_byte, open_is}
 use Rattle.x7_recovery.proofs.SlotLemmas.{free_none, image_begins, image_has, open_none, place_whole, sector_fits, sector_long, size_after, slot_long, start_small, start_whole}
@@ -313,15 +314,15 @@ leads_itself unit place e l = ap (λ (u : ℕ). start_address u place) e ∙ ome
 place_small : (flash : List ℕ) → IsUpdatable flash → update_place flash ≤ 134217728
 place_small flash l = omega (arith, l.slots.place.most, l.size.most)
 
-pub open_is_opened : (part : PartData) (flash : List ℕ) (number : ℕ) → part.start_unit ≡ 1 → IsUpdatable flash → AreBytes (take sector_size flash) → number < flash_slot_count → IsOpen flash number → IsOpenFlash (slot_of_flash part flash number (update_place flash))
-open_is_opened part flash number unit l fits within is =
-    let small : update_place flash ≤ 134217728 = place_small flash l in
-    record { has = updatable_opened flash number l within is fits; small = omega (arith, small); leads = leads_itself part.start_unit (update_place flash) unit small }
+pub open_is_opened : (part : PartData) (flash : List ℕ) (number : ℕ) → HasUpdatableSlot part flash number → IsOpenFlash (slot_of_flash part flash number (update_place flash))
+open_is_opened part flash number s =
+    let small : update_place flash ≤ 134217728 = place_small flash s.updatable in
+    record { has = updatable_opened flash number s.updatable s.within s.is_open s.fits; small = omega (arith, small); leads = leads_itself part.start_unit (update_place flash) s.unit small }
 
-pub after_is_opened : (part : PartData) (stream flash found : List ℕ) → part.start_unit ≡ 1 → IsUpdatable flash → AreBytes (take sector_size found) → (a : IsAfterUpdate stream flash found) → IsOpenFlash (slot_of_flash part found a.next (update_place flash))
-after_is_opened part stream flash found unit l fits a =
-    let small : update_place flash ≤ 134217728 = place_small flash l in
-    record { has = after_opened stream flash found l a fits; small = omega (arith, small); leads = leads_itself part.start_unit (update_place flash) unit small }
+pub after_is_opened : (part : PartData) (stream flash found : List ℕ) → (u : WasUpdated part stream flash found) → IsOpenFlash (slot_of_flash part found u.after.next (update_place flash))
+after_is_opened part stream flash found u =
+    let small : update_place flash ≤ 134217728 = place_small flash u.updatable in
+    record { has = after_opened stream flash found u.updatable u.after u.fits; small = omega (arith, small); leads = leads_itself part.start_unit (update_place flash) u.unit small }
 
 pub image_is_opened : (part : PartData) (flash : List ℕ) (place : ℕ) → IsPart part → BeginsAsImage part flash place → IsOpenFlash (image_of_flash part flash place)
 image_is_opened part flash place is b =
@@ -366,7 +367,7 @@ module _ (part : PartData) (golden update after : List ℕ) (is : IsPart part) (
   image_update_stands = image_has part.start_unit golden update after
 
 -- the full stream of a plan
-pub image_planned : (part : PartData) (golden : PlanData) (update after : List ℕ) → HasImage part golden update → HasFullGolden (image_of_flash part (golden_image part golden update ++ after) (place_after part golden)) golden
+pub image_planned : (part : PartData) (golden : PlanData) (update after : List ℕ) → HasImage part golden update → HasFullGolden (flash_of_image part golden update after) golden
 image_planned part golden update after has =
     let s : (rest : List ℕ) × (drop sector_size (golden_image part golden update ++ after) ≡ full_stream part golden ++ rest) = image_golden_stands part (full_stream part golden) update after has.is_part has.fits in
     record { is_part = has.is_part; plan = has.plan; rest = s.0; stands = s.1 }

@@ -1,6 +1,6 @@
 -- What a boot from a flash with an open slot comes to: the attempt at the update, and the fallback where that fails
 -- (UG470, MultiBoot and fallback).
-use Rattle.std.specs.Prelude.{◌≡◌, ℕ, Bool, true, false, List, [], ◌∷◌, ◌++◌, drop, length, Option, None, Some}
+use Rattle.std.specs.Prelude.{◌≡◌, ◌≤◌, ℕ, Bool, true, false, List, [], ◌∷◌, ◌++◌, drop, length, Option, None, Some}
 use Rattle.x7_packets.specs.FlashSlot.{sector_size}
 use Rattle.x7_part.specs.Part.{PartData}
 use Rattle.x7_part.specs.Ranges.{IsPart}
@@ -18,7 +18,7 @@ use Rattle.x7_boot.specs.Attempt.{IsFlashAttempt, AttemptCourse}
 use Rattle.x7_regs.specs.Control.{forbids_fallback}
 use Rattle.x7_boot.specs.Boot.{end_state}
 use Rattle.x7_boot.specs.BootCourse.{BootCourse, IsCourse}
-use Rattle.x7_boot.specs.Image.{place_after_golden}
+use Rattle.x7_boot.specs.Image.{flash_limit, image_size, place_after_golden}
 use Rattle.x7_boot.specs.declared.attempt.Ending.{Ending}
 use Rattle.x7_boot.specs.declared.attempt.Ending.TheVariants as ending
 use Rattle.x7_boot.specs.declared.boots.BootEnd.{BootEnd}
@@ -174,6 +174,15 @@ pub record BootsOpen (o : OpenFlash) (c : BootCourse) : Type 0 where
 -- every boot from the flash comes to what a boot from a flash with an open slot comes to
 abbrev pub EachBootsOpen : OpenFlash → Type 0
 EachBootsOpen o = (c : BootCourse) → IsCourse o.part o.flash c → BootsOpen o c
+
+-- every boot from the flash falls back and starts as this attempt did, as `FallsBackClean` says
+abbrev pub EachFallsBackClean : OpenFlash → Cause → AttemptCourse → Type 0
+EachFallsBackClean o cause t = (c : BootCourse) → IsCourse o.part o.flash c → FallsBackClean o cause t c
+
+-- the part's numbers are in range, and the image of a golden and an update stream is no larger than a flash may be
+pub record HasImageOf (part : PartData) (golden update : List ℕ) : Type 0 where
+  pub is_part : IsPart part
+  pub fits : image_size (length golden) (length update) ≤ flash_limit
 
 -- A flash begins as the image of a golden and an update stream for the part does: both streams stand at their places,
 -- and every boot from the flash comes to what `BootsOpen` says, of the first slot as one that leads to the update.

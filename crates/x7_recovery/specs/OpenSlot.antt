@@ -6,7 +6,7 @@ use Rattle.x7_packets.specs.FlashSlot.{sector_size, flash_slot_size, flash_slot_
 use Rattle.x7_part.specs.Part.{PartData}
 use Rattle.x7_boot.specs.Boot.{start_address}
 use Rattle.x7_boot.specs.Image.{first_sector, flash_limit, open_slot}
-use Rattle.x7_update.specs.Layout.{four_at, open_switch}
+use Rattle.x7_update.specs.Layout.{IsOpen, IsUpdatable, four_at, open_switch}
 
 -- One slot of the first sector is open, with `start` as its word of WBSTAR: the sector is whole and of bytes, and no
 -- sync word begins in it but that of the slot.
@@ -51,3 +51,12 @@ image_of_flash part flash place = record { part = part; flash = flash; slot = 0;
 -- a flash for a part whose start address counts bytes, and one of its slots, which leads to this place
 abbrev pub slot_of_flash : PartData → List ℕ → ℕ → ℕ → OpenFlash
 slot_of_flash part flash slot place = record { part = part; flash = flash; slot = slot; start = place; place = place }
+
+-- A flash can be updated, for a part whose start address counts bytes, its first sector is bytes, and this slot of it
+-- is open.
+pub record HasUpdatableSlot (part : PartData) (flash : List ℕ) (slot : ℕ) : Type 0 where
+  pub unit : part.start_unit ≡ 1
+  pub updatable : IsUpdatable flash
+  pub fits : AreBytes (take sector_size flash)
+  pub within : slot < flash_slot_count
+  pub is_open : IsOpen flash slot

@@ -15,20 +15,32 @@ pub data AfterUpdates (flash : List ℕ) : List ℕ → Type 0 where
   none : AfterUpdates flash flash
   one_more : (before found stream : List ℕ) → AfterUpdates flash before → IsUpdatable before → IsAfterUpdate stream before found → AfterUpdates flash found
 
--- A flash for a part whose start address counts bytes was updated any number of times, and then once more with a
--- stream, after which its first sector is bytes; before all updates a golden stream of any kind started and began
--- clean, as one attempt shows that ended at the update's place or before it.
-pub record IsUpdated (part : PartData) (flash found : List ℕ) (golden : AttemptCourse) : Type 0 where
+-- A flash that could be updated was updated with a stream, for a part whose start address counts bytes; the first
+-- sector of what this left is bytes.
+pub record WasUpdated (part : PartData) (stream flash found : List ℕ) : Type 0 where
   pub unit : part.start_unit ≡ 1
-  pub starts : GoldenStarts part flash golden
-  pub clean : StartsClean part flash golden
-  pub before : List ℕ
-  pub updates : AfterUpdates flash before
-  pub updatable : IsUpdatable before
-  pub stream : List ℕ
-  pub after : IsAfterUpdate stream before found
+  pub updatable : IsUpdatable flash
+  pub after : IsAfterUpdate stream flash found
   pub fits : AreBytes (take sector_size found)
 
+-- a part, its flash before any update and after some, and an attempt with the golden stream before any update
+pub record UpdatedFlash : Type 0 where
+  pub part : PartData
+  pub flash : List ℕ
+  pub found : List ℕ
+  pub golden : AttemptCourse
+
+-- A flash was updated any number of times, and then once more with a stream, as `WasUpdated` says; before all updates a
+-- golden stream of any kind started and began clean, as one attempt shows that ended at the update's place or before
+-- it.
+pub record IsUpdated (u : UpdatedFlash) : Type 0 where
+  pub starts : GoldenStarts u.part u.flash u.golden
+  pub clean : StartsClean u.part u.flash u.golden
+  pub before : List ℕ
+  pub updates : AfterUpdates u.flash before
+  pub stream : List ℕ
+  pub last : WasUpdated u.part stream before u.found
+
 -- the slot that the last update opened
-abbrev pub opened_by : {part : PartData} {flash found : List ℕ} {golden : AttemptCourse} → IsUpdated part flash found golden → OpenFlash
-opened_by {part} {flash} {found} u = slot_of_flash part found u.after.next (update_place flash)
+abbrev pub opened_by : {u : UpdatedFlash} → IsUpdated u → OpenFlash
+opened_by {u} is = slot_of_flash u.part u.found is.last.after.next (update_place u.flash)

@@ -5,10 +5,9 @@ ghost use Rattle.x7_part.specs.Part.{PartData};
 ghost use Rattle.x7_regs.specs.declared.boot_status.Cause.{Cause};
 ghost use Rattle.x7_boot.specs.Attempt.{AttemptCourse};
 ghost use Rattle.x7_recovery.specs.Clean.{StartsClean};
-ghost use Rattle.x7_boot.specs.BootCourse.{BootCourse, IsCourse};
 ghost use Rattle.x7_recovery.specs.Golden.{GoldenStarts};
-ghost use Rattle.x7_recovery.specs.OpenBoot.{EachBootsOpen, FallsBackClean, UpdateFallsBack};
-ghost use Rattle.x7_recovery.specs.Updated.{AfterUpdates, IsUpdated, opened_by};
+ghost use Rattle.x7_recovery.specs.OpenBoot.{EachBootsOpen, EachFallsBackClean, UpdateFallsBack};
+ghost use Rattle.x7_recovery.specs.Updated.{AfterUpdates, IsUpdated, UpdatedFlash, opened_by};
 ghost use Rattle.x7_update.specs.Layout.{update_place};
 
 /// After any number of updates, each of a flash that could be updated, the update's place is what it was. An attempt
@@ -28,8 +27,7 @@ pub fn updates_keep_golden_streams()
 /// starts at the byte at which it started before, with the same memory, and BOOTSTS shows the fallback and the cause of
 /// the update's failure.
 pub fn updated_flashes_fall_back()
-    ensures boots { (part : PartData) (flash found : List ℕ) (golden : AttemptCourse) → (u : IsUpdated part flash found golden)
-        → EachBootsOpen (opened_by u) }
-    ensures falls_back { (part : PartData) (flash found : List ℕ) (golden t : AttemptCourse) (cause : Cause) (c : BootCourse) → (u : IsUpdated part flash found golden)
-        → IsCourse part found c → UpdateFallsBack (opened_by u) t cause → FallsBackClean (opened_by u) cause golden c }
+    ensures boots { (u : UpdatedFlash) → (is : IsUpdated u) → EachBootsOpen (opened_by is) }
+    ensures falls_back { (u : UpdatedFlash) (t : AttemptCourse) (cause : Cause) → (is : IsUpdated u)
+        → UpdateFallsBack (opened_by is) t cause → EachFallsBackClean (opened_by is) cause u.golden }
 {}

@@ -1,16 +1,16 @@
 //! What a boot from the image of a golden and an update stream comes to. The functions do nothing: their contracts are
 //! the laws.
-ghost use Rattle.std.specs.Prelude.{◌≢◌, ◌≤◌, ◌++◌, List, [], ℕ, length};
+ghost use Rattle.std.specs.Prelude.{◌≢◌, ◌++◌, List, [], ℕ};
 ghost use Rattle.x7_part.specs.Part.{PartData};
 ghost use Rattle.x7_part.specs.Ranges.{IsPart};
 ghost use Rattle.x7_regs.specs.declared.boot_status.Cause.TheVariants.{Wrap};
 ghost use Rattle.x7_memory.specs.Plan.{IsPlanFor, PlanData};
 ghost use Rattle.x7_boot.specs.Attempt.{AttemptCourse};
-ghost use Rattle.x7_boot.specs.Image.{flash_limit, image_of, image_size};
+ghost use Rattle.x7_boot.specs.Image.{image_of};
 ghost use Rattle.x7_recovery.specs.Example.{nothing_planned, tiny};
-ghost use Rattle.x7_recovery.specs.OpenBoot.{HasFullGolden, HasStreams, UpdateFallsBack};
+ghost use Rattle.x7_recovery.specs.OpenBoot.{HasFullGolden, HasImageOf, HasStreams, UpdateFallsBack};
 ghost use Rattle.x7_recovery.specs.OpenSlot.{image_of_flash};
-ghost use Rattle.x7_recovery.specs.PlannedImage.{HasImage, golden_image, place_after};
+ghost use Rattle.x7_recovery.specs.PlannedImage.{HasImage, flash_of_image, golden_image, place_after};
 ghost use Rattle.x7_recovery.specs.Recovery.{IsPrepared, updating_image};
 ghost use Rattle.x7_update.specs.After.{MayBeLeft};
 
@@ -19,10 +19,10 @@ ghost use Rattle.x7_update.specs.After.{MayBeLeft};
 /// boot from it comes to what one from a flash with an open slot does. Where the golden stream is the full stream of a
 /// plan for the part, this full stream stands after the first sector.
 pub fn images_boot()
-    ensures streams { (part : PartData) (golden update more : List ℕ) → IsPart part → image_size (length golden) (length update) ≤ flash_limit
+    ensures streams { (part : PartData) (golden update more : List ℕ) → HasImageOf part golden update
         → HasStreams part golden update (image_of part.start_unit golden update ++ more) }
     ensures full_golden { (part : PartData) (golden : PlanData) (update more : List ℕ) → HasImage part golden update
-        → HasFullGolden (image_of_flash part (golden_image part golden update ++ more) (place_after part golden)) golden }
+        → HasFullGolden (flash_of_image part golden update more) golden }
 {}
 
 /// The laws of this crate speak of something. There is a part with a plan for it and their image, which is prepared for

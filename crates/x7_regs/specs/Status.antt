@@ -36,8 +36,8 @@ abbrev pub ghigh_b : ℕ
 ghigh_b = 7
 
 -- the lowest bit of MODE in STAT, three bits: the mode pins
-abbrev pub mode : ℕ
-mode = 8
+abbrev pub mode_bits : ℕ
+mode_bits = 8
 
 -- the bit of INIT_COMPLETE in STAT: 1 once the device has initialized
 abbrev pub init_complete : ℕ
@@ -69,8 +69,8 @@ abbrev pub xadc_over_temp : ℕ
 xadc_over_temp = 17
 
 -- the lowest bit of STARTUP_STATE in STAT, three bits: the state of the startup machine
-abbrev pub startup_state : ℕ
-startup_state = 18
+abbrev pub startup_state_bits : ℕ
+startup_state_bits = 18
 
 -- the lowest bit of BUS_WIDTH in STAT, two bits: 00 for one bit, 01 for 8, 10 for 16 and 11 for 32
 abbrev pub bus_width : ℕ
@@ -100,13 +100,13 @@ status_of p =
     + flag_of p.gts * 2 ^ gts_cfg_b
     + flag_of p.gwe * 2 ^ gwe
     + flag_of p.ghigh * 2 ^ ghigh_b
-    + p.mode * 2 ^ mode
+    + p.mode * 2 ^ mode_bits
     + 2 ^ init_complete
     + flag_of p.init_b * 2 ^ init_b
     + flag_of p.done * 2 ^ release_done
     + flag_of p.done * 2 ^ done
     + flag_of p.id_error * 2 ^ id_error
-    + startup_state_of p.phase * 2 ^ startup_state
+    + startup_state_of p.phase * 2 ^ startup_state_bits
     + p.bus_width * 2 ^ bus_width
 
 -- the parts fit their fields of STAT
@@ -126,7 +126,7 @@ pub record HasStatusFields (p : StatParts) (word : ℕ) : Type 0 where
   pub gts_cfg_b : field_of gts_cfg_b 1 word ≡ flag_of p.gts
   pub gwe : field_of gwe 1 word ≡ flag_of p.gwe
   pub ghigh_b : field_of ghigh_b 1 word ≡ flag_of p.ghigh
-  pub mode : field_of mode 3 word ≡ p.mode
+  pub mode : field_of mode_bits 3 word ≡ p.mode
   pub init_complete : field_of init_complete 1 word ≡ 1
   pub init_b : field_of init_b 1 word ≡ flag_of p.init_b
   pub release_done : field_of release_done 1 word ≡ flag_of p.done
@@ -134,7 +134,7 @@ pub record HasStatusFields (p : StatParts) (word : ℕ) : Type 0 where
   pub id_error : field_of id_error 1 word ≡ flag_of p.id_error
   pub dec_error : field_of dec_error 1 word ≡ 0
   pub xadc_over_temp : field_of xadc_over_temp 1 word ≡ 0
-  pub startup_state : field_of startup_state 3 word ≡ startup_state_of p.phase
+  pub startup_state : field_of startup_state_bits 3 word ≡ startup_state_of p.phase
   -- bits 24 to 21
   pub reserved_below : field_of 21 4 word ≡ 0
   pub bus_width : field_of bus_width 2 word ≡ p.bus_width

@@ -78,7 +78,7 @@ fn flag(is_set: bool, bit: u32) -> u32
 /// The three bits of STARTUP_STATE in a phase from 0 to 7.
 #[rattlefmt::skip]
 #[tactic(auto, unfolding(crate::specs::Status::startup_state_of))]
-fn startup_state(phase: u8) -> u32
+fn startup_state_of(phase: u8) -> u32
     requires { phase < 8 }
     ensures value { result ≡ startup_state_of phase }
     ensures most { result < 8 }
@@ -116,6 +116,6 @@ pub fn stat_word(parts: &StatParts) -> u32
         + flag(parts.done, RELEASE_DONE)
         + flag(parts.done, DONE)
         + flag(parts.id_error, ID_ERROR)
-        + startup_state(parts.phase) * (1 << STARTUP_STATE)
+        + startup_state_of(parts.phase) * (1 << STARTUP_STATE)
         + u32::from(parts.bus_width) * (1 << BUS_WIDTH)
 }

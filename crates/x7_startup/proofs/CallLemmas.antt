@@ -5,8 +5,9 @@ use Rattle.std.specs.Bool.{then_some}
 use Rattle.std.specs.Option.{option_or}
 use Rattle.x7_startup.specs.Phases.{wait_of, IsPhase, tick_limit}
 use Rattle.x7_startup.specs.Startup.{IsPhaseOf, Call, Arm, Desync, Byte, DropBack, StartupProgress, NotBegun, Begun, has_shutdown, since_shutdown, bytes_among, is_armed, progress_from, progress_of, StartupState, StoresAt, StandsForCalls}
-use Rattle.x7_startup.specs.Ticks.{PassesTicks, reached}
+use Rattle.x7_startup.specs.Ticks.{PassesTicks}
 use Rattle.x7_startup.proofs.PhaseLemmas.{phase_first, phase_rises, one_phase}
+use Rattle.x7_startup.proofs.TickLemmas.{reached}
 
 has_shutdown_push : (calls t : List Call) → has_shutdown t ≡ false → has_shutdown (calls ++ t) ≡ has_shutdown calls
 has_shutdown_push [] t h = h

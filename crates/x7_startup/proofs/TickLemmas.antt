@@ -1,8 +1,13 @@
 -- How ticks pass: in the loop of `pass_ticks`, many at once or one, and in `tick`.
 use Rattle.std.proofs.Common.{◌≡◌, ℕ, ◌+◌, ◌-◌, ◌<◌, ◌≤◌, min, arith, ◌^◌, ◌⊎◌, inl, inr}
 use Rattle.x7_startup.specs.Phases.{IsPhase, tick_limit}
-use Rattle.x7_startup.specs.Ticks.{PassesTicks, reached}
+use Rattle.x7_startup.specs.Ticks.{PassesTicks}
+use Rattle.x7_startup.specs.declared.phases.Reached.{Reached}
 use Rattle.x7_startup.proofs.PhaseLemmas.{phase_stays, phase_moves, phase_ended}
+
+-- a count of ticks, and the phase after them
+abbrev pub reached : ℕ → ℕ → Reached
+reached ticks phase = record { ticks = ticks; phase = phase }
 
 -- of `count` ticks all but `left` have passed
 pub record HasPassed (w : ℕ → ℕ) (ticks₀ phase₀ count ticks phase left : ℕ) : Type 0 where

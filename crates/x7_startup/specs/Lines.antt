@@ -16,24 +16,24 @@ abbrev pub line_phase : ℕ → ℕ → Option ℕ
 line_phase done code = if nat_lt code 6 then Some (code + 1) else if code == 6 then Some done else None
 
 -- whether a line is 1 in a phase: from the phase on in which it rises, if it rises
-abbrev pub has_risen : Option ℕ → ℕ → Bool
-has_risen None phase = false
-has_risen (Some rise) phase = not (nat_lt phase rise)
+abbrev pub is_high : Option ℕ → ℕ → Bool
+is_high None phase = false
+is_high (Some rise) phase = not (nat_lt phase rise)
 
 -- DONE in a phase, by the COR0 that startup began with; 0 where startup hasn't begun
 abbrev pub done_line : Option ℕ → ℕ → Bool
 done_line None phase = false
-done_line (Some cor0) phase = has_risen (Some (done_phase (done_cycle_of cor0))) phase
+done_line (Some cor0) phase = is_high (Some (done_phase (done_cycle_of cor0))) phase
 
 -- GTS_CFG_B in a phase, by the COR0 that startup began with; 0 where startup hasn't begun
 abbrev pub gts_line : Option ℕ → ℕ → Bool
 gts_line None phase = false
-gts_line (Some cor0) phase = has_risen (line_phase (done_phase (done_cycle_of cor0)) (gts_cycle_of cor0)) phase
+gts_line (Some cor0) phase = is_high (line_phase (done_phase (done_cycle_of cor0)) (gts_cycle_of cor0)) phase
 
 -- GWE in a phase, by the COR0 that startup began with; 0 where startup hasn't begun
 abbrev pub gwe_line : Option ℕ → ℕ → Bool
 gwe_line None phase = false
-gwe_line (Some cor0) phase = has_risen (line_phase (done_phase (done_cycle_of cor0)) (gwe_cycle_of cor0)) phase
+gwe_line (Some cor0) phase = is_high (line_phase (done_phase (done_cycle_of cor0)) (gwe_cycle_of cor0)) phase
 
 -- these are DONE, GTS_CFG_B and GWE in a phase, by the COR0 that startup began with, if it has begun
 pub record AreLines (begun_with : Option ℕ) (phase : ℕ) (done gts gwe : Bool) : Type 0 where

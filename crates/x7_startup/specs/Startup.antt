@@ -1,6 +1,6 @@
 -- What a list of calls of a `Startup` means: where startup begins and how far it is, and what is stored of that (UG470,
 -- startup; arming is this project's choice).
-use Rattle.std.specs.Prelude.{◌++◌, ◌≡◌, ℕ, ◌+◌, ◌/◌, ◌%◌, min, Bool, true, false, List, [], ◌∷◌, Option, Some, None, if◌then◌else◌}
+use Rattle.std.specs.Prelude.{◌++◌, ◌≡◌, ◌≤◌, ℕ, ◌+◌, ◌/◌, ◌%◌, min, Bool, true, false, List, [], ◌∷◌, Option, Some, None, if◌then◌else◌}
 use Rattle.x7_startup.specs.Phases.{wait_of, tick_limit, tick_size, IsPhase}
 
 -- a call of a startup: START, DESYNC with COR0 as it stands there, a byte taken, a shutdown taken
@@ -72,6 +72,16 @@ ticks_of progress = bytes_since_begun progress / tick_size
 abbrev pub IsPhaseOf : ℕ → ℕ → StartupProgress → ℕ → Type 0
 IsPhaseOf lock_ticks match_ticks NotBegun phase = phase ≡ 0
 IsPhaseOf lock_ticks match_ticks (Begun cor0 bytes) phase = IsPhase (wait_of lock_ticks match_ticks cor0) (bytes / tick_size) phase
+
+-- this is the phase of a startup after these calls, by the ticks that its part's clocks need to lock and its impedance
+-- to match
+abbrev pub IsPhaseAfter : ℕ → ℕ → List Call → ℕ → Type 0
+IsPhaseAfter lock_ticks match_ticks calls phase = IsPhaseOf lock_ticks match_ticks (progress_of calls) phase
+
+-- the phase after the calls and then `more` is never below the phase after the calls alone
+abbrev pub NeverLowersPhase : ℕ → ℕ → List Call → List Call → Type 0
+NeverLowersPhase lock_ticks match_ticks calls more =
+    (before after : ℕ) → IsPhaseAfter lock_ticks match_ticks calls before → IsPhaseAfter lock_ticks match_ticks (calls ++ more) after → before ≤ after
 
 -- what a startup keeps: whether it is armed, the COR0 that it began with, the bytes past the last tick, the ticks up to
 -- `tick_limit`, and the phase

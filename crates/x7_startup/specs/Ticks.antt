@@ -9,7 +9,3 @@ abbrev pub PassesTicks : (ℕ → ℕ) → Reached → ℕ → Reached → Type 
 PassesTicks wait old more new =
     (ticks : ℕ) → old.ticks ≡ min ticks tick_limit → IsPhase wait ticks old.phase
     → (new.ticks ≡ min (ticks + more) tick_limit) × IsPhase wait (ticks + more) new.phase
-
--- a count of ticks, and the phase after them
-abbrev pub reached : ℕ → ℕ → Reached
-reached ticks phase = record { ticks = ticks; phase = phase }

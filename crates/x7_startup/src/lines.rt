@@ -1,6 +1,6 @@
 //! The lines DONE, GTS_CFG_B and GWE (UG470, startup).
 ghost use Rattle.std.specs.Prelude.{◌≡◌, ◌<◌, Some};
-ghost use Rattle.x7_startup.specs.Lines.{done_phase, line_phase, has_risen, done_line, gts_line, gwe_line};
+ghost use Rattle.x7_startup.specs.Lines.{done_phase, line_phase, is_high, done_line, gts_line, gwe_line};
 
 use x7_regs::{DONE_CYCLE, GTS_CYCLE, GWE_CYCLE};
 
@@ -53,7 +53,7 @@ fn line_phase(code: u32, done: u8) -> Option<u8>
 
 /// Whether a line that rises in phase `rise`, or never, is 1 in phase `phase`.
 fn is_up(rise: Option<u8>, phase: u8) -> bool
-    ensures { result ≡ has_risen rise phase }
+    ensures { result ≡ is_high rise phase }
 {
     match rise {
         Some(rise) => phase >= rise,

@@ -2,7 +2,7 @@
 ghost use Rattle.std.specs.Prelude.{◌≡◌, ◌<◌, ◌≤◌, ◌+◌, ◌∷◌, min, ℕ, List, [], replicate, is_some};
 ghost use Rattle.x7_startup.specs.Lines.{done_line, gts_line, gwe_line, AreLines};
 ghost use Rattle.x7_startup.specs.Phases.{last_phase, tick_limit, tick_size};
-ghost use Rattle.x7_startup.specs.Startup.{AddsCalls, Call, Arm, Desync, Byte, DropBack, StartupState, StandsForCalls, IsPhaseOf, progress_of, cor0_of, ticks_of};
+ghost use Rattle.x7_startup.specs.Startup.{AddsCalls, Call, Arm, Desync, Byte, DropBack, StartupState, StandsForCalls, IsPhaseAfter, progress_of, cor0_of, ticks_of};
 
 use crate::lines::{Lines, lines_in};
 use crate::phases::{Reached, TICK_SIZE, pass_ticks, tick};
@@ -130,7 +130,7 @@ impl Startup {
         ensures value { result ≡ self.now.phase }
         ensures most { result ≤ last_phase }
         ensures stands { (lock_ticks match_ticks : ℕ) (calls : List Call) → StandsForCalls lock_ticks match_ticks self.now calls
-            → IsPhaseOf lock_ticks match_ticks (progress_of calls) result }
+            → IsPhaseAfter lock_ticks match_ticks calls result }
     {
         self.phase
     }

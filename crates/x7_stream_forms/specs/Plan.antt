@@ -7,8 +7,8 @@ use Rattle.x7_frames.specs.FramesText.{IsPlanOf}
 use Rattle.x7_frames.specs.declared.fault.FramesFault.{FramesFault}
 use Rattle.x7_forms.specs.Event.{Event}
 use Rattle.x7_forms.specs.Step.{ReadsWhole}
-use Rattle.x7_forms.specs.Known.{text_limit}
-use Rattle.x7_outcome.specs.Outcome.{frames_event}
+use Rattle.x7_forms.specs.Known.{Answer, text_limit}
+use Rattle.x7_outcome.specs.Outcome.{PlannedPartial, frames_event}
 
 -- the event is that of the text's first line at fault
 abbrev pub HasNoPlan : List ℕ → PartData → List ℕ → Event → Type 0
@@ -20,3 +20,8 @@ abbrev pub ReadsPlan : InputsState → InputsState → PartData → List ℕ →
 ReadsPlan old new part name (Ok plan) = (text : List ℕ) × ReadsWhole old new text_limit name (Ok text) × IsPlanOf part text (Ok plan)
 ReadsPlan old new part name (Err event) =
     ReadsWhole old new text_limit name (Err event) ⊎ ((text : List ℕ) × ReadsWhole old new text_limit name (Ok text) × HasNoPlan name part text event)
+
+-- of whatever frames text the plan is one for the part, `plan partial` comes to this end over the part and that text,
+-- whose name is `name`
+abbrev pub PlanGivesPartial : PartData → PlanData → List ℕ → Result Answer Event → Type 0
+PlanGivesPartial part plan name end = (text : List ℕ) → IsPlanOf part text (Ok plan) → PlannedPartial name (Ok (record { part = part; text = text })) end

@@ -1,14 +1,13 @@
 //! The commands `plan full`, `plan partial` and `plan read`: streams for plans.
 ghost use Rattle.x7_forms.specs.ReadingStops.{IsAbout, StopsAmong, limited};
-ghost use Rattle.std.specs.Prelude.{◌≡◌, ◌⊎◌, ◌∷◌, [], ℕ, List, Ok, Err, IfOk, IfErr};
+ghost use Rattle.std.specs.Prelude.{◌≡◌, ◌⊎◌, ◌∷◌, [], Ok, Err, IfOk, IfErr};
 ghost use Rattle.x7_words.specs.Input.{AsksAtMost, InputsStay};
 ghost use Rattle.x7_part.specs.Part.{frame_words};
-ghost use Rattle.x7_frames.specs.FramesText.{IsPlanOf};
 ghost use Rattle.x7_forms.specs.Event.{event_of, no_memory};
-ghost use Rattle.x7_outcome.specs.Outcome.{PlannedPartial, PlannedRead, frames_event, planner_event};
+ghost use Rattle.x7_outcome.specs.Outcome.{PlannedRead, frames_event, planner_event};
 ghost use Rattle.x7_forms.specs.Turn.{IsLastAsked};
 ghost use Rattle.x7_forms.specs.Form.{PlanningFull, PlanningPartial, PlanningRead};
-ghost use Rattle.x7_stream_forms.specs.Plan.{ReadsPlan};
+ghost use Rattle.x7_stream_forms.specs.Plan.{PlanGivesPartial, ReadsPlan};
 ghost use Rattle.x7_stream_forms.specs.FullText.{full_answer};
 ghost use Rattle.x7_outcome.specs.Ready.{bytes_answer};
 ghost use Rattle.x7_forms.specs.Step.{result_by};
@@ -103,10 +102,8 @@ fn partial_text<'w>(
     frames_name: &'w str,
 ) -> Result<Vec<u8>, Refusal<'w>>
     requires { plan.now.width ≡ frame_words part.now }
-    ensures text { IfOk result (λ stream. (frames_text : List ℕ) → IsPlanOf part.now frames_text (Ok plan.now)
-        → PlannedPartial frames_name.now (Ok (record { part = part.now; text = frames_text })) (Ok (bytes_answer stream))) }
-    ensures refused { IfErr result (λ r. (event_of r ≡ no_memory)
-        ⊎ ((frames_text : List ℕ) → IsPlanOf part.now frames_text (Ok plan.now) → PlannedPartial frames_name.now (Ok (record { part = part.now; text = frames_text })) (Err (event_of r)))) }
+    ensures text { IfOk result (λ stream. PlanGivesPartial part.now plan.now frames_name.now (Ok (bytes_answer stream))) }
+    ensures refused { IfErr result (λ r. (event_of r ≡ no_memory) ⊎ PlanGivesPartial part.now plan.now frames_name.now (Err (event_of r))) }
     ensures named { IfErr result (λ r. IsAbout frames_name.now (event_of r)) }
 {
     match partial(alloc, part, plan) {

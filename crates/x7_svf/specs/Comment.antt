@@ -3,13 +3,13 @@ use Rattle.std.specs.Prelude.{ℕ, ◌==◌, ◌||◌, ◌&&◌, not, Bool, true
 use Rattle.x7_words.specs.Characters.{exclamation_byte, line_end_byte, return_byte, slash_byte, space_byte}
 
 -- the text begins with this byte
-abbrev pub begins_with : ℕ → List ℕ → Bool
-begins_with wanted [] = false
-begins_with wanted (byte ∷ after) = byte == wanted
+abbrev pub has_first_byte : ℕ → List ℕ → Bool
+has_first_byte wanted [] = false
+has_first_byte wanted (byte ∷ after) = byte == wanted
 
 -- a comment begins at this byte, which these follow: `!` or `//`
 abbrev pub begins_comment : ℕ → List ℕ → Bool
-begins_comment byte after = byte == exclamation_byte || (byte == slash_byte && begins_with slash_byte after)
+begins_comment byte after = byte == exclamation_byte || (byte == slash_byte && has_first_byte slash_byte after)
 
 -- the byte, which these follow, is one of a comment; the first argument says whether the byte before it was one
 abbrev pub is_inside : Bool → ℕ → List ℕ → Bool
@@ -19,7 +19,7 @@ is_inside false byte after = begins_comment byte after
 -- what stands for a byte, by whether it is one of a comment: a blank for those of comments and for 0D before 0A, and
 -- else the byte itself
 abbrev pub stand_in : Bool → ℕ → List ℕ → ℕ
-stand_in is_in_comment byte after = if is_in_comment then space_byte else (if byte == return_byte && begins_with line_end_byte after then space_byte else byte)
+stand_in is_in_comment byte after = if is_in_comment then space_byte else (if byte == return_byte && has_first_byte line_end_byte after then space_byte else byte)
 
 -- the text with what stands for each byte; the first argument says whether the byte before the text is one of a comment
 abbrev pub clean_text : Bool → List ℕ → List ℕ

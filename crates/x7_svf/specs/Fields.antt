@@ -94,8 +94,8 @@ fits n None = true
 fits n (Some ds) = nat_lt (hex_value ds) (2 ^ n)
 
 -- the values of all fields fit n bits
-abbrev pub all_fit : ℕ → ScanFields → Bool
-all_fit n f = fits n f.tdi && fits n f.tdo && fits n f.mask && fits n f.smask
+abbrev pub fields_fit : ℕ → ScanFields → Bool
+fields_fit n f = fits n f.tdi && fits n f.tdo && fits n f.mask && fits n f.smask
 
 -- the n lowest bits of a field; none where it is left out
 abbrev pub bits_if : ℕ → Option (List ℕ) → Option (List Bool)
@@ -110,7 +110,7 @@ with_tdi register n f (Some ds) = Some (statement.Scan (record { register = regi
 -- the scan of n bits by its fields; none where the value of one doesn't fit, or TDI is left out
 abbrev pub scan_by : ScannedRegister → ℕ → Option ScanFields → Option Statement
 scan_by register n None = None
-scan_by register n (Some f) = if all_fit n f then with_tdi register n f f.tdi else None
+scan_by register n (Some f) = if fields_fit n f then with_tdi register n f f.tdi else None
 
 -- the most bits of a scan
 abbrev pub most_scan_bits : ℕ

@@ -1,10 +1,10 @@
 //! Blanks in place of comments, and of 0D before 0A.
 ghost use Rattle.std.specs.Prelude.{◌≡◌, ◌+◌, false, length};
-ghost use Rattle.x7_svf.specs.Comment.{begins_with, clean_text, is_inside, stand_in};
+ghost use Rattle.x7_svf.specs.Comment.{has_first_byte, clean_text, is_inside, stand_in};
 
 /// Whether a text begins with a byte.
-fn begins_with(text: &[u8], byte: u8) -> bool
-    ensures { result ≡ begins_with byte text.now }
+fn has_first_byte(text: &[u8], byte: u8) -> bool
+    ensures { result ≡ has_first_byte byte text.now }
 {
     match text {
         [first, ..] => *first == byte,
@@ -20,7 +20,7 @@ fn is_inside(after_comment_byte: bool, byte: u8, after: &[u8]) -> bool
     if after_comment_byte {
         byte != b'\n'
     } else {
-        byte == b'!' || byte == b'/' && begins_with(after, b'/')
+        byte == b'!' || byte == b'/' && has_first_byte(after, b'/')
     }
 }
 
@@ -29,7 +29,7 @@ fn is_inside(after_comment_byte: bool, byte: u8, after: &[u8]) -> bool
 fn stand_in(is_in_comment: bool, byte: u8, after: &[u8]) -> u8
     ensures { result ≡ stand_in is_in_comment byte after.now }
 {
-    if is_in_comment || byte == b'\r' && begins_with(after, b'\n') {
+    if is_in_comment || byte == b'\r' && has_first_byte(after, b'\n') {
         b' '
     } else {
         byte

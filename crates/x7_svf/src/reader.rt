@@ -2,7 +2,7 @@
 ghost use Rattle.std.specs.Prelude.{◌≡◌, ◌<◌, ◌≤◌, ◌+◌, ◌*◌, true, length, take, IfSome, Option, Some, None};
 ghost use Rattle.std.specs.List.{list_all};
 ghost use Rattle.x7_words.specs.Characters.{digit_number, is_hex_digit};
-ghost use Rattle.x7_svf.specs.Fields.{all_fit, are_hex, fits, hex_value, scan_by, scan_if, scan_of};
+ghost use Rattle.x7_svf.specs.Fields.{fields_fit, are_hex, fits, hex_value, scan_by, scan_if, scan_of};
 ghost use Rattle.x7_svf.specs.Token.{token_of, token_size};
 ghost use Rattle.x7_svf.specs.Reading.{ReadsOn, StepsOver};
 ghost use Rattle.x7_svf.specs.Source.{tokens_left};
@@ -144,10 +144,10 @@ fn fits(kept: &[u8], count: u32, digits: Option<Span>) -> bool
 }
 
 /// Whether the values of all fields fit `count` bits.
-fn all_fit(kept: &[u8], count: u32, spans: FieldSpans) -> bool
+fn fields_fit(kept: &[u8], count: u32, spans: FieldSpans) -> bool
     requires within { AreWithin (length kept.now) spans }
     requires hex { AreHexFields (fields_of kept.now spans) }
-    ensures { result ≡ all_fit count (fields_of kept.now spans) }
+    ensures { result ≡ fields_fit count (fields_of kept.now spans) }
 {
     fits(kept, count, spans.tdi)
         && fits(kept, count, spans.tdo)
@@ -167,7 +167,7 @@ fn scan_of_fields(
     requires hex { AreHexFields (fields_of kept.now spans) }
     ensures { IsStored kept.now result (scan_by register count (Some (fields_of kept.now spans))) }
 {
-    if !all_fit(kept, count, spans) {
+    if !fields_fit(kept, count, spans) {
         return None;
     }
     let tdi = spans.tdi?;

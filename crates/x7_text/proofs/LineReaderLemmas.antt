@@ -6,9 +6,6 @@ use Rattle.x7_text.specs.LineReader.{FailsFrom, IsCut, ReaderState, StandsFor, T
 use Rattle.x7_text.proofs.PieceLemmas.{free_both, joined_ahead, some_line, split_alone}
 use Rattle.x7_text.proofs.SplitLemmas.{joined_split, split_free, split_line, split_some}
 
-Lines : Type 0
-Lines = List (List ℕ)
-
 -- ---- whole lines, and the text after them
 
 -- lines with their ends

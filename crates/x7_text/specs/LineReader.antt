@@ -1,5 +1,5 @@
 -- A text that comes in pieces, and is taken line by line (this project's choice).
-use Rattle.std.specs.Prelude.{◌≡◌, ◌⊎◌, ◌<◌, ℕ, List, [], ◌∷◌, ◌++◌, length, Option, MatchOption, Result, MatchResult, IfErr}
+use Rattle.std.specs.Prelude.{◌≡◌, ◌⊎◌, ◌+◌, ◌<◌, ℕ, List, [], ◌∷◌, ◌++◌, length, Option, MatchOption, Result, MatchResult, IfErr}
 use Rattle.std.specs.Borrow.{Bor}
 use Rattle.x7_words.specs.Input.{taken_bytes_limit}
 use Rattle.x7_text.specs.Lines.{split}
@@ -28,6 +28,21 @@ FailsAfter fails lines text = (more : List ℕ) → fails (lines ++ split (text 
 -- every text that begins with `text` fails
 abbrev pub FailsFrom : (List (List ℕ) → Type 0) → List ℕ → Type 0
 FailsFrom fails text = (more : List ℕ) → fails (split (text ++ more))
+
+-- a taker took these lines and gets the next one, which is line n, counted from 1
+pub record GetsLine {B : Type 0} (taken : B → List (List ℕ) → Type 0) (b : B) (lines : List (List ℕ)) (n : ℕ) : Type 0 where
+  pub number : n ≡ length lines + 1
+  pub took : taken b lines
+
+-- a taker took these lines, n of them, and gets a text: n and the bytes of the text are fewer than 2^63 together
+pub record GetsText {B : Type 0} (taken : B → List (List ℕ) → Type 0) (b : B) (lines : List (List ℕ)) (n : ℕ) (text : List ℕ) : Type 0 where
+  pub count : n ≡ length lines
+  pub few : n + length text < taken_bytes_limit
+  pub took : taken b lines
+
+-- a text of these lines gives what a call answers, or is refused for the fault that it answers
+abbrev pub GivesOrFails : {A F : Type 0} → (A → List (List ℕ) → Type 0) → (F → List (List ℕ) → Type 0) → List (List ℕ) → Result A F → Type 0
+GivesOrFails gives fails lines result = MatchResult result (λ out. gives out lines) (λ fault. fails fault lines)
 
 -- after some lines, those of a text that have their end were taken, which makes n lines in all, and a rest is left
 pub record TakesWhole {B : Type 0} (taken : B → List (List ℕ) → Type 0) (lines : List (List ℕ)) (text : List ℕ) (b : B) (rest : List ℕ) (n : ℕ) : Type 0 where

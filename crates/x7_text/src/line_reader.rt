@@ -1,6 +1,6 @@
 //! A text that comes in pieces, line by line.
-ghost use Rattle.std.specs.Prelude.{◌≡◌, ◌+◌, ◌<◌, ◌++◌, ◌∷◌, [], List, ℕ, length, IfErr, MatchResult};
-ghost use Rattle.x7_text.specs.LineReader.{CompletesLine, StandsFor, TakesEndedLine, TakesEndedLines, TakesTextPiece, WantsAt, WantsOnlyIn};
+ghost use Rattle.std.specs.Prelude.{◌≡◌, ◌<◌, ◌++◌, ◌∷◌, [], List, ℕ, length, IfErr};
+ghost use Rattle.x7_text.specs.LineReader.{CompletesLine, GetsLine, GetsText, GivesOrFails, StandsFor, TakesEndedLine, TakesEndedLines, TakesTextPiece, WantsAt, WantsOnlyIn};
 ghost use Rattle.x7_text.specs.Lines.{split};
 ghost use Rattle.x7_words.specs.Input.{taken_bytes_limit};
 
@@ -39,9 +39,9 @@ pub trait TakesLines: Drop {
 
     /// Takes line `line_number`, which has its end. After an error nothing more may be taken.
     fn take_line(&mut self, line_number: u64, line: &[u8]) -> Result<(), Self::Fault>
-        ensures read { (first : Self) (lines : List (List ℕ)) → line_number ≡ length lines + 1 → took first self.old lines
+        ensures read { (first : Self) (lines : List (List ℕ)) → GetsLine (took first) self.old lines line_number
             → TakesEndedLine (took first) (fails first) lines line.now result self.new }
-        ensures memory { (first : Self) (lines : List (List ℕ)) → line_number ≡ length lines + 1 → took first self.old lines
+        ensures memory { (first : Self) (lines : List (List ℕ)) → GetsLine (took first) self.old lines line_number
             → IfErr result (λ fault. is_want fault → wants first lines line.now) };
 
     /// Takes the lines of a text that have their end, after `line_count` lines; these and the bytes of the text are to
@@ -52,9 +52,9 @@ pub trait TakesLines: Drop {
         line_count: u64,
         text: &'t [u8],
     ) -> Result<(&'t [u8], u64), Self::Fault>
-        ensures read { (first : Self) (lines : List (List ℕ)) → line_count ≡ length lines → line_count + length text.now < taken_bytes_limit → took first self.old lines
+        ensures read { (first : Self) (lines : List (List ℕ)) → GetsText (took first) self.old lines line_count text.now
             → TakesEndedLines (took first) (fails first) lines text.now result self.new }
-        ensures memory { (first : Self) (lines : List (List ℕ)) → line_count ≡ length lines → line_count + length text.now < taken_bytes_limit → took first self.old lines
+        ensures memory { (first : Self) (lines : List (List ℕ)) → GetsText (took first) self.old lines line_count text.now
             → IfErr result (λ fault. is_want fault → WantsAt (wants first) lines text.now) }
     {
         let mut rest = text;
@@ -72,16 +72,16 @@ pub trait TakesLines: Drop {
 
     /// Takes line `line_number`, the last one, which has no end: what the text gives.
     fn take_last(self, line_number: u64, line: &[u8]) -> Result<Self::Out, Self::Fault>
-        ensures read { (first : Self) (lines : List (List ℕ)) → line_number ≡ length lines + 1 → took first self lines
-            → MatchResult result (λ out. gives first out (lines ++ line.now ∷ [])) (λ fault. fails first fault (lines ++ line.now ∷ [])) }
-        ensures memory { (first : Self) (lines : List (List ℕ)) → line_number ≡ length lines + 1 → took first self lines
+        ensures read { (first : Self) (lines : List (List ℕ)) → GetsLine (took first) self lines line_number
+            → GivesOrFails (gives first) (fails first) (lines ++ line.now ∷ []) result }
+        ensures memory { (first : Self) (lines : List (List ℕ)) → GetsLine (took first) self lines line_number
             → IfErr result (λ fault. is_want fault → wants first lines line.now) };
 }
 
 /// What a text that is there whole gives, by a taker of no line yet, or its fault. No line is copied: memory is wanting
 /// only at a line, where `wants` says so.
 pub fn read_lines<T: TakesLines>(taker: T, text: &[u8]) -> Result<T::Out, T::Fault>
-    ensures read { T.took taker taker [] → MatchResult result (λ out. T.gives taker out (split text.now)) (λ fault. T.fails taker fault (split text.now)) }
+    ensures read { T.took taker taker [] → GivesOrFails (T.gives taker) (T.fails taker) (split text.now) result }
     ensures memory { T.took taker taker [] → IfErr result (λ fault. T.is_want fault → WantsAt (T.wants taker) [] text.now) }
 {
     let mut last = taker;
@@ -192,7 +192,7 @@ impl<T: TakesLines> LineReader<T> {
     /// Ends a text of fewer than 2^63 bytes: what it gives, or its fault. Memory is wanting only at its last line.
     pub fn finish(self) -> Result<T::Out, T::Fault>
         ensures read { (first : T) (text : List ℕ) → length text < taken_bytes_limit → StandsFor (T.took first) self text
-            → MatchResult result (λ out. T.gives first out (split text)) (λ fault. T.fails first fault (split text)) }
+            → GivesOrFails (T.gives first) (T.fails first) (split text) result }
         ensures memory { (first : T) (text : List ℕ) → length text < taken_bytes_limit → (s : StandsFor (T.took first) self text)
             → IfErr result (λ fault. T.is_want fault → T.wants first s.lines self.held) }
     {

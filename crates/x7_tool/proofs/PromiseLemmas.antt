@@ -198,7 +198,7 @@ image_has_streams name unit s device answer more part same h =
     let size = image_size (length s.golden) (length s.update) in
     let fits : (size ≤ flash_limit) × (answer.text ≡ image_of unit s.golden s.update) = image_fits_by (nat_lt flash_limit size) size flash_limit (bad_input name input.Image) (image_of unit s.golden s.update) answer refl h in
     let text : answer.text ≡ image_of device.start_unit s.golden s.update = fits.1 ∙ ap (λ (u : ℕ). image_of u s.golden s.update) (sym same) in
-    subst (λ (x : List ℕ). HasStreams device s.golden s.update (x ++ more)) (sym text) (image_boots device s.golden s.update more part fits.0)
+    subst (λ (x : List ℕ). HasStreams device s.golden s.update (x ++ more)) (sym text) (image_boots device s.golden s.update more (record { is_part = part; fits = fits.0 }))
 
 image_promised : (known : Known) (golden update : List ℕ) (s : Result ImageStreams Event) (answer : Answer) → image_streams known golden update ≡ s → and_so s (image_by update 1) ≡ Ok answer → PromisesImage known golden update answer.text
 image_promised known golden update (Err event) answer e h = absurd (cc)

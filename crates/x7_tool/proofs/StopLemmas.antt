@@ -5,7 +5,6 @@ use Rattle.x7_words.specs.Sink.{SinkState}
 use Rattle.x7_forms.specs.Event.{Event, cause_of_event}
 use Rattle.x7_forms.specs.Form.{AskedForm, Booting, Unused, UpdatingFlash, flash_use}
 use Rattle.x7_forms.specs.Known.{Answer}
-use Rattle.x7_update.specs.declared.fault.UpdateFault.TheVariants as update
 use Rattle.x7_outcome.specs.Outside.{Sources}
 use Rattle.x7_outcome.specs.Ending.{JudgesFlash, PutsAnswer}
 use Rattle.x7_outcome.specs.Stopping.{StopsReading, StopsBy}

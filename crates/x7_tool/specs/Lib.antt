@@ -1,3 +1,4 @@
+pub mod Calls
 pub mod PowerLoss
 pub mod Promise
 pub mod Runs

@@ -1,13 +1,12 @@
 //! The call that runs a command: the form of its words is carried out.
 ghost use Rattle.std.specs.Prelude.{◌≡◌, ℕ, List, Some, false};
-ghost use Rattle.x7_words.specs.Sink.{SinkState};
 ghost use Rattle.x7_forms.specs.Form.{asked_by, form_of_strings};
 ghost use Rattle.x7_forms.specs.Step.{result_by};
 ghost use Rattle.x7_tool.specs.PowerLoss.{EachBoots, PowerLossMayLeave};
 ghost use Rattle.x7_outcome.specs.Leaving.{CallUsesFlash};
-ghost use Rattle.x7_outcome.specs.Outside.{outside, sources};
-ghost use Rattle.x7_outcome.specs.Ending.{Answered};
-ghost use Rattle.x7_tool.specs.Runs.{Runs, stopped_or_event};
+ghost use Rattle.x7_outcome.specs.Outside.{sources};
+ghost use Rattle.x7_tool.specs.Calls.{CallAnswers, CallRuns};
+ghost use Rattle.x7_tool.specs.Runs.{stopped_or_event};
 
 use std::alloc::Global;
 use x7_device_forms::boot::boot;
@@ -44,8 +43,8 @@ fn answer<'w, I: Inputs, O: Sink, F: Flash>(
     flash: &mut F,
     out: &mut O,
 ) -> Result<bool, Refusal<'w>>
-    ensures answered { (before after : SinkState) → Answered (asked_by form.entry) (outside (I.state inputs.old) (F.state flash.old) (O.state out.old) before)
-        (outside (I.state inputs.new) (F.state flash.new) (O.state out.new) after) (stopped_or_event result) }
+    ensures answered { CallAnswers (I.state, F.state, O.state) (asked_by form.entry)
+        (inputs.old, flash.old, out.old) (inputs.new, flash.new, out.new) (stopped_or_event result) }
     ensures flash { CallUsesFlash F.Flash (Some (asked_by form.entry)) (I.state inputs.old) flash.old flash.new }
 {
     match form {
@@ -91,8 +90,8 @@ fn carry_out<I: Inputs, O: Sink, E: Sink, F: Flash>(
     out: &mut O,
     err: &mut E,
 ) -> Status
-    ensures ran { Runs (form_of_strings words.now.items) (outside (I.state inputs.old) (F.state flash.old) (O.state out.old) (E.state err.old))
-        (outside (I.state inputs.new) (F.state flash.new) (O.state out.new) (E.state err.new)) result }
+    ensures ran { CallRuns (I.state, F.state, O.state, E.state) (form_of_strings words.now.items)
+        (inputs.old, flash.old, out.old, err.old) (inputs.new, flash.new, out.new, err.new) result }
     ensures flash { CallUsesFlash F.Flash (form_of_strings words.now.items) (I.state inputs.old) flash.old flash.new }
 {
     let form = match words_of(words) {
@@ -124,8 +123,8 @@ pub fn run<I: Inputs, O: Sink, E: Sink, F: Flash>(
     out: &mut O,
     err: &mut E,
 ) -> Status
-    ensures ran { Runs (form_of_strings words.now.items) (outside (I.state inputs.old) (F.state flash.old) (O.state out.old) (E.state err.old))
-        (outside (I.state inputs.new) (F.state flash.new) (O.state out.new) (E.state err.new)) result }
+    ensures ran { CallRuns (I.state, F.state, O.state, E.state) (form_of_strings words.now.items)
+        (inputs.old, flash.old, out.old, err.old) (inputs.new, flash.new, out.new, err.new) result }
     ensures flash { CallUsesFlash F.Flash (form_of_strings words.now.items) (I.state inputs.old) flash.old flash.new }
     ensures found { (found : List ℕ) → F.found_since flash.new (F.state flash.old).moments found
         → PowerLossMayLeave (form_of_strings words.now.items) (sources (I.state inputs.old) (F.state flash.old)) found }

@@ -13,7 +13,7 @@ ghost use Rattle.x7_update.specs.declared.fault.UpdateFault.TheVariants.{NoMemor
 
 use crate::fault::UpdateFault;
 use crate::slots::{UpdateTarget, find_target};
-use crate::switch::{open_slot, spend_slot};
+use crate::switch::{open_free_slot, spend_slot};
 use crate::verify::{verify_stream, verify_switch};
 use crate::write::write_stream;
 use std::alloc::Global;
@@ -65,7 +65,7 @@ fn verify_and_open<F: Flash>(
     ensures only_uses { OnlyUses (F.state flash.old) (F.state flash.new) }
 {
     verify_stream(flash, target.place, stream, buffer)?;
-    match open_slot(flash, target.slots.next) {
+    match open_free_slot(flash, target.slots.next) {
         Ok(()) => (),
         Err(_) => return Err(UpdateFault::Failed { writing: true }),
     }

@@ -21,7 +21,7 @@ pub(crate) fn spend_slot<F: Flash>(flash: &mut F, slot: u64) -> Result<(), Faile
 }
 
 /// Opens a free slot.
-pub(crate) fn open_slot<F: Flash>(flash: &mut F, slot: u64) -> Result<(), Failed>
+pub(crate) fn open_free_slot<F: Flash>(flash: &mut F, slot: u64) -> Result<(), Failed>
     requires slot { CanSwitch (F.state flash.old) slot }
     requires free { IfKnown (F.state flash.old).bytes (λ all. IsFree all slot) }
     ensures opened { OnOk result ((F.state flash.new).bytes ≡ option_map (with_switch_word slot open_switch) (F.state flash.old).bytes) }

@@ -106,19 +106,6 @@ begins c synced line held text given before s e f g t d =
 pub not_sync_found : (c : CutterState) → CutterStandsFor c [] [] (Searching []) → c.mode ≡ Mode.SyncFound → ⊥
 not_sync_found c s e = let h = s.at in let a = rw e at h in a
 
--- a text moved to those given
-pub moved : (c : CutterState) (synced : Bool) (line : ℕ) (held text given before bytes : List ℕ) → ListerStandsFor (lister_of c synced line held text) given before bytes → ListerStandsFor (lister_of c synced line held []) (given ++ text) before bytes
-moved c synced line held text given before bytes r =
-    record {
-      has_listed = record {
-        sessions = r.has_listed.sessions;
-        at = r.has_listed.at;
-        cut = r.has_listed.cut;
-        listed = subst (λ t. HasListed (written_of synced line held t) before r.has_listed.sessions r.has_listed.at c.mode) (sym (append-nil (given ++ text))) r.has_listed.listed;
-      };
-      ready = r.ready;
-    }
-
 same_text : (ss ts : List EndedSession) (p q : Place) → ss ≡ ts → p ≡ q → reading_text ss p ≡ reading_text ts q
 same_text ss ts p q e f = ap (λ x. reading_text x p) e ∙ ap (reading_text ts) f
 

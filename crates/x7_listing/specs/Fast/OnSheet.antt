@@ -7,6 +7,7 @@ use Rattle.x7_text.specs.Row.{close, data_line_size, in_line_after, open_data, r
 use Rattle.x7_listing.specs.Fast.AtOnce.{write_head_text}
 use Rattle.x7_listing.specs.Pens.{ListsMore, lister_with}
 use Rattle.x7_listing.specs.Lister.{ListerState, open_words}
+use Rattle.x7_listing.specs.declared.list.fast.short_runs.PutRun.{PutRun}
 use Rattle.x7_listing.specs.declared.list.pen.state.OpenWords.{OpenWords}
 use Rattle.x7_listing.specs.declared.list.pen.state.Pen.TheVariants.{Session}
 
@@ -56,6 +57,10 @@ pub record ShowsWords (payload shown all : List ℕ) (in_line : OpenWords) : Typ
 -- a lister in a session with this open line, whose text is any text and then the first bytes of a sheet
 abbrev pub on_sheet : CutterState → OpenWords → List ℕ → ℕ → List ℕ → ListerState
 on_sheet cutter in_line sheet len text = lister_with cutter (Session in_line) (text ++ take len sheet)
+
+-- the same with the open line and the text that a run left on a sheet
+abbrev pub on_sheet_after : CutterState → PutRun → List ℕ → List ℕ → ListerState
+on_sheet_after cutter run sheet = on_sheet cutter run.in_line sheet run.len
 
 -- whatever text stands before: what the old lister has listed, the new one has listed, and these bytes after it
 abbrev pub ListsMoreAfter : (List ℕ → ListerState) → (List ℕ → ListerState) → List ℕ → Type 0

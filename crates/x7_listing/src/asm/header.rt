@@ -4,7 +4,7 @@ ghost use Rattle.std.specs.List.{flat_map};
 ghost use Rattle.x7_words.specs.Word.{AreBytes};
 ghost use Rattle.x7_header.specs.Header.{HeaderContents, longest_header};
 ghost use Rattle.x7_text.specs.Digits.{hex_byte};
-ghost use Rattle.x7_listing.specs.BitLine.{bit_text, field_text, IsCutAtSpace, IsField, IsBitLine, IsHeaderOf, IsTextOfField, FitsHeader};
+ghost use Rattle.x7_listing.specs.BitLine.{bit_text, field_text, AreNoTwoFields, AreTextsOfFields, IsCutAtSpace, IsField, IsBitLine, IsHeaderOf, IsTextOfField, FitsHeader};
 ghost use Rattle.x7_words.specs.Characters.{space_byte};
 
 use memchr::memchr;
@@ -32,7 +32,7 @@ fn bytes_of_pairs(alloc: Global, digits: &[u8]) -> Result<Option<Vec<u8>>, NoMem
 }
 
 /// The bytes that a header's field holds, by its text: digits, or `-` for none; `None` for any other text.
-fn field_of(alloc: Global, text: &[u8]) -> Result<Option<Vec<u8>>, NoMemory>
+fn header_field_of(alloc: Global, text: &[u8]) -> Result<Option<Vec<u8>>, NoMemory>
     ensures { IfOk result (λ found. MatchOption found ((field : List ℕ) → IsField field → text.now ≢ field_text field)
         (λ field. IsTextOfField text.now field.items)) }
 {
@@ -61,14 +61,13 @@ fn two_fields(
     text: &[u8],
     other: &[u8],
 ) -> Result<Option<(Vec<u8>, Vec<u8>)>, NoMemory>
-    ensures { IfOk result (λ found. MatchOption found
-        ((a b : List ℕ) → IsField a → IsField b → text.now ≡ field_text a → other.now ≢ field_text b)
-        (λ fields. IsTextOfField text.now fields.0.items × IsTextOfField other.now fields.1.items)) }
+    ensures { IfOk result (λ found. MatchOption found (AreNoTwoFields text.now other.now)
+        (λ fields. AreTextsOfFields text.now other.now fields.0.items fields.1.items)) }
 {
-    let Some(first) = field_of(alloc, text)? else {
+    let Some(first) = header_field_of(alloc, text)? else {
         return Ok(None);
     };
-    let Some(second) = field_of(alloc, other)? else {
+    let Some(second) = header_field_of(alloc, other)? else {
         return Ok(None);
     };
     Ok(Some((first, second)))

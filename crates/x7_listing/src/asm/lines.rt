@@ -1,11 +1,12 @@
 //! The bytes of a text's lines, as the lines come.
-ghost use Rattle.std.specs.Prelude.{◌≡◌, ℕ, List, [], ◌∷◌, ◌++◌, ◌+◌, ◌≤◌, drop, length, vec_capacity, Ok, IfErr, OnOk, MatchResult};
+ghost use Rattle.std.specs.Prelude.{◌≡◌, ℕ, List, [], ◌≤◌, drop, length, vec_capacity, Ok, IfErr, OnOk};
 ghost use Rattle.x7_text.specs.Appends.{HasSpareRoom};
+ghost use Rattle.x7_text.specs.LineReader.{GetsLine};
 ghost use Rattle.x7_text.specs.Reads.{AppendsIfRead};
 ghost use Rattle.x7_text.specs.Row.{bytes_row_size};
 ghost use Rattle.x7_crc.specs.Checker.{check_of_bytes, KeepsCheckOf};
 ghost use Rattle.x7_listing.specs.Assembly.{AreHeadedAsm};
-ghost use Rattle.x7_listing.specs.Assembling.{HasReadWithRoom, FailsFirst, FailsNext, HasAsmFault, HasLineRoom, IsFirstOrGood, Output, ReadsFirst, ReadsNext, AppendsLines};
+ghost use Rattle.x7_listing.specs.Assembling.{HasReadWithRoom, FailsFirst, FailsNext, HasAsmFault, HasLineRoom, IsFirstOrGood, Output, ReadsFirst, ReadsNext, ReadsOneMore, AppendsLines};
 ghost use Rattle.x7_listing.specs.Line.{line_bytes, FitsLine, text_of};
 ghost use Rattle.x7_listing.specs.declared.assembler.AsmFault.{AsmFault};
 
@@ -113,10 +114,8 @@ impl AsmLines {
     /// Appends the bytes of line `line_number`, counted from 1. Memory is wanting only at the first line, or where all
     /// lines up to and with this one are good.
     fn read_next(&mut self, line_number: u64, line: &[u8]) -> Result<(), AsmFault>
-        ensures read { (lines : List (List ℕ)) → line_number ≡ length lines + 1 → HasReadWithRoom self.old lines
-            → MatchResult result (λ _. HasReadWithRoom self.new (lines ++ line.now ∷ []))
-            (λ f. (left : List (List ℕ)) → HasAsmFault f (lines ++ line.now ∷ left)) }
-        ensures memory { (lines : List (List ℕ)) → line_number ≡ length lines + 1 → HasReadWithRoom self.old lines
+        ensures read { (lines : List (List ℕ)) → GetsLine HasReadWithRoom self.old lines line_number → ReadsOneMore lines line.now result self.new }
+        ensures memory { (lines : List (List ℕ)) → GetsLine HasReadWithRoom self.old lines line_number
             → IfErr result (λ fault. fault ≡ AsmFault.NoMemory → IsFirstOrGood lines line.now) }
     {
         if line_number == 1 {

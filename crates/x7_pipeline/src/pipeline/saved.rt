@@ -2,15 +2,14 @@
 ghost use Rattle.std.specs.Prelude.{◌≡◌, ◌≤◌, [], true, length, vec_len, vec_capacity, Contains, IfOk, IfSome};
 ghost use Rattle.std.specs.List.{AllByRecursion};
 ghost use Rattle.x7_part.specs.AddressOrder.{addresses_in};
-ghost use Rattle.x7_memory.specs.FrameMap.{HaveSameFrames};
 ghost use Rattle.x7_memory.specs.PartFrames.{AreFramesOf, frame_at};
 ghost use Rattle.x7_pipeline.specs.Flow.{HoldsFlow, first_flow};
 ghost use Rattle.x7_pipeline.specs.Pipeline.{AreOfPart, IsPipelineOf};
-ghost use Rattle.x7_pipeline.specs.Runs.{put_over};
+ghost use Rattle.x7_pipeline.specs.Runs.{GetsPairs};
 ghost use Rattle.x7_pipeline.specs.Saved.{IsPairOf, IsSavedOf, address_at_slot, next_put, pair_at, put_by_copy, put_by_word};
 
 use super::Pipeline;
-use crate::place::{has_frame_at, slot_at};
+use crate::place::{is_frame_address, slot_at};
 use std::alloc::Global;
 use std::marker::Model;
 use x7_memory::Memory;
@@ -121,7 +120,7 @@ impl Saved {
     fn put_frame(&self, part: &Part, memory: &mut Memory)
         requires memory { AreFramesOf part.now memory.old }
         requires fits { AllByRecursion (IsPairOf part.now) self.now.pair }
-        ensures put { HaveSameFrames (frame_at part.now memory.new) (put_over self.now.pair (frame_at part.now memory.old)) }
+        ensures put { GetsPairs self.now.pair (frame_at part.now memory.old) (frame_at part.now memory.new) }
         ensures memory { AreFramesOf part.now memory.new }
     {
         if self.has_frame {
@@ -167,7 +166,7 @@ impl Pipeline {
         ensures value { result ≡ put_by_copy part.now self.now }
         ensures address { IfSome result (Contains (addresses_in part.now)) }
     {
-        if has_frame_at(part, self.base) {
+        if is_frame_address(part, self.base) {
             Some(self.base)
         } else {
             None
@@ -204,7 +203,7 @@ impl Pipeline {
         requires part { AreOfPart part.now self.old memory.old }
         requires saved { IsSavedOf part.now from.now }
         ensures pipeline { self.new ≡ from.now.pipeline }
-        ensures put { HaveSameFrames (frame_at part.now memory.new) (put_over from.now.pair (frame_at part.now memory.old)) }
+        ensures put { GetsPairs from.now.pair (frame_at part.now memory.old) (frame_at part.now memory.new) }
         ensures memory { AreFramesOf part.now memory.new }
     {
         self.copy_from(&from.pipeline);

@@ -5,4 +5,4 @@ pub returns-clause-boot : goal.returns-clause-boot
 returns-clause-boot c = boot_course
 
 pub returns-clause-along : goal.returns-clause-along
-returns-clause-along c = along
+returns-clause-along c = λ part flash course is last older end leads. along part flash course last older end is leads

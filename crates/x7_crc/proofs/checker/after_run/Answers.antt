@@ -11,5 +11,5 @@ returns-in-Word c = λ h n s.
     ap words_of_bytes c.bytes_of.ensures.value
     ∙ ap (λ (w : ℕ). w ∷ []) (ap word_of_bytes (sym c.bytes_of.ensures.value) ∙ c.bytes_of.ensures.back) in
     rw c.in-Word.is (
-    subst (λ (ws : List ℕ). IsCheckState c.after_words.result.check c.after_words.result.held (entered_all n (payload_steps c.in-Word.register ws) h)) one
-    (c.after_words.ensures h n s))
+    subst (λ (ws : List ℕ). IsCheckState c.state_after_words.result.check c.state_after_words.result.held (entered_all n (payload_steps c.in-Word.register ws) h)) one
+    (c.state_after_words.ensures h n s))

@@ -24,12 +24,12 @@ returns-in-Ok-clause-done c = λ h s.
     (did_word c.args.part.now c.args.pipeline.now c.write.new.self c.args.memory.now c.write.new.memory c.args.word c.in-Ok.ensures.stands c.in-Ok.ensures.lands)
 
 pub returns-in-Ok-clause-fault : goal.returns-in-Ok-clause-fault
-returns-in-Ok-clause-fault c = λ h f s has.
+returns-in-Ok-clause-fault c = λ h s f has.
     c.in-Ok.ensures.fault f has.stands ∙ fault_as c.args.part.now h c.args.reg c.args.word _ f
     (word_asked c.args.part.now.idcode h c.args.reg c.args.word true c.in-Fdri.is (sym (c.takes_frames.ensures.after c.args.part.now.idcode h s) ∙ c.if-not-takes_frames.false))
 
 pub returns-in-Err-clause-fault : goal.returns-in-Err-clause-fault
-returns-in-Err-clause-fault c = λ h f s has.
+returns-in-Err-clause-fault c = λ h s f has.
     c.in-Err.ensures.fault f has.stands ∙ fault_as c.args.part.now h c.args.reg c.args.word _ f
     (word_asked c.args.part.now.idcode h c.args.reg c.args.word true c.in-Fdri.is (sym (c.takes_frames.ensures.after c.args.part.now.idcode h s) ∙ c.if-not-takes_frames.false))
 
@@ -40,12 +40,12 @@ returns-in-Ok-copy-clause-done c = λ h s.
     (did_copy c.args.part.now c.args.pipeline.now c.copy.new.self c.args.memory.now c.copy.new.memory c.in-Ok-copy.ensures.same_pipeline c.in-Ok-copy.ensures.put c.in-Ok-copy.ensures.fault)
 
 pub returns-in-Ok-copy-clause-fault : goal.returns-in-Ok-copy-clause-fault
-returns-in-Ok-copy-clause-fault c = λ h f s has.
+returns-in-Ok-copy-clause-fault c = λ h s f has.
     c.in-Ok-copy.ensures.fault f has.stands ∙ fault_as c.args.part.now h c.args.reg c.args.word _ f
     (copies_asked c.args.part.now.idcode h c.args.reg c.args.word true c.in-Mfwr.is (sym (c.takes_copies.ensures.after c.args.part.now.idcode h s) ∙ c.if-not-takes_copies.false))
 
 pub returns-in-Err-copy-clause-fault : goal.returns-in-Err-copy-clause-fault
-returns-in-Err-copy-clause-fault c = λ h f s has.
+returns-in-Err-copy-clause-fault c = λ h s f has.
     c.in-Err-copy.ensures.fault f has.stands ∙ fault_as c.args.part.now h c.args.reg c.args.word _ f
     (copies_asked c.args.part.now.idcode h c.args.reg c.args.word true c.in-Mfwr.is (sym (c.takes_copies.ensures.after c.args.part.now.idcode h s) ∙ c.if-not-takes_copies.false))
 

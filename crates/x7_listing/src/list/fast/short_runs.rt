@@ -11,7 +11,7 @@ ghost use Rattle.x7_text.specs.Appends.{HasSpareRoom};
 ghost use Rattle.x7_text.specs.Row.{bytes_text, close, bytes_row_size, row_words, data_line_size};
 ghost use Rattle.x7_regs.specs.Register.{reg_number_count};
 ghost use Rattle.x7_listing.specs.Fast.AtOnce.{command_lines_text, write_head_text};
-ghost use Rattle.x7_listing.specs.Fast.OnSheet.{ShowsWords, ListsMoreAfter, on_sheet, one_write_lines_size, head_line_size, one_write_text, short_write_lines_size, nop_lines_size, gap_lines_size};
+ghost use Rattle.x7_listing.specs.Fast.OnSheet.{ShowsWords, ListsMoreAfter, on_sheet, on_sheet_after, one_write_lines_size, head_line_size, one_write_text, short_write_lines_size, nop_lines_size, gap_lines_size};
 ghost use Rattle.x7_listing.specs.Fast.TakingAtOnce.{TakesAtOnce, TakesOnSheet};
 ghost use Rattle.x7_words.specs.Characters.{line_end_byte};
 ghost use Rattle.x7_listing.specs.Pens.{TakesHead, ListsMore, lister_with};
@@ -225,7 +225,7 @@ fn put_one_write(
     ensures size { result.size ≡ 8 }
     ensures within { result.len ≤ len + one_write_lines_size }
     ensures listed { (c d : CutterState) (rest : List ℕ) → WritesOne c d rest register word
-        → ListsMoreAfter (on_sheet c in_line sheet.old len) (on_sheet d result.in_line sheet.new result.len) (take 8 rest) }
+        → ListsMoreAfter (on_sheet c in_line sheet.old len) (on_sheet_after d result sheet.new) (take 8 rest) }
 {
     let end = put_write_lines(sheet, len, in_line.count, register, word);
     PutRun {
@@ -269,7 +269,7 @@ fn put_short_write(
     ensures size { result.size ≡ 4 + 4 * write.count }
     ensures within { result.len ≤ len + short_write_lines_size }
     ensures listed { (c d : CutterState) → WritesShort c d rest.now write.register write.count
-        → ListsMoreAfter (on_sheet c in_line sheet.old len) (on_sheet d result.in_line sheet.new result.len) (take (4 + 4 * write.count) rest.now) }
+        → ListsMoreAfter (on_sheet c in_line sheet.old len) (on_sheet_after d result sheet.new) (take (4 + 4 * write.count) rest.now) }
 {
     let start = put_head(sheet, len, in_line.count, write);
     let end = put_words(sheet, start, first_64(&rest[4..]), write.count);
@@ -294,7 +294,7 @@ fn put_few_nops(
     ensures size { result.size ≡ 4 * count }
     ensures within { result.len ≤ len + (4 * count + 1) }
     ensures listed { (c : CutterState) → TakesHead c no_op Step.Nop
-        → ListsMoreAfter (on_sheet c in_line sheet.old len) (on_sheet c result.in_line sheet.new result.len) (nop_bytes count) }
+        → ListsMoreAfter (on_sheet c in_line sheet.old len) (on_sheet_after c result sheet.new) (nop_bytes count) }
 {
     let start = put_close(sheet, len, in_line.count);
     PutRun {
@@ -319,7 +319,7 @@ fn put_gap(
     ensures size { result.size ≡ count + 4 }
     ensures within { result.len ≤ len + gap_lines_size }
     ensures listed { (c d : CutterState) → EndsGap c d rest.now count
-        → ListsMoreAfter (on_sheet c in_line sheet.old len) (on_sheet d result.in_line sheet.new result.len) (take (count + 4) rest.now) }
+        → ListsMoreAfter (on_sheet c in_line sheet.old len) (on_sheet_after d result sheet.new) (take (count + 4) rest.now) }
 {
     PutRun {
         in_line: OpenWords { count: 0 },
@@ -339,8 +339,8 @@ fn take_next(
 ) -> Option<PutRun>
     requires room { len + FREE_SIZE ≤ SHEET_SIZE }
     ensures takes { IfSome result (λ n. TakesOnSheet cutter.old cutter.new rest.now n.size len n.len) }
-    ensures listed { IfSome result (λ n. ListsMoreAfter (on_sheet cutter.old in_line sheet.old len)
-        (on_sheet cutter.new n.in_line sheet.new n.len) (take n.size rest.now)) }
+    ensures listed { IfSome result (λ n. ListsMoreAfter (on_sheet cutter.old in_line sheet.old len) (on_sheet_after cutter.new n sheet.new)
+        (take n.size rest.now)) }
     ensures unchanged { IfNone result ((cutter.new ≡ cutter.old) × (sheet.new ≡ sheet.old)) }
 {
     if let Some((register, w)) = cutter.take_write(rest) {

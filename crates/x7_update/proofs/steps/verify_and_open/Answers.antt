@@ -13,10 +13,10 @@ use Rattle.x7_update.proofs.steps.verify_and_open.Goals as goal
 pub returns-clause-fault : goal.returns-clause-fault
 returns-clause-fault g c =
     let old = g.F.Flash.state c.args.flash.now in
-    let mid = g.F.Flash.state c.open_slot.new.flash in
+    let mid = g.F.Flash.state c.open_free_slot.new.flash in
     let last = g.F.Flash.state c.verify_switch.new.flash in
     let read = c.verify_stream.ensures.only_reads in
-    let wrote = c.open_slot.ensures.writes.only in
+    let wrote = c.open_free_slot.ensures.writes.only in
     let change = with_switch_word c.args.target.slots.next open_switch in
     let is : mid.bytes ≡ option_map change old.bytes = c.in-Ok.ensures.opened ∙ ap (option_map change) read.bytes in
     fails_since c.args.stream.now old mid last c.verify_switch.result (omega (arith, read.faults, wrote.faults)) (omega (arith, read.unwritten.write_faults, wrote.write_faults)) (λ none. was_unknown change old.bytes (sym is ∙ none))
@@ -29,8 +29,8 @@ returns-clause-was_ready g c =
     let read = c.verify_stream.ensures.only_reads in
     let again = c.verify_switch.ensures.only_reads in
     on_ok (WasReady g.F.Flash.state c.args.target.place c.args.stream.now last) c.verify_switch.result
-    (was_ready g.F.Flash.state c.args.target.place c.args.stream.now old last c.verify_stream.new.flash (again.extent ∙ c.open_slot.ensures.writes.only.extent ∙ read.extent) c.in_ok-verify_stream.ensures.seen read.bytes c.requires.none_open
-    (omega (arith, c.open_slot.ensures.moment, again.unwritten.moments)))
+    (was_ready g.F.Flash.state c.args.target.place c.args.stream.now old last c.verify_stream.new.flash (again.extent ∙ c.open_free_slot.ensures.writes.only.extent ∙ read.extent) c.in_ok-verify_stream.ensures.seen read.bytes c.requires.none_open
+    (omega (arith, c.open_free_slot.ensures.moment, again.unwritten.moments)))
 
 pub returns-in_err-verify_stream-clause-opens : goal.returns-in_err-verify_stream-clause-opens
 returns-in_err-verify_stream-clause-opens g c =
@@ -43,28 +43,28 @@ pub returns-in-Err-clause-opens : goal.returns-in-Err-clause-opens
 returns-in-Err-clause-opens g c =
     let old = g.F.Flash.state c.args.flash.now in
     let ready = g.F.Flash.state c.verify_stream.new.flash in
-    let mid = g.F.Flash.state c.open_slot.new.flash in
+    let mid = g.F.Flash.state c.open_free_slot.new.flash in
     let read = c.verify_stream.ensures.only_reads in
     let Was : Type 0 = WasReady g.F.Flash.state c.args.target.place c.args.stream.now mid in
-    let was : Was = was_ready g.F.Flash.state c.args.target.place c.args.stream.now old mid c.verify_stream.new.flash (c.open_slot.ensures.writes.only.extent ∙ read.extent) c.in_ok-verify_stream.ensures.seen read.bytes c.requires.none_open c.open_slot.ensures.moment in
+    let was : Was = was_ready g.F.Flash.state c.args.target.place c.args.stream.now old mid c.verify_stream.new.flash (c.open_free_slot.ensures.writes.only.extent ∙ read.extent) c.in_ok-verify_stream.ensures.seen read.bytes c.requires.none_open c.open_free_slot.ensures.moment in
     read_moments old ready mid _ _ _ (λ all found. (found ≡ all) ⊎ Was) (λ all e. inl refl) read.bytes read.unwritten
-    (moments_weaker ready mid _ _ (OpeningSlot c.args.target.slots.next) (λ all found. (found ≡ all) ⊎ Was) (λ all found e h. inr was) c.open_slot.ensures.writes.any_moment)
+    (moments_weaker ready mid _ _ (OpeningSlot c.args.target.slots.next) (λ all found. (found ≡ all) ⊎ Was) (λ all found e h. inr was) c.open_free_slot.ensures.writes.any_moment)
 
 pub returns-clause-opens : goal.returns-clause-opens
 returns-clause-opens g c =
     let old = g.F.Flash.state c.args.flash.now in
     let ready = g.F.Flash.state c.verify_stream.new.flash in
-    let mid = g.F.Flash.state c.open_slot.new.flash in
+    let mid = g.F.Flash.state c.open_free_slot.new.flash in
     let last = g.F.Flash.state c.verify_switch.new.flash in
     let read = c.verify_stream.ensures.only_reads in
     let again = c.verify_switch.ensures.only_reads in
     let Was : Type 0 = WasReady g.F.Flash.state c.args.target.place c.args.stream.now last in
     let was : Was =
-    was_ready g.F.Flash.state c.args.target.place c.args.stream.now old last c.verify_stream.new.flash (again.extent ∙ c.open_slot.ensures.writes.only.extent ∙ read.extent) c.in_ok-verify_stream.ensures.seen read.bytes c.requires.none_open
-    (omega (arith, c.open_slot.ensures.moment, again.unwritten.moments)) in
+    was_ready g.F.Flash.state c.args.target.place c.args.stream.now old last c.verify_stream.new.flash (again.extent ∙ c.open_free_slot.ensures.writes.only.extent ∙ read.extent) c.in_ok-verify_stream.ensures.seen read.bytes c.requires.none_open
+    (omega (arith, c.open_free_slot.ensures.moment, again.unwritten.moments)) in
     moments_read old mid last _ _ _ (λ all found. (found ≡ all) ⊎ Was)
     (read_moments old ready mid _ _ _ (λ all found. (found ≡ all) ⊎ Was) (λ all e. inl refl) read.bytes read.unwritten
-    (moments_weaker ready mid _ _ (OpeningSlot c.args.target.slots.next) (λ all found. (found ≡ all) ⊎ Was) (λ all found e h. inr was) c.open_slot.ensures.writes.any_moment))
+    (moments_weaker ready mid _ _ (OpeningSlot c.args.target.slots.next) (λ all found. (found ≡ all) ⊎ Was) (λ all found e h. inr was) c.open_free_slot.ensures.writes.any_moment))
     again.bytes again.unwritten
 
 -- ---- what is found, and what it comes to
@@ -81,19 +81,19 @@ returns-in-Err-clause-any_moment g c =
     let old = g.F.Flash.state c.args.flash.now in
     let read = c.verify_stream.ensures.only_reads in
     let next = c.args.target.slots.next in
-    read_moments old (g.F.Flash.state c.verify_stream.new.flash) (g.F.Flash.state c.open_slot.new.flash) _ _ _ (OpeningSlot next)
-    (λ all e. opening_none next all (known_at old.bytes (λ all. IsFree all next) c.requires.free all e)) read.bytes read.unwritten c.open_slot.ensures.writes.any_moment
+    read_moments old (g.F.Flash.state c.verify_stream.new.flash) (g.F.Flash.state c.open_free_slot.new.flash) _ _ _ (OpeningSlot next)
+    (λ all e. opening_none next all (known_at old.bytes (λ all. IsFree all next) c.requires.free all e)) read.bytes read.unwritten c.open_free_slot.ensures.writes.any_moment
 
 pub returns-clause-any_moment : goal.returns-clause-any_moment
 returns-clause-any_moment g c =
     let old = g.F.Flash.state c.args.flash.now in
-    let mid = g.F.Flash.state c.open_slot.new.flash in
+    let mid = g.F.Flash.state c.open_free_slot.new.flash in
     let read = c.verify_stream.ensures.only_reads in
     let again = c.verify_switch.ensures.only_reads in
     let next = c.args.target.slots.next in
     moments_read old mid (g.F.Flash.state c.verify_switch.new.flash) _ _ _ (OpeningSlot next)
     (read_moments old (g.F.Flash.state c.verify_stream.new.flash) mid _ _ _ (OpeningSlot next)
-    (λ all e. opening_none next all (known_at old.bytes (λ all. IsFree all next) c.requires.free all e)) read.bytes read.unwritten c.open_slot.ensures.writes.any_moment)
+    (λ all e. opening_none next all (known_at old.bytes (λ all. IsFree all next) c.requires.free all e)) read.bytes read.unwritten c.open_free_slot.ensures.writes.any_moment)
     again.bytes again.unwritten
 
 pub returns-in_err-verify_stream-clause-stays_bytes : goal.returns-in_err-verify_stream-clause-stays_bytes
@@ -104,16 +104,16 @@ returns-in_err-verify_stream-clause-stays_bytes g c =
 pub returns-in-Err-clause-stays_bytes : goal.returns-in-Err-clause-stays_bytes
 returns-in-Err-clause-stays_bytes g c =
     let read = c.verify_stream.ensures.only_reads in
-    read_moments (g.F.Flash.state c.args.flash.now) (g.F.Flash.state c.verify_stream.new.flash) (g.F.Flash.state c.open_slot.new.flash) _ _ _ StaysBytes (λ all e h. h) read.bytes read.unwritten c.open_slot.ensures.writes.bytes
+    read_moments (g.F.Flash.state c.args.flash.now) (g.F.Flash.state c.verify_stream.new.flash) (g.F.Flash.state c.open_free_slot.new.flash) _ _ _ StaysBytes (λ all e h. h) read.bytes read.unwritten c.open_free_slot.ensures.writes.bytes
 
 pub returns-clause-stays_bytes : goal.returns-clause-stays_bytes
 returns-clause-stays_bytes g c =
     let old = g.F.Flash.state c.args.flash.now in
-    let mid = g.F.Flash.state c.open_slot.new.flash in
+    let mid = g.F.Flash.state c.open_free_slot.new.flash in
     let read = c.verify_stream.ensures.only_reads in
     let again = c.verify_switch.ensures.only_reads in
     moments_read old mid (g.F.Flash.state c.verify_switch.new.flash) _ _ _ StaysBytes
-    (read_moments old (g.F.Flash.state c.verify_stream.new.flash) mid _ _ _ StaysBytes (λ all e h. h) read.bytes read.unwritten c.open_slot.ensures.writes.bytes) again.bytes again.unwritten
+    (read_moments old (g.F.Flash.state c.verify_stream.new.flash) mid _ _ _ StaysBytes (λ all e h. h) read.bytes read.unwritten c.open_free_slot.ensures.writes.bytes) again.bytes again.unwritten
 
 pub returns-clause-opened : goal.returns-clause-opened
 returns-clause-opened g c =
@@ -128,11 +128,11 @@ pub verify_switch-requires-clause-opened : goal.verify_switch-requires-clause-op
 verify_switch-requires-clause-opened g c =
     let ready = g.F.Flash.state c.verify_stream.new.flash in
     let next = c.args.target.slots.next in
-    opened_is_open ready.bytes (g.F.Flash.state c.open_slot.new.flash).bytes next c.in-Ok.ensures.opened
+    opened_is_open ready.bytes (g.F.Flash.state c.open_free_slot.new.flash).bytes next c.in-Ok.ensures.opened
     (known_map ready.bytes (λ all. ready.extent ≡ length all) (λ all. flash_slot_size * next + switch_size ≤ length all)
     (λ all e long. omega (arith, long, c.requires.next, c.verify_stream.ensures.only_reads.extent, c.requires.written.size.least)) (g.met.F.Flash.counted c.verify_stream.new.flash))
 
-pub open_slot-requires-clause-slot : goal.open_slot-requires-clause-slot
-open_slot-requires-clause-slot g c =
+pub open_free_slot-requires-clause-slot : goal.open_free_slot-requires-clause-slot
+open_free_slot-requires-clause-slot g c =
     let read = c.verify_stream.ensures.only_reads in
     record { attached = read.attached ∙ c.requires.written.attached; among = c.requires.next; within = omega (arith, c.requires.next, read.extent, c.requires.written.size.least) }

@@ -1,7 +1,7 @@
 use Rattle.std.proofs.Common.{◌≡◌, ◌+◌, ◌<◌, ◌≤◌, ℕ, sym, subst, arith}
 use Rattle.x7_startup.specs.Watchdog.{WatchesFor}
 use Rattle.x7_engine.specs.Clock.{newest_place}
-use Rattle.x7_engine.specs.Startup.{has_ended}
+use Rattle.x7_engine.specs.Startup.{startup_ended}
 use Rattle.x7_engine.specs.Kept.{is_fallback}
 use Rattle.x7_engine.specs.Watching.{watch_calls}
 use Rattle.x7_engine.proofs.ClockLemmas.{alike_fires, alike_quiet, calls_alike, startup_bytes}
@@ -10,7 +10,7 @@ use Rattle.x7_engine.proofs.clock.Clock.bytes_alike.Goals as goal
 pub returns-in_default-clause-takes : goal.returns-in_default-clause-takes
 returns-in_default-clause-takes c = λ kept h n a.
     let l : newest_place h ≤ n = a.newest in
-    let f : (i : ℕ) → i < c.args.count → has_ended c.args.part.now h (n + i + 1) ≡ c.args.eos = a.each in
+    let f : (i : ℕ) → i < c.args.count → startup_ended c.args.part.now h (n + i + 1) ≡ c.args.eos = a.each in
     let q = c.in_default.ensures.none_fires (is_fallback kept.kind) kept.timer (watch_calls c.args.part.now h n) a.stands.watchdog in (
       record {
         startup = startup_bytes c.args.part.now h n c.args.count c.lock.result c.matched.result c.args.self.now.startup c.bytes-in_default.new.self c.lock.ensures c.matched.ensures c.bytes-in_default.ensures.stands l a.stands.startup;
@@ -22,7 +22,7 @@ returns-in_default-clause-takes c = λ kept h n a.
 pub returns-clause-takes : goal.returns-clause-takes
 returns-clause-takes c = λ kept h n a.
     let l : newest_place h ≤ n = a.newest in
-    let f : (i : ℕ) → i < c.args.count → has_ended c.args.part.now h (n + i + 1) ≡ c.args.eos = a.each in
+    let f : (i : ℕ) → i < c.args.count → startup_ended c.args.part.now h (n + i + 1) ≡ c.args.eos = a.each in
     let q = c.in-Some.ensures.fires (is_fallback kept.kind) kept.timer (watch_calls c.args.part.now h n) a.stands.watchdog in
     let few : c.in-Some.k ≤ c.args.count = q.1 in (
       q.0,

@@ -37,8 +37,8 @@ loop-i-preserved c = record {
       );
 }
 
-pub returns-then-has_ended : goal.returns-then-has_ended
-returns-then-has_ended c = record {
+pub returns-then-startup_ended : goal.returns-then-startup_ended
+returns-then-startup_ended c = record {
   within = c.bytes_after_end.ensures.within;
   takes = λ kept h n l s. (
       let before = c.loop-i.invariant.clock kept h n l s in
@@ -46,7 +46,7 @@ returns-then-has_ended c = record {
       let within : newest_place h ≤ n + c.loop-i.i = omega (arith, l) in
       let clock = subst (λ (k : ℕ). IsClock c.args.part.now kept (clock_in c.byte.new.self) h k) sum (c.byte.ensures.stands kept h (n + c.loop-i.i) within before.0) in
       let none = none_more c.args.part.now kept h n c.loop-i.i before.1 (sym (c.byte.ensures.fires kept h (n + c.loop-i.i) within before.0) ∙ c.if-byte.false) in
-      c.bytes_after_end.ensures.takes kept h n (record { newest = l; none_fires = none; ended = sym (c.has_ended.ensures.value c.args.part.now h (n + (c.loop-i.i + 1)) clock.startup) ∙ c.if-has_ended.true; stands = clock }));
+      c.bytes_after_end.ensures.takes kept h n (record { newest = l; none_fires = none; ended = sym (c.startup_ended.ensures.value c.args.part.now h (n + (c.loop-i.i + 1)) clock.startup) ∙ c.if-startup_ended.true; stands = clock }));
 }
 
 pub bytes_after_end-requires : goal.bytes_after_end-requires

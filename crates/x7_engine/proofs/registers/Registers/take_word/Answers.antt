@@ -25,12 +25,12 @@ returns-clause-enters c = λ kept h n some s.
     let same : n + c.args.count ≡ n + (c.args.count - 0) = omega arith in
     let before : RegistersStandFor c.args.part.now kept (registers_in c.take_bytes-left.new.self) h (n + c.args.count) =
     subst (λ (m : ℕ). RegistersStandFor c.args.part.now kept (registers_in c.take_bytes-left.new.self) h m) all (c.take_bytes-left.ensures.enters kept h n s) in
-    subst (λ (m : ℕ). RegistersStandFor c.args.part.now kept (registers_in c.write_to.new.self) (until (counted_in c.write_to.new.self.stop m) (entry (Write (target_number c.args.target) c.args.word) (n + c.args.count) ∷ h)) m) same
-    (all_counted c.args.part.now kept (registers_in c.write_to.new.self) (entry (Write (target_number c.args.target) c.args.word) (n + c.args.count) ∷ h) (n + c.args.count) (c.write_to.ensures.counts (n + c.args.count))
-    (c.write_to.ensures.enters kept h (n + c.args.count) (next_at n c.args.count h some s.places) before))
+    subst (λ (m : ℕ). RegistersStandFor c.args.part.now kept (registers_in c.write_word_to.new.self) (until (counted_in c.write_word_to.new.self.stop m) (entry (Write (target_number c.args.target) c.args.word) (n + c.args.count) ∷ h)) m) same
+    (all_counted c.args.part.now kept (registers_in c.write_word_to.new.self) (entry (Write (target_number c.args.target) c.args.word) (n + c.args.count) ∷ h) (n + c.args.count) (c.write_word_to.ensures.counts (n + c.args.count))
+    (c.write_word_to.ensures.enters kept h (n + c.args.count) (next_at n c.args.count h some s.places) before))
 
 pub returns-then-is_some-clause-leaves : goal.returns-then-is_some-clause-leaves
 returns-then-is_some-clause-leaves c = record { due = c.take_bytes-left.ensures.due; frames = subst (FramesFit c.args.part.now) (sym c.take_bytes-left.ensures.frames) c.requires.may_take.frames }
 
 pub returns-clause-leaves : goal.returns-clause-leaves
-returns-clause-leaves c = record { due = c.write_to.ensures.leaves.due ∙ c.take_bytes-left.ensures.due; frames = c.write_to.ensures.leaves.frames }
+returns-clause-leaves c = record { due = c.write_word_to.ensures.leaves.due ∙ c.take_bytes-left.ensures.due; frames = c.write_word_to.ensures.leaves.frames }

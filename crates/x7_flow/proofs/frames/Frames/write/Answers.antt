@@ -14,5 +14,5 @@ returns-clause-stands c = λ h settings are place.
 pub returns-clause-fault : goal.returns-clause-fault
 returns-clause-fault c = λ h settings are.
     word_fault_is c.args.part.now c.self.inside.pipeline c.self.inside.memory h (Write (number_of c.args.reg) c.args.word) c.take_written_word.result
-    (λ f. c.take_written_word.ensures.fault h f settings)
+    (c.take_written_word.ensures.fault h settings)
     (subst (λ (f : FramesState). FramesStandFor c.args.part.now f h 0) (sym c.self.view_is) are)

@@ -7,7 +7,7 @@ use Rattle.x7_engine.specs.Standing.{taken_in}
 use Rattle.x7_engine.proofs.FeedingLemmas.{takes_nothing}
 use Rattle.x7_engine.specs.UntilRead.{RoomBefore}
 use Rattle.x7_jtag.specs.Queue.{queue_of}
-use Rattle.x7_jtag.specs.Tap.{QueueState, words_taken}
+use Rattle.x7_jtag.specs.Tap.{QueueState, reads_taken}
 use Rattle.x7_jtag.proofs.GiveLemmas.{gives, given_within, none_got}
 use Rattle.x7_jtag.proofs.queue.Queue.give.Goals as goal
 
@@ -22,11 +22,11 @@ returns-clause-queue c = λ part q s.
     let device = s.holds.device in
     let read = c.feed-fed.ensures.gives.words part on_the_bench false bytes device in
     let none : read.0 ≡ [] = none_got read.0 c.feed-fed.new.read (read.1 ∙ ap (λ (b : ReadBufState). with_words b read.0) c.without_room.ensures) c.feed-fed.ensures.gives.within_most in
-    let silent : words_taken part c.feed-fed.new.self (bytes ++ take (taken_in (length piece) c.feed-fed.result) piece) ≡ words_taken part c.args.device.now bytes =
-    read.2 ∙ ap (λ (words : List ℕ). words_taken part c.args.device.now bytes ++ words) none ∙ append-nil (words_taken part c.args.device.now bytes) in
+    let silent : reads_taken part c.feed-fed.new.self (bytes ++ take (taken_in (length piece) c.feed-fed.result) piece) ≡ reads_taken part c.args.device.now bytes =
+    read.2 ∙ ap (λ (words : List ℕ). reads_taken part c.args.device.now bytes ++ words) none ∙ append-nil (reads_taken part c.args.device.now bytes) in
     gives part c.args.self.now c.feed.new.self c.args.device.now c.feed-fed.new.self c.feed.new.device q piece c.feed-fed.new.read c.feed-fed.result c.given_of-count.result s
     (omega (arith, c.if-self-gt0.false, ap (λ (q : QueueState). q.bits_left) c.self.view_is)) fits c.feed-fed.ensures.takes.within
     (c.feed-fed.ensures.takes.stands part on_the_bench false bytes device) (c.feed-fed.ensures.answer part on_the_bench false bytes device) silent
-    (subst (λ (b : ReadBufState). RoomBefore (record { part = part; kept = on_the_bench; wrapped = false; bytes = bytes }) piece (taken_in (length piece) c.feed-fed.result) (words_taken part c.args.device.now bytes) b) c.without_room.ensures
+    (subst (λ (b : ReadBufState). RoomBefore (record { part = part; kept = on_the_bench; wrapped = false; bytes = bytes }) piece (taken_in (length piece) c.feed-fed.result) (reads_taken part c.args.device.now bytes) b) c.without_room.ensures
     (c.feed-fed.ensures.gives.room part on_the_bench false bytes device)) (takes_nothing part on_the_bench false c.args.device.now c.feed-fed.new.self piece bytes (taken_in (length piece) c.feed-fed.result) c.feed-fed.ensures.takes device) c.given_of-count.ensures
     (λ given held out t. c.feed.ensures.queue part (queue_of given held out) t (λ l. absurd (omega (arith, l))))

@@ -16,4 +16,4 @@ returns-clause-writes c =
     let fits = all_from_places (λ b. b < 256) c.args.rest.now (λ k h. omega (arith, c.type_inv.rest k)) in
     writes_short c.args.self.now _ c.args.rest.now c.word_of-head.result _ _ synced same_mode none same_kept (omega (arith, c.if-rest-lt-LONGEST_SHORT_WRITE.false)) fits c.word_of-head.ensures.back
     (omega (arith, c.if-head-type1_write_header.false, c.type1_write_header.ensures)) c.register_in-register.ensures.most (other_register _ _ c.is_cmd.ensures c.if-is_cmd.false) (omega (arith, c.if-count-eq0.false)) (omega (arith, c.if-count-gt-MOST_SHORT_WORDS.false))
-    (λ ps n some few s. c.take_write_to_other.ensures.head ps n some few (subst (λ (m : MachineState). MachineStandsFor m ps) (sym (ap (λ (o : CutterState). o.machine) c.self.view_is)) s)) c.take_write_to_other.ensures.words
+    (λ n some few ps s. c.take_write_to_other.ensures.head n some few ps (subst (λ (m : MachineState). MachineStandsFor m ps) (sym (ap (λ (o : CutterState). o.machine) c.self.view_is)) s)) c.take_write_to_other.ensures.words

@@ -16,8 +16,8 @@ returns-then-not-is_cmd-clause-writes c =
     let w = c.in-Some.w in
     let calm = calm_word c.in-Some.register w (other_register c.in-Some.register _ c.if-not-is_cmd.ensures refl) in
     writes_one c.args.self.now _ c.args.rest.now _ w synced (same_mode ∙ sym (ap (λ (b : Bool). if b then Mode.Searching else Mode.Synced) calm)) (λ e. absurd (let f : true ≡ false = sym e ∙ calm in cc)) none same_kept c.in-Some.ensures
-    (λ ps s. c.take_write_to_other.ensures.head ps 1 (omega arith) (omega arith) (subst (λ (m : MachineState). MachineStandsFor m ps) (sym (ap (λ (o : CutterState). o.machine) c.self.view_is)) s))
-    (λ ps s. c.take_write_to_other.ensures.words ps (w ∷ []) (c.in-Some.ensures.fits, tt) (omega arith) s)
+    (λ ps s. c.take_write_to_other.ensures.head 1 (omega arith) (omega arith) ps (subst (λ (m : MachineState). MachineStandsFor m ps) (sym (ap (λ (o : CutterState). o.machine) c.self.view_is)) s))
+    (c.take_write_to_other.ensures.words (w ∷ []) (c.in-Some.ensures.fits, tt) (omega arith))
 
 pub returns-clause-writes : goal.returns-clause-writes
 returns-clause-writes c =

@@ -1,7 +1,7 @@
 use Rattle.std.proofs.Common.{◌+◌, ◌∙◌, [], length, ap, refl, sym, arith, eq-eqb, Some, None, Vec, ◌==◌, if◌then◌else◌}
 use Rattle.std.proofs.lemmas.Bool.{eqb-true, lt-ltb}
 use Rattle.x7_memory.specs.PartFrames.{frame_at}
-use Rattle.x7_pipeline.specs.FarAsRead.{has_frame_at}
+use Rattle.x7_pipeline.specs.FarAsRead.{is_frame_address}
 use Rattle.x7_part.specs.Slot.{slots_from}
 use Rattle.x7_pipeline.specs.PipelineFields.{pipeline_seen}
 use Rattle.x7_pipeline.specs.Pipeline.{PipelineData}
@@ -11,7 +11,7 @@ use Rattle.x7_pipeline.proofs.pipeline.Pipeline.write.Goals as goal
 
 pub returns-then-writes_nowhere-clause-fault : goal.returns-then-writes_nowhere-clause-fault
 returns-then-writes_nowhere-clause-fault c = λ f s.
-    let t = nowhere _ _ (has_frame_at c.args.part.now c.args.self.now.base) (sym c.writes_nowhere.ensures ∙ c.if-writes_nowhere.true) in
+    let t = nowhere _ _ (is_frame_address c.args.part.now c.args.self.now.base) (sym c.writes_nowhere.ensures ∙ c.if-writes_nowhere.true) in
     rw (ap (λ (v : PipelineData). v.base) c.self.view_is)
     (write_refused c.args.part.now c.args.self.now f.command f.base f.run f.source f.given s (eqb-true c.args.self.now.frame_count 0 t.0) (eqb-true (length c.args.self.now.rest) 0 t.1) t.2)
 
@@ -30,7 +30,7 @@ returns-then-len-self-clause-lands c = λ f s.
 pub returns-then-len-self-clause-fault : goal.returns-then-len-self-clause-fault
 returns-then-len-self-clause-fault c = λ f s.
     write_allowed c.args.part.now c.args.self.now f.command f.base f.run f.source f.given s
-    (λ none_whole no_rest. somewhere _ _ (has_frame_at c.args.part.now c.args.self.now.base) (sym c.writes_nowhere.ensures ∙ c.if-writes_nowhere.false)
+    (λ none_whole no_rest. somewhere _ _ (is_frame_address c.args.part.now c.args.self.now.base) (sym c.writes_nowhere.ensures ∙ c.if-writes_nowhere.false)
     (eq-eqb c.args.self.now.frame_count 0 none_whole) (eq-eqb (length c.args.self.now.rest) 0 no_rest))
     (λ full.
     let rest = ap (λ (v : PipelineData). length v.rest) c.self.view_is in
@@ -45,7 +45,7 @@ returns-then-slot_count-self-clause-fault c = λ f s.
     let short = c.self.invariant.short in
     let slots = c.slot_count.ensures.value in
     overrun_refused c.args.part.now c.args.self.now f.command f.base f.run f.source f.given s
-    (λ none_whole no_rest. somewhere _ _ (has_frame_at c.args.part.now c.args.self.now.base) (sym c.writes_nowhere.ensures ∙ c.if-writes_nowhere.false)
+    (λ none_whole no_rest. somewhere _ _ (is_frame_address c.args.part.now c.args.self.now.base) (sym c.writes_nowhere.ensures ∙ c.if-writes_nowhere.false)
     (eq-eqb c.args.self.now.frame_count 0 none_whole) (eq-eqb (length c.args.self.now.rest) 0 no_rest))
     (omega arith) (omega arith)
 
@@ -82,6 +82,6 @@ returns-clause-fault c = λ f s.
     let places = ap (λ (v : PipelineData). length (slots_from c.args.part.now v.base)) c.self.view_is in
     let slots = c.slot_count.ensures.value in
     write_allowed c.args.part.now c.args.self.now f.command f.base f.run f.source f.given s
-    (λ none_whole no_rest. somewhere _ _ (has_frame_at c.args.part.now c.args.self.now.base) (sym c.writes_nowhere.ensures ∙ c.if-writes_nowhere.false)
+    (λ none_whole no_rest. somewhere _ _ (is_frame_address c.args.part.now c.args.self.now.base) (sym c.writes_nowhere.ensures ∙ c.if-writes_nowhere.false)
     (eq-eqb c.args.self.now.frame_count 0 none_whole) (eq-eqb (length c.args.self.now.rest) 0 no_rest))
     (λ full. omega arith)

@@ -31,7 +31,8 @@ returns-in_err-take_line g c =
     let is : c.deref.result.now ≡ r.held ++ line = ◌∙◌ {A = List ℕ} {c = c.self.inside.held.items ++ c.first_line.result.0.now} c.deref.ensures.value c.in-Ok.ensures.items in
     line_fails taken fails r text piece line rest s e
     (λ more. subst (λ t. fails (s.lines ++ t ∷ split more)) is
-    (c.in_err-take_line.ensures.read first s.lines (omega (arith, c.saturating_add-self-inside.ensures, few_lines taken r text s, s.count, fits, length-append text piece)) s.took more)))
+    (c.in_err-take_line.ensures.read first s.lines
+    (record { number = omega (arith, c.saturating_add-self-inside.ensures, few_lines taken r text s, s.count, fits, length-append text piece); took = s.took }) more)))
 
 pub returns : goal.returns
 returns g c = λ first text fits now.
@@ -45,4 +46,4 @@ returns g c = λ first text fits now.
     let is : c.deref.result.now ≡ r.held ++ line = ◌∙◌ {A = List ℕ} {c = c.self.inside.held.items ++ c.first_line.result.0.now} c.deref.ensures.value c.in-Ok.ensures.items in
     let n : c.saturating_add-self-inside.result ≡ r.count + 1 = omega (arith, c.saturating_add-self-inside.ensures, few_lines taken r text s, fits, length-append text piece) in
     line_ends taken r _ text piece line rest s e c.clear.ensures.items n
-    (subst (λ t. taken c.take_line.new.self (s.lines ++ t ∷ [])) is (c.in_ok-take_line.ensures.read first s.lines (omega (arith, n, s.count)) s.took))
+    (subst (λ t. taken c.take_line.new.self (s.lines ++ t ∷ [])) is (c.in_ok-take_line.ensures.read first s.lines (record { number = omega (arith, n, s.count); took = s.took })))

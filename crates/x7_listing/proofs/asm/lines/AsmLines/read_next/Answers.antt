@@ -3,13 +3,13 @@ use Rattle.x7_listing.proofs.asm.AsmLinesLemmas.{first_read, first_wants, next_r
 use Rattle.x7_listing.proofs.asm.lines.AsmLines.read_next.Goals as goal
 
 pub returns-then-line_number-eq1-clause-read : goal.returns-then-line_number-eq1-clause-read
-returns-then-line_number-eq1-clause-read c = λ lines m h. first_read c.read_first.result c.args.self.now c.read_first.new.self c.args.line.now lines (omega (arith, m, c.if-line_number-eq1.true)) c.read_first.ensures.reads c.read_first.ensures.room c.read_first.ensures.fault h
+returns-then-line_number-eq1-clause-read c = λ lines gets. first_read c.read_first.result c.args.self.now c.read_first.new.self c.args.line.now lines (omega (arith, gets.number, c.if-line_number-eq1.true)) c.read_first.ensures.reads c.read_first.ensures.room c.read_first.ensures.fault gets.took
 
 pub returns-then-line_number-eq1-clause-memory : goal.returns-then-line_number-eq1-clause-memory
-returns-then-line_number-eq1-clause-memory c = λ lines m h. first_wants c.read_first.result c.args.line.now lines (omega (arith, m, c.if-line_number-eq1.true))
+returns-then-line_number-eq1-clause-memory c = λ lines gets. first_wants c.read_first.result c.args.line.now lines (omega (arith, gets.number, c.if-line_number-eq1.true))
 
 pub returns-clause-memory : goal.returns-clause-memory
-returns-clause-memory c = λ lines m h. next_wants c.read_one.result c.args.self.now c.read_one.new.self c.args.line_number c.args.line.now lines m (λ e. omega (arith, e, c.if-line_number-eq1.false)) c.read_one.ensures.memory h
+returns-clause-memory c = λ lines gets. next_wants c.read_one.result c.args.self.now c.read_one.new.self c.args.line_number c.args.line.now lines gets.number (λ e. omega (arith, e, c.if-line_number-eq1.false)) c.read_one.ensures.memory gets.took
 
 pub returns-clause-read : goal.returns-clause-read
-returns-clause-read c = λ lines m h. next_read c.read_one.result c.args.self.now c.read_one.new.self c.args.line_number c.args.line.now lines m (λ e. omega (arith, e, c.if-line_number-eq1.false)) c.read_one.ensures.reads c.read_one.ensures.room c.read_one.ensures.fault h
+returns-clause-read c = λ lines gets. next_read c.read_one.result c.args.self.now c.read_one.new.self c.args.line_number c.args.line.now lines gets.number (λ e. omega (arith, e, c.if-line_number-eq1.false)) c.read_one.ensures.reads c.read_one.ensures.room c.read_one.ensures.fault gets.took

@@ -9,7 +9,7 @@ use Rattle.x7_update.specs.Writing.{OpeningSlot}
 use Rattle.x7_update.proofs.ByteLemmas.{bytes_write}
 use Rattle.x7_update.proofs.SwitchLemmas.{clears_to_open, opening, programs_switch}
 use Rattle.x7_update.proofs.KnownLemmas.{known_all, known_at, moments_weaker, on_ok_map, write_moments}
-use Rattle.x7_update.proofs.switch.open_slot.Goals as goal
+use Rattle.x7_update.proofs.switch.open_free_slot.Goals as goal
 
 pub returns-clause-writes : goal.returns-clause-writes
 returns-clause-writes g c =

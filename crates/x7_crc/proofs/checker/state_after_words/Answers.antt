@@ -4,7 +4,7 @@ use Rattle.x7_packets.specs.History.{entered_all}
 use Rattle.x7_packets.specs.Packet.{payload_steps}
 use Rattle.x7_crc.specs.Checker.{IsCheckState}
 use Rattle.x7_crc.proofs.CheckerLemmas.{plain_words}
-use Rattle.x7_crc.proofs.checker.after_words.Goals as goal
+use Rattle.x7_crc.proofs.checker.state_after_words.Goals as goal
 
 pub returns : goal.returns
 returns c = λ h n s.

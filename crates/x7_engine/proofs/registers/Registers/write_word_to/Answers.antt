@@ -1,4 +1,4 @@
-use Rattle.x7_engine.proofs.registers.Registers.write_to.Goals as goal
+use Rattle.x7_engine.proofs.registers.Registers.write_word_to.Goals as goal
 
 pub returns-in-Effective : goal.returns-in-Effective
 returns-in-Effective c = rw c.in-Effective.is c.write.ensures
