@@ -11,9 +11,10 @@ mod page;
 use crate::page::page_of;
 use std::alloc::Global;
 use std::io::{self, ErrorKind};
+use std::marker::Brand;
 use std::process::ExitCode;
 use std::{env, fs};
-use x7_files::{FileFlash, FileInputs, StdSink};
+use x7_files::{FileFlash, FileInputs, StdSink, World};
 use x7_tool::{Status, run};
 use x7_words::{Flash, Inputs, Sink, write_all};
 
@@ -68,9 +69,10 @@ fn command<I: Inputs, O: Sink, E: Sink, F: Flash>(
     }
 }
 
-/// Does what the words ask for over the system's files, and answers the exit status.
-fn with_files(rt: &HostRuntime, words: &Vec<String>) -> ExitCode {
-    let mut inputs = FileInputs::new(rt);
+/// Does what the words ask for over the system's files, and answers the exit status. `W` is a map from names to bytes that
+/// proofs alone know: whichever it is, `command` says what comes of it, as long as what the files give agrees with it.
+fn with_files<W: World>(rt: &HostRuntime, words: &Vec<String>) -> ExitCode {
+    let mut inputs = FileInputs::<HostRuntime, W>::new(rt);
     let mut flash = FileFlash::new(rt);
     let mut out = StdSink::new(rt.stdout());
     let mut err = StdSink::new(rt.stderr());
@@ -93,7 +95,7 @@ fn main(rt: HostRuntime) -> ExitCode {
         fs::open(&rt, NOTHING),
     ];
     match words(&rt) {
-        Ok(words) => with_files(&rt, &words),
+        Ok(words) => with_files::<Brand>(&rt, &words),
         Err(error) if error.kind() == ErrorKind::OutOfMemory => end_of(Status::NoMemory),
         Err(_) => ExitCode::from(NO_WORDS),
     }

@@ -1,29 +1,24 @@
 -- Lemmas on a boot, attempt after attempt.
-use Rattle.std.proofs.Common.{◌≡◌, ◌+◌, ℕ, List, [], ◌∷◌, ◌++◌, length, map, reverse, Option, None, Some, refl, ap, sym, subst, ◌∙◌, ◌<◌, ◌≤◌, Bool, true, false, arith}
+use Rattle.std.proofs.Common.{◌≡◌, ◌+◌, ℕ, suc, List, [], ◌∷◌, ◌++◌, length, map, reverse, Result, Ok, Err, IfOk, refl, ap, sym, subst, ◌∙◌, ◌<◌, ◌≤◌, Bool, true, false, arith}
 use Rattle.std.proofs.lemmas.List.{reverse-append}
-use Rattle.x7_words.specs.Flash.{IfKnown}
+use Rattle.x7_words.specs.Flash.{ExtentIsLength, FlashState, IfKnown}
 use Rattle.x7_words.specs.Word.{AreBytes}
+use Rattle.x7_words.specs.declared.flash_call.FlashCall.{FlashCall}
 use Rattle.x7_part.specs.Part.{PartData}
 use Rattle.x7_regs.specs.declared.boot_status.Kind.{Kind}
 use Rattle.x7_engine.specs.Kept.{is_fallback}
 use Rattle.x7_engine.specs.Standing.{DeviceState}
 use Rattle.x7_engine.specs.declared.kept.Kept.{Kept}
-use Rattle.x7_boot.specs.Attempt.{IsDeviceOf, AttemptCourse, AttemptEnds, attempt_at}
-use Rattle.x7_boot.specs.Boot.{IsBoot, HasLedTo, LeadsTo, most_iprogs, next_by, tried}
+use Rattle.x7_boot.specs.Attempt.{IsDeviceOf, AttemptCourse, AttemptEnds, AttemptStart, TakesByte, attempt_at}
+use Rattle.x7_boot.specs.Boot.{BootedState, BootsTo, IsBoot, HasLedTo, IsTakenFrom, BootTakesByte, LeadsTo, ReadsInAttempt, ReadsInAttempts, ReadsInBoot, most_iprogs, next_by, tried}
+use Rattle.x7_boot.specs.Reads.{FlashAnswers, HasCalled, IfAgrees, IsSince, answers_since}
 use Rattle.x7_boot.specs.declared.attempt.Ending.{Ending}
 use Rattle.x7_boot.specs.declared.boots.BootEnd.{BootEnd}
 use Rattle.x7_boot.specs.declared.boots.Tried.{Tried}
+use Rattle.x7_boot.specs.declared.fault.BootFault.{BootFault}
 use Rattle.x7_boot.specs.declared.next.Next.{Next}
 use Rattle.x7_boot.specs.declared.next.Next.TheVariants.{Again, Ends}
-
--- what holds of all bytes holds of those that are known
-pub where_all : (known : Option (List ℕ)) (P : List ℕ → Type 0) → ((all : List ℕ) → P all) → IfKnown known P
-where_all None P f = tt
-where_all (Some all) P f = f all
-
-pub where_on : (known : Option (List ℕ)) (P Q R : List ℕ → Type 0) → ((all : List ℕ) → P all → Q all → R all) → IfKnown known P → IfKnown known Q → IfKnown known R
-where_on None P Q R f p q = tt
-where_on (Some all) P Q R f p q = f all p q
+use Rattle.x7_boot.proofs.ReadLemmas.{IsLater, attempts_later, called_on, called_with, known_agrees, later_on, pages_with}
 
 one_more : (older : List AttemptCourse) (t : AttemptCourse) (attempts : List Tried) (next : Tried) → attempts ≡ reverse (map tried older) → next ≡ tried t → attempts ++ next ∷ [] ≡ reverse (map tried (t ∷ older))
 one_more older t attempts next e f =
@@ -75,7 +70,7 @@ led_ends part kept address all d ending attempts number next end led tries table
   device = tries.device;
 }
 
--- ---- where the bytes of the flash are known or not
+-- ---- of each flash that answers so
 
 -- what the table says of the attempt that left this device
 abbrev pub ByTable : DeviceState → Kept → ℕ → Ending → Next → Type 0
@@ -85,27 +80,58 @@ ByTable d kept number ending next = (part : PartData) (t : AttemptCourse) → Is
 abbrev pub known_as : Kept → ℕ → Ending → Tried
 known_as kept address ending = record { kind = kept.kind; address = address; ending = ending }
 
-pub led_next : (part old_part : PartData) (kept kept_now : Kept) (address address_now : ℕ) (known known_now : Option (List ℕ)) (d : DeviceState) (ending : Ending) (attempts now : List Tried) (number : ℕ) (next : Next)
-    → known_now ≡ known → old_part ≡ part → IfKnown known (λ all. AreBytes all → HasLedTo (attempt_at part kept address) all attempts number) → IfKnown known_now (λ all. AreBytes all → AttemptEnds (attempt_at old_part kept address) all d ending)
-    → ByTable d kept (number + 1) ending next → next ≡ Again kept_now address_now → now ≡ attempts ++ known_as kept address ending ∷ []
-    → IfKnown known (λ all. AreBytes all → HasLedTo (attempt_at part kept_now address_now) all now (number + 1))
-led_next part old_part kept kept_now address address_now known known_now d ending attempts now number next same e led tries table is items =
-    let here : IfKnown known (λ all. AreBytes all → AttemptEnds (attempt_at part kept address) all d ending) =
-    subst (λ (p : PartData). IfKnown known (λ all. AreBytes all → AttemptEnds (attempt_at p kept address) all d ending)) e (subst (λ (k : Option (List ℕ)). IfKnown k (λ all. AreBytes all → AttemptEnds (attempt_at old_part kept address) all d ending)) same tries) in
-    where_on known (λ all. AreBytes all → HasLedTo (attempt_at part kept address) all attempts number) (λ all. AreBytes all → AttemptEnds (attempt_at part kept address) all d ending) (λ all. AreBytes all → HasLedTo (attempt_at part kept_now address_now) all now (number + 1))
-    (λ all l t fits. subst (λ (a : List Tried). HasLedTo (attempt_at part kept_now address_now) all a (number + 1)) (sym items)
-    (led_on part kept kept_now address address_now all d ending attempts number next (l fits) (t fits) (table part) is)) led here
+-- an attempt after others, as what its flash answered says
+module _ (part : PartData) (kept : Kept) (address : ℕ) (flash : FlashAnswers) (attempts : List Tried) (number : ℕ) (led : IfAgrees flash (λ all. AreBytes all → HasLedTo (attempt_at part kept address) all attempts number)) where
+  module _ (d : DeviceState) (ending : Ending) (now : List Tried) (next : Next) (tries : IfAgrees flash (λ all. AreBytes all → AttemptEnds (attempt_at part kept address) all d ending)) (table : ByTable d kept (number + 1) ending next)
+      (items : now ≡ attempts ++ known_as kept address ending ∷ []) where
+    pub led_next : (kept_now : Kept) (address_now : ℕ) → next ≡ Again kept_now address_now → IfAgrees flash (λ all. AreBytes all → HasLedTo (attempt_at part kept_now address_now) all now (number + 1))
+    led_next kept_now address_now is = λ all agrees fits.
+        subst (λ (a : List Tried). HasLedTo (attempt_at part kept_now address_now) all a (number + 1)) (sym items)
+        (led_on part kept kept_now address address_now all d ending attempts number next (led all agrees fits) (tries all agrees fits) (table part) is)
 
-pub boot_ends : (part old_part : PartData) (kept : Kept) (address : ℕ) (known known_now : Option (List ℕ)) (d : DeviceState) (ending : Ending) (attempts now : List Tried) (number : ℕ) (next : Next) (end : BootEnd)
-    → known_now ≡ known → old_part ≡ part → IfKnown known (λ all. AreBytes all → HasLedTo (attempt_at part kept address) all attempts number) → IfKnown known_now (λ all. AreBytes all → AttemptEnds (attempt_at old_part kept address) all d ending)
-    → ByTable d kept (number + 1) ending next → next ≡ Ends end → now ≡ attempts ++ known_as kept address ending ∷ []
-    → IfKnown known (λ all. AreBytes all → IsBoot part all (record { attempts = now; end = end; device = d }))
-boot_ends part old_part kept address known known_now d ending attempts now number next end same e led tries table is items =
-    let here : IfKnown known (λ all. AreBytes all → AttemptEnds (attempt_at part kept address) all d ending) =
-    subst (λ (p : PartData). IfKnown known (λ all. AreBytes all → AttemptEnds (attempt_at p kept address) all d ending)) e (subst (λ (k : Option (List ℕ)). IfKnown k (λ all. AreBytes all → AttemptEnds (attempt_at old_part kept address) all d ending)) same tries) in
-    where_on known (λ all. AreBytes all → HasLedTo (attempt_at part kept address) all attempts number) (λ all. AreBytes all → AttemptEnds (attempt_at part kept address) all d ending) (λ all. AreBytes all → IsBoot part all (record { attempts = now; end = end; device = d }))
-    (λ all l t fits. subst (λ (a : List Tried). IsBoot part all (record { attempts = a; end = end; device = d })) (sym items)
-    (led_ends part kept address all d ending attempts number next end (l fits) (t fits) (table part) is)) led here
+    pub boot_ends : (end : BootEnd) → next ≡ Ends end → IfAgrees flash (λ all. AreBytes all → IsBoot part all (record { attempts = now; end = end; device = d }))
+    boot_ends end is = λ all agrees fits.
+        subst (λ (a : List Tried). IsBoot part all (record { attempts = a; end = end; device = d })) (sym items)
+        (led_ends part kept address all d ending attempts number next end (led all agrees fits) (tries all agrees fits) (table part) is)
+
+-- the calls of an attempt after those of others: what the attempt takes, the boot takes
+pub boot_due : (part old_part : PartData) (kept : Kept) (address : ℕ) (first start old new : FlashState) (attempts : List Tried) (number : ℕ) → IsSince first old → old.bytes ≡ start.bytes → new.extent ≡ old.extent → old_part ≡ part
+    → IfAgrees (answers_since first old) (λ all. AreBytes all → HasLedTo (attempt_at part kept address) all attempts number) → HasCalled (ReadsInAttempts part (answers_since first old) number) start old
+    → HasCalled (ReadsInAttempt (attempt_at old_part kept address) (answers_since first new)) old new → HasCalled (ReadsInAttempts part (answers_since first new) (number + 1)) start new
+boot_due part old_part kept address first start old new attempts number since same size part_is led due read =
+    let one : FlashAnswers = answers_since first old in
+    let latest : FlashAnswers = answers_since first new in
+    let later : IsLater one latest = later_on first old new since size read in
+    let a : AttemptStart = attempt_at part kept address in
+    let here : HasCalled (ReadsInAttempt a latest) old new = subst (λ (p : PartData). HasCalled (ReadsInAttempt (attempt_at p kept address) latest) old new) part_is read in
+    subst (λ (n : ℕ). HasCalled (ReadsInAttempts part latest n) start new) (suc_is number)
+    (called_on (ReadsInAttempts part one number) (ReadsInAttempt a latest) (ReadsInAttempts part latest (suc number)) start old new same
+    (λ xs ys before now. (
+      xs,
+      ys,
+      now.0,
+      refl,
+      attempts_later part one latest number xs later before,
+      pages_with (IsTakenFrom (TakesByte a) latest) (IsTakenFrom (BootTakesByte part number) latest) 0 now.0 ys (λ page it. record {
+        place = it.place;
+        inside = it.inside;
+        taken = λ all agrees fits.
+            let led_to = led all (later.agrees all agrees) fits in record { kept = kept; address = address; older = led_to.older; leads = led_to.leads; count = led_to.count; takes = it.taken all agrees fits };
+      }) now.1,
+    )) due here)
+  where
+    suc_is : (n : ℕ) → suc n ≡ n + 1
+    suc_is n = omega arith
+
+-- the calls of all attempts are those of the boot
+pub boot_reads : (part : PartData) (flash : FlashAnswers) (start now : FlashState) (number : ℕ) → HasCalled (ReadsInAttempts part flash number) start now → HasCalled (ReadsInBoot part flash) start now
+boot_reads part flash start now number = called_with (ReadsInAttempts part flash number) (ReadsInBoot part flash) start now (λ xs r. (number, r))
+
+-- a boot from a flash whose bytes are known, by what it read
+pub boot_known : {P : List FlashCall → Type 0} (part : PartData) (old new : FlashState) (result : Result BootedState BootFault) → new.extent ≡ old.extent → ExtentIsLength old → HasCalled P old new → IfOk result (BootsTo part (answers_since old new))
+    → IfOk result (λ booted. IfKnown old.bytes (λ all. AreBytes all → IsBoot part all booted))
+boot_known part old new (Ok booted) size long called boots = known_agrees old new (λ all. AreBytes all → IsBoot part all booted) size long called boots.booted
+boot_known part old new (Err fault) size long called boots = tt
 
 -- a seventeenth attempt is a fallback, and the last
 pub attempts_next : (kind kind_now : Kind) (number : ℕ) → (is_fallback kind_now ≡ true → is_fallback kind ≡ false) → (is_fallback kind_now ≡ false → number + 1 < most_iprogs) → (is_fallback kind ≡ false → number < most_iprogs) → number + 1 ≤ most_iprogs

@@ -1,10 +1,11 @@
 -- Lemmas on an attempt over a flash: how it begins, goes on by a page, and ends.
-use Rattle.std.proofs.Common.{◌≡◌, ◌==◌, ◌+◌, ◌-◌, ◌^◌, ◌<◌, ◌≤◌, ℕ, suc, Bool, true, false, List, [], ◌++◌, length, take, drop, slice_range, Option, None, Some, IsSome, length-append, length-drop, length-take-le, take-add, take-append-drop, take-take, take_all, drop-drop, refl, ap, sym, subst, ◌∙◌, append_assoc, inl, inr, arith}
+use Rattle.std.proofs.Common.{◌≡◌, ◌==◌, ◌+◌, ◌-◌, ◌*◌, ◌/◌, ◌^◌, ◌<◌, ◌≤◌, ℕ, suc, Bool, true, false, List, [], ◌++◌, length, take, drop, slice_range, Option, None, Some, IsSome, Result, Ok, IfOk, length-append, length-drop, length-take-le, take-add, take-append-drop, take-take, take_all, drop-drop, refl, ap, sym, subst, ◌∙◌, append_assoc, inl, inr, arith}
 use Rattle.std.proofs.lemmas.Bool.{cases_lt}
 use Rattle.std.proofs.lemmas.List.{take-append-le}
 use Rattle.std.proofs.Math.Seq.{take-append-add, take-append_seam}
-use Rattle.x7_words.specs.Flash.{IfKnown}
+use Rattle.x7_words.specs.Flash.{FlashState}
 use Rattle.x7_words.specs.Word.{AreBytes}
+use Rattle.x7_words.specs.declared.flash_call.FlashCall.{FlashCall}
 use Rattle.x7_words.proofs.ListLemmas.{all_back, all_prefix}
 use Rattle.x7_part.specs.Part.{PartData}
 use Rattle.x7_regs.specs.declared.boot_status.Cause.TheVariants.{Wrap}
@@ -19,12 +20,18 @@ use Rattle.x7_engine.specs.Stop.{Stopped, fault_of_stop, stop_at_place}
 use Rattle.x7_engine.specs.Value.{failure_of}
 use Rattle.x7_engine.proofs.BootLemmas.{may_wrap, none_due_at_first}
 use Rattle.x7_engine.proofs.StateLemmas.{stop_is_final_state, stop_is_final_stop}
-use Rattle.x7_boot.specs.Attempt.{IsUnderWay, CanTakePage, NoneBefore, StepsTo, TookPiece, AttemptCourse, AttemptEnds, attempt_at, ending_at, ending_by, failed_by, past_in_flash}
+use Rattle.x7_boot.specs.Attempt.{IsUnderWay, CanTakePage, TakesByte, NoneBefore, StepsTo, TookPiece, AttemptCourse, AttemptEnds, AttemptStart, attempt_at, ending_at, ending_by, failed_by, past_in_flash}
 use Rattle.x7_boot.specs.declared.attempt.Ending.{Ending}
 use Rattle.x7_boot.specs.declared.attempt.Ending.TheVariants.{Started, Iprog, Failed}
 use Rattle.x7_boot.specs.declared.attempt.AttemptStep.{AttemptStep}
 use Rattle.x7_boot.specs.declared.attempt.AttemptStep.TheVariants.{GoesOn, Ends, Stops}
-use Rattle.x7_boot.proofs.BootedLemmas.{where_all}
+use Rattle.x7_boot.specs.Boot.{IsTakenFrom, ReadsInAttempt}
+use Rattle.x7_boot.specs.Pages.{EndsWithBlock, IsLoaded, LoadCalls, LoadsBy, ReadsPages, block_end, page_size}
+use Rattle.x7_boot.specs.declared.cache.Loaded.{Loaded}
+use Rattle.x7_boot.specs.declared.cache.Loaded.TheVariants.{Cached, Read}
+use Rattle.x7_boot.specs.declared.fault.BootFault.{BootFault}
+use Rattle.x7_boot.specs.Reads.{Agrees, FlashAnswers, HasCalled, IfAgrees, IsSince, answers_since}
+use Rattle.x7_boot.proofs.ReadLemmas.{IsLater, end_of, called_on, called_with, taken_later, later_on, pages_once, pages_with}
 use Rattle.x7_boot.proofs.TookLemmas.{ends_by_stop, ends_started}
 
 -- ---- nothing ends an attempt
@@ -68,20 +75,20 @@ none_at_first part kept = refl
 empty_range : (all : List ℕ) (at : ℕ) → [] ≡ slice_range all at at
 empty_range all at = let e : at - at ≡ 0 = omega arith in sym (ap (λ (n : ℕ). take n (drop at all)) e)
 
-pub feeds_first : (part : PartData) (kept : Kept) (address : ℕ) (known : Option (List ℕ)) (d : DeviceState) → DeviceStandsFor part kept false d [] → IsUnderWay (attempt_at part kept address) known d address
-feeds_first part kept address known d s = record {
+pub feeds_first : (part : PartData) (kept : Kept) (address : ℕ) (flash : FlashAnswers) (d : DeviceState) → DeviceStandsFor part kept false d [] → IsUnderWay (attempt_at part kept address) flash d address
+feeds_first part kept address flash d s = record {
   bytes = [];
   stands = s;
   going = refl;
   not_ended = none_at_first part kept;
   due = none_due_at_first part kept false d s;
   count = omega arith;
-  read = where_all known (λ all. [] ≡ slice_range all address address) (λ all. empty_range all address);
+  read = λ all agrees. empty_range all address;
   none = λ k l. absurd (omega (arith, l));
 }
 
-pub feeds_ready : (part : PartData) (kept : Kept) (address : ℕ) (known : Option (List ℕ)) (d : DeviceState) (at more : ℕ) → at + more ≤ 2 ^ 63 → IsUnderWay (attempt_at part kept address) known d at → CanTakePage d more
-feeds_ready part kept address known d at more l f = record {
+pub feeds_ready : (part : PartData) (kept : Kept) (address : ℕ) (flash : FlashAnswers) (d : DeviceState) (at more : ℕ) → at + more ≤ 2 ^ 63 → IsUnderWay (attempt_at part kept address) flash d at → CanTakePage d more
+feeds_ready part kept address flash d at more l f = record {
   part = part;
   kept = kept;
   bytes = f.bytes;
@@ -113,14 +120,14 @@ ranges_join all a b c l m =
     let d : drop b all ≡ drop (b - a) (drop a all) = sym (ap (λ (n : ℕ). drop n all) e) ∙ sym (drop-drop (b - a) a all) in
     ap (λ (x : List ℕ). take (b - a) (drop a all) ++ take (c - b) x) d ∙ sym (take-add (b - a) (c - b) (drop a all)) ∙ ap (λ (n : ℕ). take n (drop a all)) f
 
-joined_known : (known : Option (List ℕ)) (bytes page : List ℕ) (a b c : ℕ) → a ≤ b → b ≤ c → IfKnown known (λ all. bytes ≡ slice_range all a b) → IfKnown known (λ all. page ≡ slice_range all b c)
-    → IfKnown known (λ all. bytes ++ page ≡ slice_range all a c)
-joined_known None bytes page a b c l m e f = tt
-joined_known (Some all) bytes page a b c l m e f = ap (λ (x : List ℕ). x ++ page) e ∙ ap (λ (x : List ℕ). slice_range all a b ++ x) f ∙ ranges_join all a b c l m
+-- an attempt that is under way, by what its flash answered and by what it answered later
+pub feeds_later : (part : PartData) (kept : Kept) (address : ℕ) (one other : FlashAnswers) (d : DeviceState) (at : ℕ) → IsLater one other → IsUnderWay (attempt_at part kept address) one d at → IsUnderWay (attempt_at part kept address) other d at
+feeds_later part kept address one other d at later f =
+    record { bytes = f.bytes; stands = f.stands; going = f.going; not_ended = f.not_ended; due = f.due; count = f.count; read = λ all agrees. f.read all (later.agrees all agrees); none = f.none }
 
-pub feeds_on : (part : PartData) (kept : Kept) (address : ℕ) (known : Option (List ℕ)) (d new : DeviceState) (page : List ℕ) (at end : ℕ) (step : AttemptStep) → at + length page ≡ end → (f : IsUnderWay (attempt_at part kept address) known d at)
-    → IfKnown known (λ all. page ≡ slice_range all at end) → TookPiece (past_in_flash part kept f.bytes) new page step → step ≡ GoesOn → IsUnderWay (attempt_at part kept address) known new end
-feeds_on part kept address known d new page at end step sum f knows t goes =
+pub feeds_on : (part : PartData) (kept : Kept) (address : ℕ) (flash : FlashAnswers) (d new : DeviceState) (page : List ℕ) (at end : ℕ) (step : AttemptStep) → at + length page ≡ end → (f : IsUnderWay (attempt_at part kept address) flash d at)
+    → IfAgrees flash (λ all. page ≡ slice_range all at end) → TookPiece (past_in_flash part kept f.bytes) new page step → step ≡ GoesOn → IsUnderWay (attempt_at part kept address) flash new end
+feeds_on part kept address flash d new page at end step sum f knows t goes =
     let whole : t.count ≡ length page = t.all goes in
     let all : take t.count page ≡ page = ap (λ (n : ℕ). take n page) whole ∙ take_all (length page) page (omega arith) in
     let steps : StepsTo part kept (f.bytes ++ page) GoesOn = subst (λ (s : AttemptStep). StepsTo part kept (f.bytes ++ page) s) goes (subst (λ (b : List ℕ). StepsTo part kept (f.bytes ++ b) step) all t.steps) in
@@ -133,7 +140,7 @@ feeds_on part kept address known d new page at end step sum f knows t goes =
       not_ended = steps.1;
       due = t.due;
       count = omega (arith, count, long, sum);
-      read = joined_known known f.bytes page address at end (omega (arith, count)) (omega (arith, sum)) f.read knows;
+      read = λ all agrees. ap (λ (x : List ℕ). x ++ page) (f.read all agrees) ∙ ap (λ (x : List ℕ). slice_range all address at ++ x) (knows all agrees) ∙ ranges_join all address at end (omega (arith, count)) (omega (arith, sum));
       none = subst (λ (b : List ℕ). (k : ℕ) → k < length (f.bytes ++ b) → ending_at part kept (take k (f.bytes ++ b)) ≡ None) all (none_joined part kept f.bytes page t.count t.within f.none t.none);
     }
 
@@ -155,13 +162,13 @@ none_of part kept from bytes rest e none k l =
     subst (λ (b : List ℕ). ending_at part kept b ≡ None) (sym (ap (take k) e ∙ take-append-le k bytes rest (omega (arith, l)))) (none k l)
 
 -- the attempt of a page that ends it
-pub tries_ended : (part : PartData) (kept : Kept) (address : ℕ) (all : List ℕ) (d new : DeviceState) (page : List ℕ) (at end : ℕ) (step : AttemptStep) (e : Ending) → at ≤ end → (f : IsUnderWay (attempt_at part kept address) (Some all) d at)
+pub tries_ended : (part : PartData) (kept : Kept) (address : ℕ) (flash : FlashAnswers) (all : List ℕ) (d new : DeviceState) (page : List ℕ) (at end : ℕ) (step : AttemptStep) (e : Ending) → Agrees flash all → at ≤ end → (f : IsUnderWay (attempt_at part kept address) flash d at)
     → page ≡ slice_range all at end → TookPiece (past_in_flash part kept f.bytes) new page step → step ≡ Ends e → AttemptEnds (attempt_at part kept address) all new e
-tries_ended part kept address all d new page at end step e order f knows t is =
+tries_ended part kept address flash all d new page at end step e agrees order f knows t is =
     let bytes : List ℕ = f.bytes ++ take t.count page in
     let count : address + length f.bytes ≡ at = f.count in
     let rest : List ℕ = drop t.count page ++ drop (end - address) (drop address all) in
-    let from : drop address all ≡ bytes ++ rest = flash_from all f.bytes page address at end t.count (omega (arith, count)) order t.within f.read knows in
+    let from : drop address all ≡ bytes ++ rest = flash_from all f.bytes page address at end t.count (omega (arith, count)) order t.within (f.read all agrees) knows in
     let ends : ending_at part kept bytes ≡ Some e = subst (λ (s : AttemptStep). StepsTo part kept bytes s) is t.steps in
     let course : AttemptCourse = record { kept = kept; address = address; bytes = bytes; wrapped = false; ending = e } in
     record {
@@ -217,13 +224,13 @@ taken_stopped part kept d from bytes rest e fits stands some = by (first_stop_of
         sym (ap (λ (n : ℕ). take n from) count ∙ ap (take (length bytes)) e ∙ take-append_seam bytes rest)
 
 -- the attempt of a page in which the device stopped, where the flash has ended for it
-pub tries_stopped : (part : PartData) (kept : Kept) (address : ℕ) (all : List ℕ) (d new wrapped : DeviceState) (page : List ℕ) (at end : ℕ) (step : AttemptStep) → AreBytes all → at ≤ end → (f : IsUnderWay (attempt_at part kept address) (Some all) d at)
-    → page ≡ slice_range all at end → (t : TookPiece (past_in_flash part kept f.bytes) new page step) → step ≡ Stops → DeviceStandsFor part kept true wrapped (f.bytes ++ take t.count page) → AttemptEnds (attempt_at part kept address) all wrapped (Failed Wrap)
-tries_stopped part kept address all d new wrapped page at end step fits order f knows t is w =
+pub tries_stopped : (part : PartData) (kept : Kept) (address : ℕ) (flash : FlashAnswers) (all : List ℕ) (d new wrapped : DeviceState) (page : List ℕ) (at end : ℕ) (step : AttemptStep) (e : Ending) → Agrees flash all → AreBytes all → at ≤ end → (f : IsUnderWay (attempt_at part kept address) flash d at)
+    → page ≡ slice_range all at end → (t : TookPiece (past_in_flash part kept f.bytes) new page step) → step ≡ Stops → DeviceStandsFor part kept true wrapped (f.bytes ++ take t.count page) → e ≡ Failed Wrap → AttemptEnds (attempt_at part kept address) all wrapped e
+tries_stopped part kept address flash all d new wrapped page at end step e agrees fits order f knows t is w failed =
     let bytes : List ℕ = f.bytes ++ take t.count page in
     let count : address + length f.bytes ≡ at = f.count in
     let rest : List ℕ = drop t.count page ++ drop (end - address) (drop address all) in
-    let from : drop address all ≡ bytes ++ rest = flash_from all f.bytes page address at end t.count (omega (arith, count)) order t.within f.read knows in
+    let from : drop address all ≡ bytes ++ rest = flash_from all f.bytes page address at end t.count (omega (arith, count)) order t.within (f.read all agrees) knows in
     let stopped : StepsTo part kept bytes Stops = subst (λ (s : AttemptStep). StepsTo part kept bytes s) is t.steps in
     let fits' : AreBytes (bytes ++ rest) = subst AreBytes from (all_back (λ b. b < 256) (take address all) (drop address all) (subst AreBytes (sym (take-append-drop address all)) fits)) in
     record {
@@ -236,18 +243,19 @@ tries_stopped part kept address all d new wrapped page at end step fits order f 
       });
       kept_is = refl;
       address_is = refl;
-      ending_is = refl;
+      ending_is = sym failed;
       device = w;
     }
 
 -- the attempt that took all bytes of the flash
-pub tries_out : (part : PartData) (kept : Kept) (address : ℕ) (all : List ℕ) (d wrapped : DeviceState) (at : ℕ) → (f : IsUnderWay (attempt_at part kept address) (Some all) d at) → length all ≤ at
-    → DeviceStandsFor part kept true wrapped f.bytes → AttemptEnds (attempt_at part kept address) all wrapped (Failed Wrap)
-tries_out part kept address all d wrapped at f past w =
+pub tries_out : (part : PartData) (kept : Kept) (address : ℕ) (flash : FlashAnswers) (all : List ℕ) (d wrapped : DeviceState) (at : ℕ) (e : Ending) → Agrees flash all → (f : IsUnderWay (attempt_at part kept address) flash d at) → flash.extent ≤ at
+    → DeviceStandsFor part kept true wrapped f.bytes → e ≡ Failed Wrap → AttemptEnds (attempt_at part kept address) all wrapped e
+tries_out part kept address flash all d wrapped at e agrees f past w failed =
     let from : List ℕ = drop address all in
     let left : length from ≡ length all - address = length-drop address all in
     let count : address + length f.bytes ≡ at = f.count in
-    let whole : f.bytes ≡ from = f.read ∙ take_all (at - address) from (omega (arith, left, past, count)) in
+    let size : length all ≡ flash.extent = agrees.size in
+    let whole : f.bytes ≡ from = f.read all agrees ∙ take_all (at - address) from (omega (arith, left, past, count, size)) in
     let going : first_stop_of_bytes part kept from ≡ None = ap (first_stop_of_bytes part kept) (sym whole) ∙ f.going in
     let taken : taken_of part kept from ≡ length from = ap (λ (o : Option Stopped). taken_by o (length from)) going in
     record {
@@ -265,32 +273,77 @@ tries_out part kept address all d wrapped at f past w =
       });
       kept_is = refl;
       address_is = refl;
-      ending_is = refl;
+      ending_is = sym failed;
       device = w;
     }
-
--- ---- where the bytes of the flash are known or not
-
-pub known_out : (part : PartData) (kept : Kept) (address : ℕ) (known : Option (List ℕ)) (d wrapped : DeviceState) (at size : ℕ) (e : Ending) → (f : IsUnderWay (attempt_at part kept address) known d at) → size ≤ at
-    → IfKnown known (λ all. size ≡ length all) → DeviceStandsFor part kept true wrapped f.bytes → e ≡ Failed Wrap → IfKnown known (λ all. AreBytes all → AttemptEnds (attempt_at part kept address) all wrapped e)
-known_out part kept address None d wrapped at size e f past knows w is = tt
-known_out part kept address (Some all) d wrapped at size e f past knows w is =
-    λ fits. subst (λ (x : Ending). AttemptEnds (attempt_at part kept address) all wrapped x) (sym is) (tries_out part kept address all d wrapped at f (omega (arith, past, knows)) w)
-
-pub known_ended : (part : PartData) (kept : Kept) (address : ℕ) (known : Option (List ℕ)) (d new : DeviceState) (page : List ℕ) (at : ℕ) (step : AttemptStep) (e : Ending) → (f : IsUnderWay (attempt_at part kept address) known d at)
-    → IfKnown known (λ all. page ≡ slice_range all at (at + length page)) → TookPiece (past_in_flash part kept f.bytes) new page step → step ≡ Ends e → IfKnown known (λ all. AreBytes all → AttemptEnds (attempt_at part kept address) all new e)
-known_ended part kept address None d new page at step e f knows t is = tt
-known_ended part kept address (Some all) d new page at step e f knows t is = λ fits. tries_ended part kept address all d new page at (at + length page) step e (omega arith) f knows t is
-
-pub known_stopped : (part : PartData) (kept : Kept) (address : ℕ) (known : Option (List ℕ)) (d new wrapped : DeviceState) (page : List ℕ) (at : ℕ) (step : AttemptStep) (e : Ending) → (f : IsUnderWay (attempt_at part kept address) known d at)
-    → IfKnown known (λ all. page ≡ slice_range all at (at + length page)) → (t : TookPiece (past_in_flash part kept f.bytes) new page step) → step ≡ Stops → DeviceStandsFor part kept true wrapped (f.bytes ++ take t.count page) → e ≡ Failed Wrap
-    → IfKnown known (λ all. AreBytes all → AttemptEnds (attempt_at part kept address) all wrapped e)
-known_stopped part kept address None d new wrapped page at step e f knows t is w failed = tt
-known_stopped part kept address (Some all) d new wrapped page at step e f knows t is w failed =
-    λ fits. subst (λ (x : Ending). AttemptEnds (attempt_at part kept address) all wrapped x) (sym failed) (tries_stopped part kept address all d new wrapped page at (at + length page) step fits (omega arith) f knows t is w)
 
 -- a device that stopped, where the flash may end
 pub stops_here : (part : PartData) (kept : Kept) (d : DeviceState) (bytes page : List ℕ) (step : AttemptStep) → (kept.kind ≡ Bench → ⊥) → TookPiece (past_in_flash part kept bytes) d page step → step ≡ Stops → MayWrap d
 stops_here part kept d bytes page step boots t is =
     let steps : StepsTo part kept (bytes ++ take t.count page) Stops = subst (λ (s : AttemptStep). StepsTo part kept (bytes ++ take t.count page) s) is t.steps in
     ends_here part kept d (bytes ++ take t.count page) boots t.stands steps.1 t.due
+
+-- ---- what an attempt reads
+
+-- an attempt that is under way takes the next byte of the flash
+pub takes_next : (part : PartData) (kept : Kept) (address : ℕ) (flash : FlashAnswers) (all : List ℕ) (d : DeviceState) (at : ℕ) → IsUnderWay (attempt_at part kept address) flash d at → at < flash.extent → Agrees flash all → TakesByte (attempt_at part kept address) all at
+takes_next part kept address flash all d at f inside agrees =
+    let count : address + length f.bytes ≡ at = f.count in
+    let size : length all ≡ flash.extent = agrees.size in
+    let bytes : f.bytes ≡ slice_range all address at = f.read all agrees in
+    record {
+      from = omega (arith, count);
+      within = omega (arith, inside, size);
+      going = ap (first_stop_of_bytes part kept) (sym bytes) ∙ f.going;
+      none = λ k l. elim (cases_lt k (length f.bytes)) [
+        | inl early ↦ subst (λ (b : List ℕ). ending_at part kept b ≡ None) (ap (take k) bytes ∙ take-take k (at - address) (drop address all) (omega (arith, early, count))) (f.none k early)
+        | inr late ↦
+            let last : k ≡ at - address = omega (arith, l, late, count) in
+            ap (λ (n : ℕ). ending_at part kept (take n (drop address all))) last ∙ ap (ending_at part kept) (sym bytes) ∙ f.not_ended
+      ];
+    }
+
+-- the calls so far of an attempt that has come to a place: they read to the page of the place at most
+abbrev pub ReadsSoFar : AttemptStart → FlashAnswers → ℕ → List FlashCall → Type 0
+ReadsSoFar a flash place calls = (to : ℕ) × (place < flash.extent → to ≤ place / page_size * page_size) × ReadsPages (IsTakenFrom (TakesByte a) flash) 0 calls to
+
+-- where the bytes end that a load gave an attempt at a place, by the calls of the load
+load_end : (to at end number : ℕ) (block : List ℕ) (loaded : Loaded) (calls : List FlashCall) → to ≤ at / page_size * page_size → at ≤ end → number ≡ at / page_size
+    → LoadsBy number block loaded calls → (flash : FlashAnswers) → IsLoaded flash number block loaded → end < flash.extent → (bytes : List ℕ) → end ≡ at + length bytes → EndsWithBlock at block loaded bytes → end_of to calls ≤ end / page_size * page_size
+load_end to at end number block Cached calls l order same by flash read inside bytes sum ends = let e : end_of to calls ≡ to = ap (end_of to) by in omega (arith, e, l, order)
+load_end to at end number block (Read n) calls l order same by flash read inside bytes sum ends =
+    let e : end_of to calls ≡ number * page_size + length block = ap (end_of to) by in
+    let long : length block ≡ block_end number n flash.extent - number * page_size = read.1.long in
+    omega (arith, e, long, ends, same, sum, inside)
+
+module _ (part : PartData) (kept : Kept) (address : ℕ) (first start old new : FlashState) (d : DeviceState) (at : ℕ) (since : IsSince first old) (same : old.bytes ≡ start.bytes) (size : new.extent ≡ old.extent)
+    (f : IsUnderWay (attempt_at part kept address) (answers_since first old) d at) (inside : at < old.extent) (block : List ℕ) (due : HasCalled (ReadsSoFar (attempt_at part kept address) (answers_since first old) at) start old) where
+  -- the calls so far and those of a load
+  load_calls : (result : Result Loaded BootFault) → HasCalled (LoadCalls (at / page_size) block result) old new → (Q : List FlashCall → Type 0)
+      → ((xs ys : List FlashCall) (to : ℕ) → to ≤ at / page_size * page_size → IfOk result (λ loaded. LoadsBy (at / page_size) block loaded ys) → ReadsPages (IsTakenFrom (TakesByte (attempt_at part kept address)) (answers_since first new)) 0 (xs ++ ys) (end_of to ys) → Q (xs ++ ys))
+      → HasCalled Q start new
+  load_calls result read Q ends =
+      let a : AttemptStart = attempt_at part kept address in
+      let one : FlashAnswers = answers_since first old in
+      let latest : FlashAnswers = answers_since first new in
+      let later : IsLater one latest = later_on first old new since size read in
+      let g : IsUnderWay a latest d at = feeds_later part kept address one latest d at later f in
+      let here : IsTakenFrom (TakesByte a) latest (at / page_size) = record { place = at; inside = refl; taken = λ all agrees fits. takes_next part kept address latest all d at g (omega (arith, inside, size)) agrees } in
+      called_on (ReadsSoFar a one at) (LoadCalls (at / page_size) block result) Q start old new same
+      (λ xs ys r once. ends xs ys r.0 (r.1 inside) once.1
+      (pages_once (IsTakenFrom (TakesByte a) latest) 0 r.0 (at / page_size) xs ys (r.1 inside) (pages_with (IsTakenFrom (TakesByte a) one) (IsTakenFrom (TakesByte a) latest) 0 r.0 xs (taken_later (TakesByte a) one latest later) r.2) here once.0)) due read
+
+  -- the attempt ends there
+  pub load_ends : (result : Result Loaded BootFault) → HasCalled (LoadCalls (at / page_size) block result) old new → HasCalled (ReadsInAttempt (attempt_at part kept address) (answers_since first new)) start new
+  load_ends result read = load_calls result read (ReadsInAttempt (attempt_at part kept address) (answers_since first new)) (λ xs ys to l by r. (end_of to ys, r))
+
+  -- the attempt goes on after the bytes that were loaded
+  pub load_goes : (loaded : Loaded) (bytes : List ℕ) → HasCalled (LoadCalls (at / page_size) block (Ok loaded)) old new → IsLoaded (answers_since first new) (at / page_size) block loaded → EndsWithBlock at block loaded bytes
+      → HasCalled (ReadsSoFar (attempt_at part kept address) (answers_since first new) (at + length bytes)) start new
+  load_goes loaded bytes read is ends =
+      load_calls (Ok loaded) read (ReadsSoFar (attempt_at part kept address) (answers_since first new) (at + length bytes))
+      (λ xs ys to l by r. (end_of to ys, λ within. load_end to at (at + length bytes) (at / page_size) block loaded ys l (omega arith) refl by (answers_since first new) is within bytes refl ends, r))
+
+-- or at a place from which it loads nothing
+pub reads_so_far : (a : AttemptStart) (flash : FlashAnswers) (start now : FlashState) (at : ℕ) → HasCalled (ReadsSoFar a flash at) start now → HasCalled (ReadsInAttempt a flash) start now
+reads_so_far a flash start now at = called_with (ReadsSoFar a flash at) (ReadsInAttempt a flash) start now (λ xs r. (r.0, r.2))

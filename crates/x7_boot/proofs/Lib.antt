@@ -7,6 +7,7 @@ pub mod LeastLemmas
 pub mod OneBootLemmas
 pub mod OverLemmas
 mod PageLemmas
+pub mod ReadLemmas
 pub mod StartLemmas
 pub mod TookLemmas
 mod FlashAttemptLemmas

@@ -1,7 +1,6 @@
 -- A boot attempt: a device takes the bytes of a flash from an address on, up to what ends the attempt (UG470, MultiBoot
 -- and fallback; the end at the least byte, and at the flash's end, are this project's choice).
-use Rattle.std.specs.Prelude.{◌≡◌, ℕ, suc, ◌+◌, ◌<◌, ◌≤◌, ◌==◌, ◌⊎◌, Bool, true, false, if◌then◌else◌, List, ◌++◌, length, take, drop, slice_range, Option, None, Some, IsSome}
-use Rattle.x7_words.specs.Flash.{IfKnown}
+use Rattle.std.specs.Prelude.{◌≡◌, ℕ, suc, ◌+◌, ◌-◌, ◌<◌, ◌≤◌, ◌==◌, ◌⊎◌, Bool, true, false, if◌then◌else◌, List, ◌++◌, length, take, drop, slice_range, Option, None, Some, IsSome}
 use Rattle.x7_words.specs.Input.{taken_bytes_limit}
 use Rattle.x7_part.specs.Part.{PartData}
 use Rattle.x7_regs.specs.declared.boot_status.Cause.{Cause}
@@ -16,6 +15,7 @@ use Rattle.x7_engine.specs.declared.fed.Fed.TheVariants as fed
 use Rattle.x7_engine.specs.declared.kept.Kept.{Kept}
 use Rattle.x7_engine.specs.declared.stop.StopCause.{StopCause}
 use Rattle.x7_engine.specs.declared.stop.StopCause.TheVariants as stop
+use Rattle.x7_boot.specs.Reads.{FlashAnswers, IfAgrees}
 use Rattle.x7_boot.specs.declared.attempt.Ending.{Ending}
 use Rattle.x7_boot.specs.declared.attempt.Ending.TheVariants.{Started, Iprog, Failed}
 use Rattle.x7_boot.specs.declared.attempt.AttemptStep.{AttemptStep}
@@ -146,13 +146,21 @@ pub record AttemptEnds (a : AttemptStart) (flash : List ℕ) (d : DeviceState) (
   pub device : IsDeviceOf a.part d course
 
 -- an attempt that nothing has ended took the bytes of a flash from its address up to a place, and left the device `d`,
--- without a stop and with no word due; the bytes are the flash's, where these are known
-pub record IsUnderWay (a : AttemptStart) (known : Option (List ℕ)) (d : DeviceState) (place : ℕ) : Type 0 where
+-- without a stop and with no word due
+pub record IsUnderWay (a : AttemptStart) (flash : FlashAnswers) (d : DeviceState) (place : ℕ) : Type 0 where
   pub bytes : List ℕ
   pub stands : DeviceStandsFor a.part a.kept false d bytes
   pub going : first_stop_of_bytes a.part a.kept bytes ≡ None
   pub not_ended : ending_at a.part a.kept bytes ≡ None
   pub due : NoWordDue d
   pub count : a.address + length bytes ≡ place
-  pub read : IfKnown known (λ all. bytes ≡ slice_range all a.address place)
+  pub read : IfAgrees flash (λ all. bytes ≡ slice_range all a.address place)
   pub none : (k : ℕ) → k < length bytes → ending_at a.part a.kept (take k bytes) ≡ None
+
+-- an attempt that began as `a` says, over a flash of these bytes, takes the byte at a place: none before it stopped the
+-- device or ended the attempt
+pub record TakesByte (a : AttemptStart) (flash : List ℕ) (place : ℕ) : Type 0 where
+  pub from : a.address ≤ place
+  pub within : place < length flash
+  pub going : first_stop_of_bytes a.part a.kept (slice_range flash a.address place) ≡ None
+  pub none : NoneBefore a.part a.kept (drop a.address flash) (suc (place - a.address))

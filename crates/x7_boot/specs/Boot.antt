@@ -6,9 +6,9 @@
 --     IPROG                    an attempt at the start address in WBSTAR; from attempt 16 on, a loop
 --     a failure                a fallback at address 0; where the failed attempt is a fallback, or CTL0 forbids
 --                              fallbacks, the boot stops
-use Rattle.std.specs.Prelude.{◌≡◌, ℕ, ◌+◌, ◌*◌, ◌==◌, ◌||◌, nat_le, if◌then◌else◌, List, [], ◌∷◌, length, map, reverse, Option, None}
-use Rattle.x7_words.specs.Flash.{IfKnown}
+use Rattle.std.specs.Prelude.{◌≡◌, ℕ, zero, suc, ◌+◌, ◌*◌, ◌/◌, ◌==◌, ◌||◌, nat_le, if◌then◌else◌, List, [], ◌∷◌, ◌++◌, length, map, reverse, None}
 use Rattle.x7_words.specs.Word.{AreBytes, field_of}
+use Rattle.x7_words.specs.declared.flash_call.FlashCall.{FlashCall}
 use Rattle.x7_part.specs.Part.{PartData}
 use Rattle.x7_part.specs.Limits.{large_start_unit}
 use Rattle.x7_regs.specs.Control.{forbids_fallback}
@@ -18,7 +18,9 @@ use Rattle.x7_engine.specs.Standing.{DeviceState, NoWordDue}
 use Rattle.x7_engine.specs.State.{kept_after, state_of}
 use Rattle.x7_engine.specs.declared.kept.Kept.{Kept}
 use Rattle.x7_engine.specs.declared.snapshot.Snapshot.{Snapshot}
-use Rattle.x7_boot.specs.Attempt.{AttemptStart, IsDeviceOf, IsFlashAttempt, AttemptCourse}
+use Rattle.x7_boot.specs.Attempt.{AttemptStart, IsDeviceOf, IsFlashAttempt, AttemptCourse, TakesByte, attempt_at}
+use Rattle.x7_boot.specs.Pages.{ReadsPages, page_size}
+use Rattle.x7_boot.specs.Reads.{FlashAnswers, IfAgrees}
 use Rattle.x7_boot.specs.declared.attempt.Ending.{Ending}
 use Rattle.x7_boot.specs.declared.attempt.Ending.TheVariants as ending
 use Rattle.x7_boot.specs.declared.boots.BootEnd.{BootEnd}
@@ -95,10 +97,10 @@ pub record IsBoot (part : PartData) (flash : List ℕ) (b : BootedState) : Type 
   pub attempts : b.attempts ≡ reverse (map tried (last ∷ older))
   pub device : IsDeviceOf part b.device last
 
--- What a boot of a part comes to: where the flash's bytes are known, and are bytes, the boot is that of the part from
--- them; its device is one of the part, and owes no word that it read out.
-pub record BootsTo (part : PartData) (known : Option (List ℕ)) (b : BootedState) : Type 0 where
-  pub booted : IfKnown known (λ all. AreBytes all → IsBoot part all b)
+-- What a boot of a part comes to: whichever flash answers so, it is the boot of the part from its bytes; its device is
+-- one of the part, and owes no word that it read out.
+pub record BootsTo (part : PartData) (flash : FlashAnswers) (b : BootedState) : Type 0 where
+  pub booted : IfAgrees flash (λ all. AreBytes all → IsBoot part all b)
   pub keeps_part : b.device.part ≡ part
   pub no_word_due : NoWordDue b.device
 
@@ -109,3 +111,33 @@ pub record HasLedTo (a : AttemptStart) (flash : List ℕ) (attempts : List Tried
   pub leads : LeadsTo a.part flash older (Again a.kept a.address)
   pub tried_are : attempts ≡ reverse (map tried older)
   pub count : length older ≡ number
+
+-- in the boot of a part from a flash of these bytes, the attempt after `number` others takes the byte at a place
+pub record BootTakesByte (part : PartData) (number : ℕ) (flash : List ℕ) (place : ℕ) : Type 0 where
+  pub kept : Kept
+  pub address : ℕ
+  pub older : List AttemptCourse
+  pub leads : LeadsTo part flash older (Again kept address)
+  pub count : length older ≡ number
+  pub takes : TakesByte (attempt_at part kept address) flash place
+
+-- a byte of the page is taken, whichever flash answers so
+pub record IsTakenFrom (Takes : List ℕ → ℕ → Type 0) (flash : FlashAnswers) (page : ℕ) : Type 0 where
+  pub place : ℕ
+  pub inside : place / page_size ≡ page
+  pub taken : IfAgrees flash (λ all. AreBytes all → Takes all place)
+
+-- the calls read from pages of which an attempt takes a byte, each after all that the calls before it read
+abbrev pub ReadsInAttempt : AttemptStart → FlashAnswers → List FlashCall → Type 0
+ReadsInAttempt a flash calls = (to : ℕ) × ReadsPages (IsTakenFrom (TakesByte a) flash) 0 calls to
+
+-- the calls read from pages of which the first `number` attempts of a boot take a byte, one attempt after the other, and
+-- in each one after all that its calls before read
+abbrev pub ReadsInAttempts : PartData → FlashAnswers → ℕ → List FlashCall → Type 0
+ReadsInAttempts part flash zero calls = calls ≡ []
+ReadsInAttempts part flash (suc number) calls =
+    (before : List FlashCall) × (now : List FlashCall) × (to : ℕ) × (calls ≡ before ++ now) × ReadsInAttempts part flash number before × ReadsPages (IsTakenFrom (BootTakesByte part number) flash) 0 now to
+
+-- the calls read from pages of which the attempts of a boot take a byte, one attempt after the other
+abbrev pub ReadsInBoot : PartData → FlashAnswers → List FlashCall → Type 0
+ReadsInBoot part flash calls = (number : ℕ) × ReadsInAttempts part flash number calls

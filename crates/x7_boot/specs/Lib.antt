@@ -4,4 +4,5 @@ pub mod Text
 pub mod Checked
 pub mod BootCourse
 pub mod Image
+pub mod Reads
 pub mod Pages

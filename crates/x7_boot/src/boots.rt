@@ -1,12 +1,13 @@
 //! The boot of a device from a flash.
 ghost use Rattle.std.specs.Prelude.{◌≡◌, ◌<◌, ◌≤◌, ◌↔◌, [], true, Err, IfOk, IsErrOf, OnOk};
-ghost use Rattle.x7_words.specs.Flash.{FlashFails, IfKnown};
+ghost use Rattle.x7_words.specs.Flash.{FlashFails, FlashState, IfKnown};
 ghost use Rattle.x7_words.specs.Word.{AreBytes};
 ghost use Rattle.x7_words.specs.FlashCalls.{CallOnlyReads};
 ghost use Rattle.x7_engine.specs.Standing.{NoWordDue};
-ghost use Rattle.x7_boot.specs.Boot.{BootsTo, BootedState, IsBoot};
+ghost use Rattle.x7_boot.specs.Boot.{BootsTo, BootedState, IsBoot, ReadsInBoot};
 ghost use Rattle.x7_boot.specs.Image.{flash_limit};
 ghost use Rattle.x7_boot.specs.Pages.{FaultsCounted};
+ghost use Rattle.x7_boot.specs.Reads.{HasCalled, IfAgrees, IsSince, answers_since};
 
 use crate::attempt::Ending;
 use crate::cache::PageCache;
@@ -119,12 +120,16 @@ fn try_all<F: Flash>(
     pages: &mut PageCache,
     attempts: &mut Vec<Tried>,
 ) -> Result<BootEnd, BootFault>
+    // the flash as the boot found it
+    ghost first: { FlashState }
+    requires since { IsSince first (F.state flash.old) }
     requires attached { (F.state flash.old).attached ≡ true }
     requires limit { (F.state flash.old).extent ≤ flash_limit }
     requires no_pages { pages.old.pages.entries ≡ [] }
     requires none_tried { attempts.old.items ≡ [] }
-    ensures booted { IfOk result (λ end. BootsTo device.old.part (F.state flash.old).bytes
+    ensures booted { IfOk result (λ end. BootsTo device.old.part (answers_since first (F.state flash.new))
         (record { attempts = attempts.new.items; end = end; device = device.new })) }
+    ensures called { HasCalled (ReadsInBoot device.old.part (answers_since first (F.state flash.new))) (F.state flash.old) (F.state flash.new) }
     ensures faults { FaultsCounted (F.state flash.old).faults (F.state flash.new).faults result }
     ensures only_reads { CallOnlyReads F.Flash flash.old flash.new }
 {
@@ -158,7 +163,8 @@ fn try_all<F: Flash>(
 fn boot_part<F: Flash>(alloc: Global, part: &Part, flash: &mut F) -> Result<Booted, BootFault>
     requires attached { (F.state flash.old).attached ≡ true }
     requires limit { (F.state flash.old).extent ≤ flash_limit }
-    ensures booted { IfOk result (BootsTo part.now (F.state flash.old).bytes) }
+    ensures booted { IfOk result (BootsTo part.now (answers_since (F.state flash.old) (F.state flash.new))) }
+    ensures called { HasCalled (ReadsInBoot part.now (answers_since (F.state flash.old) (F.state flash.new))) (F.state flash.old) (F.state flash.new) }
     ensures faults { FaultsCounted (F.state flash.old).faults (F.state flash.new).faults result }
     ensures only_reads { CallOnlyReads F.Flash flash.old flash.new }
 {
@@ -181,7 +187,9 @@ fn boot_part<F: Flash>(alloc: Global, part: &Part, flash: &mut F) -> Result<Boot
 /// from the end of one to the next. Nothing is read of a flash that is too large.
 pub fn boot<F: Flash>(alloc: Global, part: &Part, flash: &mut F) -> Result<Booted, BootFault>
     requires attached { (F.state flash.old).attached ≡ true }
+    ensures as_read { IfOk result (λ booted. IfAgrees (answers_since (F.state flash.old) (F.state flash.new)) (λ all. AreBytes all → IsBoot part.now all booted)) }
     ensures booted { IfOk result (λ booted. IfKnown (F.state flash.old).bytes (λ all. AreBytes all → IsBoot part.now all booted)) }
+    ensures called { HasCalled (ReadsInBoot part.now (answers_since (F.state flash.old) (F.state flash.new))) (F.state flash.old) (F.state flash.new) }
     ensures part { IfOk result (λ booted. booted.device.part ≡ part.now) }
     ensures no_word_due { IfOk result (λ booted. NoWordDue booted.device) }
     ensures failed { IsErrOf result BootFault.Failed → FlashFails (F.state flash.old) (F.state flash.new) }

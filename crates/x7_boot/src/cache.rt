@@ -4,7 +4,8 @@ ghost use Rattle.std.specs.Map.{lookup};
 ghost use Rattle.x7_words.specs.Flash.{FlashState};
 ghost use Rattle.x7_words.specs.FlashCalls.{CallOnlyReads};
 ghost use Rattle.x7_boot.specs.Image.{flash_limit};
-ghost use Rattle.x7_boot.specs.Pages.{ArePages, FaultsCounted, HasPage, HoldsFrom, IsLoaded, IsRestOfPage, KeepsPages, BlockReaches, most_pages_at_once, page_size};
+ghost use Rattle.x7_boot.specs.Pages.{ArePages, FaultsCounted, HasPage, HoldsFrom, IsLoaded, IsRestOfPage, KeepsPages, LoadCalls, BlockReaches, EndsWithBlock, most_pages_at_once, page_size};
+ghost use Rattle.x7_boot.specs.Reads.{FlashAnswers, HasCalled, IsSince, answers_since};
 
 use crate::fault::BootFault;
 use crate::pages::{MOST_PAGES_AT_ONCE, PAGE_SIZE, read_block};
@@ -65,13 +66,17 @@ impl PageCache {
     /// Puts the page of a number into the cache, where it isn't there: it is read from the flash together with the
     /// pages after it up to the first that the cache has, sixteen in all at most.
     pub(crate) fn load<F: Flash>(&mut self, flash: &mut F, number: u64) -> Result<Loaded, BootFault>
+        // the flash as the boot found it
+        ghost first: { FlashState }
+        requires pages { ArePages (answers_since first (F.state flash.old)) self.old.pages.entries }
+        requires since { IsSince first (F.state flash.old) }
         requires attached { (F.state flash.old).attached ≡ true }
         requires within { number * page_size < (F.state flash.old).extent }
         requires limit { (F.state flash.old).extent ≤ flash_limit }
-        requires pages { ArePages (F.state flash.old) self.old.pages.entries }
-        ensures pages { ArePages (F.state flash.old) self.new.pages.entries }
+        ensures pages { ArePages (answers_since first (F.state flash.new)) self.new.pages.entries }
         ensures there { OnOk result (IsSome (lookup (nat_eq number) self.new.pages.entries)) }
-        ensures read { IfOk result (IsLoaded (F.state flash.old) number self.new.block.items) }
+        ensures read { IfOk result (IsLoaded (answers_since first (F.state flash.new)) number self.new.block.items) }
+        ensures called { HasCalled (LoadCalls number self.new.block.items result) (F.state flash.old) (F.state flash.new) }
         ensures faults { FaultsCounted (F.state flash.old).faults (F.state flash.new).faults result }
         ensures only_reads { CallOnlyReads F.Flash flash.old flash.new }
     {
@@ -154,7 +159,8 @@ impl PageCache {
     pub(crate) fn bytes_from(&self, place: u64, loaded: Loaded) -> &[u8]
         requires page { HasPage self.now.pages.entries place }
         requires block { BlockReaches place self.now.block.items loaded }
-        ensures { HoldsFrom self.now.pages.entries self.now.block.items place loaded result.now }
+        ensures holds { HoldsFrom self.now.pages.entries self.now.block.items place loaded result.now }
+        ensures ends { EndsWithBlock place self.now.block.items loaded result.now }
     {
         match loaded {
             Loaded::Cached => self.rest_of_page(place),
@@ -165,7 +171,7 @@ impl PageCache {
     /// The bytes from a place to the end of its page, which the cache has.
     fn rest_of_page(&self, place: u64) -> &[u8]
         requires { HasPage self.now.pages.entries place }
-        ensures { (flash : FlashState) → ArePages flash self.now.pages.entries → place < flash.extent → IsRestOfPage flash place result.now }
+        ensures { (flash : FlashAnswers) → ArePages flash self.now.pages.entries → place < flash.extent → IsRestOfPage flash place result.now }
     {
         match self.pages.peek(&(place / PAGE_SIZE)) {
             Some(page) => &page[(place % PAGE_SIZE) as usize..],

@@ -1,16 +1,18 @@
 //! An attempt over a flash: a device takes the flash's bytes, page by page.
-ghost use Rattle.std.specs.Prelude.{◌≡◌, ◌≤◌, ℕ, List, Option, true, false, IfOk};
+ghost use Rattle.std.specs.Prelude.{◌≡◌, ◌≤◌, ℕ, List, true, false, IfOk};
 ghost use Rattle.x7_regs.specs.declared.boot_status.Kind.TheVariants.{Bench};
 ghost use Rattle.x7_regs.specs.declared.boot_status.Cause.TheVariants.{Wrap};
-ghost use Rattle.x7_words.specs.Flash.{IfKnown};
+ghost use Rattle.x7_words.specs.Flash.{FlashState};
 ghost use Rattle.x7_words.specs.Word.{AreBytes};
 ghost use Rattle.x7_words.specs.FlashCalls.{CallOnlyReads};
 ghost use Rattle.x7_part.specs.Part.{PartData};
 ghost use Rattle.x7_engine.specs.declared.kept.Kept.{Kept as KeptData};
 ghost use Rattle.x7_engine.specs.Standing.{DeviceStandsFor, MayWrap, NoWordDue, with_wrap};
 ghost use Rattle.x7_boot.specs.Attempt.{IsUnderWay, AttemptEnds, attempt_at};
+ghost use Rattle.x7_boot.specs.Boot.{ReadsInAttempt};
 ghost use Rattle.x7_boot.specs.Image.{flash_limit};
 ghost use Rattle.x7_boot.specs.Pages.{ArePages, FaultsCounted};
+ghost use Rattle.x7_boot.specs.Reads.{FlashAnswers, HasCalled, IfAgrees, IsSince, answers_since};
 ghost use Rattle.x7_boot.specs.declared.attempt.Ending.TheVariants as ending;
 
 use crate::attempt::{AttemptStep, Ending, take_page};
@@ -35,7 +37,7 @@ fn run_out(device: &mut Device) -> Ending
 
 /// Resets a device for an attempt at this address.
 fn begin(device: &mut Device, kept: Kept, address: u32)
-    ensures { (known : Option (List ℕ)) → IsUnderWay (attempt_at device.old.part kept address) known device.new address }
+    ensures { (flash : FlashAnswers) → IsUnderWay (attempt_at device.old.part kept address) flash device.new address }
 {
     device.reset(kept);
 }
@@ -48,12 +50,16 @@ pub(crate) fn try_once<F: Flash>(
     kept: Kept,
     address: u32,
 ) -> Result<Ending, BootFault>
-    requires attached { (F.state flash.old).attached ≡ true }
+    // the flash as the boot found it
+    ghost first: { FlashState }
+    requires pages { ArePages (answers_since first (F.state flash.old)) pages.old.pages.entries }
+    requires since { IsSince first (F.state flash.old) }
     requires limit { (F.state flash.old).extent ≤ flash_limit }
+    requires attached { (F.state flash.old).attached ≡ true }
     requires not_on_bench { kept.kind ≡ Bench → ⊥ }
-    requires pages { ArePages (F.state flash.old) pages.old.pages.entries }
-    ensures pages { ArePages (F.state flash.old) pages.new.pages.entries }
-    ensures tried { IfOk result (λ ending. IfKnown (F.state flash.old).bytes (λ all. AreBytes all → AttemptEnds (attempt_at device.old.part kept address) all device.new ending)) }
+    ensures pages { ArePages (answers_since first (F.state flash.new)) pages.new.pages.entries }
+    ensures tried { IfOk result (λ ending. IfAgrees (answers_since first (F.state flash.new)) (λ all. AreBytes all → AttemptEnds (attempt_at device.old.part kept address) all device.new ending)) }
+    ensures called { HasCalled (ReadsInAttempt (attempt_at device.old.part kept address) (answers_since first (F.state flash.new))) (F.state flash.old) (F.state flash.new) }
     ensures part { IfOk result (λ ending. device.new.part ≡ device.old.part) }
     ensures no_word_due { IfOk result (λ ending. NoWordDue device.new) }
     ensures faults { FaultsCounted (F.state flash.old).faults (F.state flash.new).faults result }

@@ -2,7 +2,8 @@
 ghost use Rattle.std.specs.Prelude.{◌≡◌, ◌*◌, ◌<◌, ◌≤◌, true, OnOk};
 ghost use Rattle.x7_words.specs.FlashCalls.{CallOnlyReads};
 ghost use Rattle.x7_boot.specs.Image.{flash_limit};
-ghost use Rattle.x7_boot.specs.Pages.{IsBlock, FaultsCounted, most_pages_at_once, page_size};
+ghost use Rattle.x7_boot.specs.Pages.{IsBlock, BlockCalls, FaultsCounted, most_pages_at_once, page_size};
+ghost use Rattle.x7_boot.specs.Reads.{HasCalled, answers_since};
 
 use crate::fault::BootFault;
 use x7_words::Flash;
@@ -25,7 +26,8 @@ pub(crate) fn read_block<F: Flash>(
     requires within { number * page_size < (F.state flash.old).extent }
     requires count { count ≤ most_pages_at_once }
     requires limit { (F.state flash.old).extent ≤ flash_limit }
-    ensures read { OnOk result (IsBlock (F.state flash.old) number count block.new.items) }
+    ensures read { OnOk result (IsBlock (answers_since (F.state flash.old) (F.state flash.new)) number count block.new.items) }
+    ensures called { HasCalled (BlockCalls number block.new.items result) (F.state flash.old) (F.state flash.new) }
     ensures faults { FaultsCounted (F.state flash.old).faults (F.state flash.new).faults result }
     ensures only_reads { CallOnlyReads F.Flash flash.old flash.new }
 {

@@ -1,15 +1,22 @@
 -- Lemmas on the text of a boot, and on what a flash comes to.
-use Rattle.std.proofs.Common.{◌≡◌, ◌<◌, ◌≤◌, ◌++◌, ℕ, Bool, List, [], length, Option, None, Some, Result, Ok, Err, IfErr, IfOk, refl, ap, subst, sym, ◌∙◌, inl, inr, ◌⊎◌, arith}
+use Rattle.std.proofs.Common.{◌≡◌, ◌<◌, ◌≤◌, ◌++◌, ℕ, Bool, List, [], ◌∷◌, append_assoc, length, Option, None, Some, Result, Ok, Err, IfErr, IfOk, refl, ap, subst, sym, ◌∙◌, inl, inr, ◌⊎◌, arith}
 use Rattle.std.proofs.lemmas.Bool.{cases_lt}
-use Rattle.std.specs.Prelude.{IsTrue}
+use Rattle.std.proofs.lemmas.List.Elements.{All-head, All-tail}
+use Rattle.std.specs.Prelude.{IsTrue, All}
 use Rattle.x7_words.specs.Flash.{FlashIsAskedFor, FlashFails, FlashState, ExtentIsLength, OnlyReads, IfKnown}
+use Rattle.x7_words.specs.FlashHistory.{Gave, IsWithin, Makes, MayLeave, history_of}
 use Rattle.x7_words.specs.Word.{AreBytes}
+use Rattle.x7_words.specs.declared.flash_call.FlashCall.{FlashCall}
+use Rattle.x7_words.specs.declared.flash_call.FlashCall.TheVariants.{Attached, NotAttached, Erased, EraseFailed, Programmed, ProgramFailed}
+use Rattle.x7_words.specs.declared.flash_call.FlashCall.TheVariants as call
 use Rattle.x7_words.proofs.CountLemmas.{risen_from}
 use Rattle.x7_part.specs.Part.{PartData}
 use Rattle.x7_engine.specs.Standing.{NoWordDue}
 use Rattle.x7_engine.specs.State.{memory_of_bytes, state_of}
 use Rattle.x7_boot.specs.Attempt.{AttemptCourse}
-use Rattle.x7_boot.specs.Boot.{BootedState, IsBoot}
+use Rattle.x7_boot.specs.Boot.{BootedState, IsBoot, ReadsInBoot}
+use Rattle.x7_boot.proofs.ReadLemmas.{IsPageRead, boot_read}
+use Rattle.x7_boot.specs.Reads.{Agrees, FlashAnswers, HasCalled, IfAgrees, answers_since}
 use Rattle.x7_boot.specs.declared.boots.BootEnd.{BootEnd}
 use Rattle.x7_boot.specs.declared.boots.Tried.{Tried}
 use Rattle.x7_boot.specs.declared.fault.BootFault.{BootFault}
@@ -18,9 +25,12 @@ use Rattle.x7_boot.specs.Text.{boot_lines}
 use Rattle.x7_outcome.specs.Boot.{boot_text}
 use Rattle.x7_forms.specs.Event.{Event, event_of, no_memory, too_large}
 use Rattle.x7_boot.specs.Image.{flash_limit}
-use Rattle.x7_forms.specs.Known.{Answer, flash_found}
+use Rattle.x7_forms.specs.Known.{Answer, Held, flash_found}
 use Rattle.x7_outcome.specs.Outcome.{IsBootText, FlashBoots, boot_event, has_failed}
+use Rattle.x7_outcome.specs.Called.{AttachedAs}
+use Rattle.x7_outcome.specs.Leaving.{LeavesAsItWas}
 use Rattle.x7_outcome.specs.Outside.{ReadsFlash}
+use Rattle.x7_outcome.proofs.FlashLemmas.{since_are}
 use Rattle.x7_outcome.specs.Ending.{FlashComes}
 use Rattle.x7_outcome.specs.Play.{play_answer}
 use Rattle.x7_report.specs.Reports.{PlayTextState, report_text}
@@ -107,3 +117,48 @@ fault_boots name part old mid new past since boot_fault.Failed event r a s o is 
 fault_boots name part old mid new past since boot_fault.TooLarge event r a s o is failed large =
     inr (inr (subst (λ (f : Option (List ℕ)). FlashBoots name part (flash_found f) (Err event)) r.bytes (large_flash name part mid.bytes mid.extent event s (large refl) is), omega (arith, large refl, o.extent)))
 fault_boots name part old mid new past since boot_fault.NoMemory event r a s o is failed large = inl is
+
+-- ---- what a boot called
+
+-- a call that reads leaves a flash as it was
+read_leaves : (c : FlashCall) → IsPageRead c → (all now : List ℕ) → (IsWithin c all now → now ≡ all) × (Makes c all now → now ≡ all)
+read_leaves (call.Read place bytes) d all now = (λ w. w, λ m. m.0)
+read_leaves (call.ReadFailed place count) d all now = (λ w. w, λ m. m)
+read_leaves (Attached name size) d all now = absurd d.1
+read_leaves (NotAttached name fault) d all now = absurd d.1
+read_leaves (Erased sector) d all now = absurd d.1
+read_leaves (EraseFailed sector) d all now = absurd d.1
+read_leaves (Programmed place given) d all now = absurd d.1
+read_leaves (ProgramFailed place given) d all now = absurd d.1
+
+all_leave : (calls : List FlashCall) → All IsPageRead calls → (all found : List ℕ) → MayLeave calls all found → found ≡ all
+all_leave [] each all found h = h
+all_leave (c ∷ calls) each all found (inl w) = (read_leaves c (All-head IsPageRead c calls each) all found).0 w
+all_leave (c ∷ calls) each all found (inr h) = all_leave calls (All-tail IsPageRead c calls each) h.0 found h.2 ∙ (read_leaves c (All-head IsPageRead c calls each) all h.0).1 h.1
+
+-- the calls of a flash that was attached and booted from
+boot_calls : (name : List ℕ) (P : List FlashCall → Type 0) (old mid new : FlashState) → AttachedAs name old (history_of mid) → (c : HasCalled P mid new) → new.calls ≡ old.calls ++ Attached name mid.extent ∷ c.calls
+boot_calls name P old mid new a c = c.are ∙ ap (λ (l : List FlashCall). l ++ c.calls) a.made ∙ append_assoc old.calls (Attached name mid.extent ∷ []) c.calls
+
+-- a boot leaves the flash as it was
+pub boot_leaves : (name : List ℕ) (part : PartData) (flash : FlashAnswers) (old mid new : FlashState) → AttachedAs name old (history_of mid) → HasCalled (ReadsInBoot part flash) mid new → LeavesAsItWas old new
+boot_leaves name part flash old mid new a c = λ all found h.
+    by all found (subst (λ (l : List FlashCall). MayLeave l all found) (since_are old new (Attached name mid.extent ∷ c.calls) (boot_calls name (ReadsInBoot part flash) old mid new a c)) h)
+  where
+    by : (all found : List ℕ) → MayLeave (Attached name mid.extent ∷ c.calls) all found → found ≡ all
+    by all found (inl same) = same
+    by all found (inr h) = all_leave c.calls (boot_read part flash c.calls c.such) h.0 found h.2 ∙ h.1
+
+-- a flash that gives what was read since before the attach gives what was read since
+agrees_since : (name : List ℕ) (P : List FlashCall → Type 0) (old mid new : FlashState) (all : List ℕ) → AttachedAs name old (history_of mid) → HasCalled P mid new → Agrees (answers_since old new) all → Agrees (answers_since mid new) all
+agrees_since name P old mid new all a c h =
+    let whole : Gave all (Attached name mid.extent ∷ c.calls) = subst (Gave all) (since_are old new (Attached name mid.extent ∷ c.calls) (boot_calls name P old mid new a c)) h.gave in
+    record { size = h.size; gave = subst (Gave all) (sym (since_are mid new c.calls c.are)) whole }
+
+-- the text of a boot is that of every flash that gives what was read
+pub text_as_read : (name : List ℕ) (part : PartData) (P : List FlashCall → Type 0) (old mid new : FlashState) (b : BootedState) (got : Result PlayTextState Refusal) → AttachedAs name old (history_of mid) → HasCalled P mid new
+    → IfAgrees (answers_since mid new) (λ all. AreBytes all → IsBoot part all b) → NoWordDue b.device → IfOk got (λ text. AnswersBoot b (play_answer text)) → new.extent ≤ flash_limit
+    → IfOk got (λ text. IfAgrees (answers_since old new) (λ all. FlashBoots name part (Some (Held all)) (Ok (play_answer text))))
+text_as_read name part P old mid new b (Ok text) a c boots due ok size =
+    λ all agrees. (omega (arith, agrees.size, size), λ fits. ok part all (boots all (agrees_since name P old mid new all a c agrees) fits) due)
+text_as_read name part P old mid new b (Err x) a c boots due ok size = tt

@@ -1,5 +1,5 @@
 -- How a boot from a flash ends, and how large a flash is, and when it fails, by the event that ends a form.
-use Rattle.std.proofs.Common.{◌≡◌, ◌∙◌, ap, arith, ℕ, ◌≤◌, Bool, true, false, IfErr, List, [], ◌∷◌, Option, None, Some, Result, Ok, Err, refl, subst, sym, inl, inr}
+use Rattle.std.proofs.Common.{◌≡◌, ◌∙◌, ap, arith, ℕ, ◌≤◌, Bool, true, false, IfErr, IfOk, List, [], ◌∷◌, Option, None, Some, Result, Ok, Err, refl, subst, sym, inl, inr}
 use Rattle.std.specs.Prelude.{IsTrue}
 use Rattle.x7_words.specs.Flash.{FlashState, OnlyReads}
 use Rattle.x7_words.specs.Input.{InputsState}
@@ -9,12 +9,13 @@ use Rattle.x7_forms.specs.declared.bad_input.InputFault.{InputFault}
 use Rattle.x7_forms.specs.declared.refusal.Why.TheVariants as why
 use Rattle.x7_forms.specs.Event.{Event, bad_input, bad_part, event_of, missing, no_memory, reading_failed, too_large}
 use Rattle.x7_forms.specs.Form.{AskedForm, Booting, names_of}
-use Rattle.x7_forms.specs.Known.{Absent, Answer, Failing, Found, Known, Lacking, Mishap, flash_found, known_of, mishap_event, part_known, spoiled, spoiled_name, with_inputs, with_mishap}
+use Rattle.x7_forms.specs.Known.{Absent, Answer, Failing, Found, Held, Known, Lacking, Mishap, flash_found, known_of, mishap_event, part_known, spoiled, spoiled_name, with_inputs, with_mishap}
 use Rattle.x7_boot.specs.Image.{flash_limit}
+use Rattle.x7_boot.specs.Reads.{IfAgrees, answers_since}
 use Rattle.x7_forms.specs.declared.refusal.Refusal.{Refusal}
 use Rattle.x7_outcome.specs.Outcome.{BootedAs, FlashBoots, FormGives, no_text}
-use Rattle.x7_outcome.specs.Outside.{CameInRun, Outside, ReadsFlash, known_in}
-use Rattle.x7_outcome.specs.Ending.{GivesIfKnown, AnswersOver, FlashComes, IsMeasured, FailsLast, IsMissingOrFailed}
+use Rattle.x7_outcome.specs.Outside.{CameInRun, Outside, ReadsFlash, Sources, known_in}
+use Rattle.x7_outcome.specs.Ending.{GivesIfKnown, AnswersOver, BootsAsRead, FlashComes, IsMeasured, FailsLast, IsMissingOrFailed}
 use Rattle.x7_forms.specs.Step.{Among, CameIn, DueBy, IsCaused, IsCausedBy, IsDecided, IsDue, IsNoPart, IsPossible, IsUnread, result_by, step_over}
 use Rattle.x7_forms.proofs.ReadLemmas.{outside_goes, part_steady}
 use Rattle.x7_outcome.proofs.FlashLemmas.{answers_over, not_fault, not_large}
@@ -59,31 +60,46 @@ read_due : {A : Type 0} (known : Option Known) (C : Mishap → Type 0) (due : Kn
 read_due known C due a (inl h) = absurd h
 read_due known C due a (inr h) = h
 
+-- a boot of a part that was read, over a flash that gives what was read
+pub known_boots : (contents : Option (List ℕ → Option (List ℕ))) (C : Mishap → Type 0) (name part_name : List ℕ) (part : PartData) (all : List ℕ) (answer : Answer) → IsCaused {A = PartData} (with_inputs contents (Some all)) C (λ t. part_known t part_name) (Ok part)
+    → FlashBoots name part (Some (Held all)) (Ok answer) → GivesIfKnown (with_inputs contents (Some all)) (Booting part_name name) (Ok answer)
+known_boots None C name part_name part all answer read h = tt
+known_boots (Some inputs) C name part_name part all answer read h =
+    let known = known_of inputs (Some all) in
+    let is = read_due (Some known) C (λ t. part_known t part_name) part read in
+    subst (λ (r : Result PartData Event). BootedAs name r (Some (Held all)) (Ok answer)) (sym is.1) h
+
+-- the text of a boot, whether it is ready or not
+pub boots_as_read : {A : Type 0} (text_in : A → Answer) (C : Mishap → Type 0) (name part_name : List ℕ) (part : PartData) (old new : Sources) (got : Result A Refusal) → ((all : List ℕ) → IsCaused {A = PartData} (with_inputs new.inputs.contents (Some all)) C (λ t. part_known t part_name) (Ok part))
+    → IfOk got (λ text. IfAgrees (answers_since old.flash new.flash) (λ all. FlashBoots name part (Some (Held all)) (Ok (text_in text)))) → BootsAsRead (Some (Booting part_name name)) old new (result_by text_in got)
+boots_as_read text_in C name part_name part old new (Ok text) read h = λ all agrees. known_boots new.inputs.contents C name part_name part all (text_in text) (read all) (h all agrees)
+boots_as_read text_in C name part_name part old new (Err x) read h = tt
+
 both : (name : List ℕ) (part : PartData) (flash : Option (List ℕ)) (end : Result Answer Event) → FlashBoots name part (flash_found flash) end → IsPossible end × IsDecided end
 both name part flash (Ok answer) h = (tt, tt)
 both name part flash (Err event) h = large_is name (λ e. IsPossible {A = Answer} (Err e) × IsDecided {A = Answer} (Err e)) event (tt, tt) (flash_open name part flash event h)
 
 -- a boot of a part that was read, from a flash
-pub booted_ends : (old new : Outside) (name part_name : List ℕ) (part : PartData) (C : Mishap → Type 0) (end : Result Answer Event) → IsCaused (known_in old) C (λ known. part_known known part_name) (Ok part)
+pub booted_ends : (old new : Outside) (name part_name : List ℕ) (part : PartData) (C : Mishap → Type 0) (end : Result Answer Event) → IsCaused (known_in old new) C (λ known. part_known known part_name) (Ok part)
     → FlashComes name part old.flash new.flash end → AnswersOver (Booting part_name name) old new end
 booted_ends old new name part_name part C (Ok answer) read h =
-    booted_due (known_in old) old.flash.bytes (CameInRun (Some (Booting part_name name)) old new) name part_name part (Ok answer) (known_flash old.inputs.contents old.flash.bytes name) (tt, tt)
-    (read_due (known_in old) C (λ t. part_known t part_name) part read) h.0
+    booted_due (known_in old new) old.flash.bytes (CameInRun (Some (Booting part_name name)) old new) name part_name part (Ok answer) (known_flash new.inputs.contents old.flash.bytes name) (tt, tt)
+    (read_due (known_in old new) C (λ t. part_known t part_name) part read) h.0
 booted_ends old new name part_name part C (Err event) read (inl h) = subst (λ (e : Event). AnswersOver (Booting part_name name) old new (Err e)) (sym h) (inl (inl refl))
 booted_ends old new name part_name part C (Err event) read (inr (inl (inl h))) =
     subst (λ (e : Event). AnswersOver (Booting part_name name) old new (Err e)) (sym h.0)
-    (inl (inr (record { mishap = Lacking name; came = inr h.1; reports = refl; due = boot_mishap (known_in old) (Lacking name) name part_name part (missing name) refl refl refl (read_due (known_in old) C (λ t. part_known t part_name) part read) })))
+    (inl (inr (record { mishap = Lacking name; came = inr h.1; reports = refl; due = boot_mishap (known_in old new) (Lacking name) name part_name part (missing name) refl refl refl (read_due (known_in old new) C (λ t. part_known t part_name) part read) })))
 booted_ends old new name part_name part C (Err event) read (inr (inl (inr h))) =
     subst (λ (e : Event). AnswersOver (Booting part_name name) old new (Err e)) (sym h.0)
     (inl (inr (record {
       mishap = Failing name new.inputs.given;
       came = (refl, inr h.1);
       reports = refl;
-      due = boot_mishap (known_in old) (Failing name new.inputs.given) name part_name part (reading_failed name) refl refl refl (read_due (known_in old) C (λ t. part_known t part_name) part read);
+      due = boot_mishap (known_in old new) (Failing name new.inputs.given) name part_name part (reading_failed name) refl refl refl (read_due (known_in old new) C (λ t. part_known t part_name) part read);
     })))
 booted_ends old new name part_name part C (Err event) read (inr (inr h)) =
-    booted_due (known_in old) old.flash.bytes (CameInRun (Some (Booting part_name name)) old new) name part_name part (Err event) (known_flash old.inputs.contents old.flash.bytes name) (both name part old.flash.bytes (Err event) h.0)
-    (read_due (known_in old) C (λ t. part_known t part_name) part read) h.0
+    booted_due (known_in old new) old.flash.bytes (CameInRun (Some (Booting part_name name)) old new) name part_name part (Err event) (known_flash new.inputs.contents old.flash.bytes name) (both name part old.flash.bytes (Err event) h.0)
+    (read_due (known_in old new) C (λ t. part_known t part_name) part read) h.0
 
 -- ---- how large a flash is
 
@@ -186,11 +202,11 @@ boot_kept None C name part_name event (inr h) = inr h
 boot_kept (Some t) C name part_name event (inr h) = inr (h.0, subst (λ (r : Result PartData Event). BootedAs name r (t.flash name) (Err event)) (sym h.1) refl)
 
 pub part_refused : (old new : Outside) (name part_name : List ℕ) (event : Event)
-    → IsCaused {A = PartData} (known_in old) (CameIn (step_over (part_name ∷ []) old.inputs new.inputs)) (λ known. part_known known part_name) (Err event)
+    → IsCaused {A = PartData} (known_in old new) (CameIn (step_over (part_name ∷ []) old.inputs new.inputs)) (λ known. part_known known part_name) (Err event)
     → AnswersOver (Booting part_name name) old new (Err event)
 part_refused old new name part_name event read =
     answers_over (Booting part_name name) old new (Err event)
-    (boot_kept (known_in old) (CameIn (step_over (part_name ∷ []) old.inputs new.inputs)) name part_name event read)
+    (boot_kept (known_in old new) (CameIn (step_over (part_name ∷ []) old.inputs new.inputs)) name part_name event read)
 
 -- ---- a flash that is read at most
 

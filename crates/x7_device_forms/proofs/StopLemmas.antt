@@ -1,6 +1,6 @@
 -- Which input an event names of a form that shows a device or has a flash, and in which order flash and inputs are
 -- asked for.
-use Rattle.std.proofs.Common.{◌≤◌, suc, ◌≡◌, ◌+◌, ℕ, map, length, List, [], ◌∷◌, Bool, true, false, Option, Some, Result, Ok, Err, IfErr, ap, inl, inr, refl, subst, sym, ◌∙◌, arith, ◌⊎◌}
+use Rattle.std.proofs.Common.{◌≤◌, suc, ◌≡◌, ◌+◌, ℕ, map, length, List, [], ◌∷◌, Bool, true, false, Some, Result, Ok, Err, IfErr, ap, inl, inr, refl, subst, sym, ◌∙◌, arith, ◌⊎◌}
 use Rattle.std.proofs.lemmas.List.{length-map}
 use Rattle.x7_words.specs.Input.{AsksAtMost, InputsState}
 use Rattle.x7_words.proofs.InputLemmas.{few_more, few_on}
@@ -59,11 +59,9 @@ reads_only value form old now (Ok a) h = tt
 reads_only value form old now (Err x) h = reads_stop form old now (event_of x) h
 
 -- streams that are played one after the other, after a part
-pub streams_stop : (part : List ℕ) (streams : List (List ℕ)) (old mid now : InputsState) (event : Event) → mid.contents ≡ old.contents → AsksAtMost old 1 mid
-    → StopsAmong (limited_together mid.contents stream_limit streams) mid now event → StopsBy (cause_of_event event) (Playing part streams) old now event
-streams_stop part streams old mid now event e n h =
-    among_stops (Playing part streams) old now event (stops_after (limited part_limit part) (limited_together old.contents stream_limit streams) old mid now event n
-    (subst (λ (k : Option (List ℕ → Option (List ℕ))). StopsAmong (limited_together k stream_limit streams) mid now event) e h))
+pub streams_stop : (part : List ℕ) (streams : List (List ℕ)) (old mid now : InputsState) (event : Event) → AsksAtMost old 1 mid
+    → StopsAmong (limited_together now.contents stream_limit streams) mid now event → StopsBy (cause_of_event event) (Playing part streams) old now event
+streams_stop part streams old mid now event n h = among_stops (Playing part streams) old now event (stops_after (limited part_limit part) (limited_together now.contents stream_limit streams) old mid now event n h)
 
 -- the form's flash
 pub flash_stops : (form : AskedForm) (old now : InputsState) (event : Event) (name : List ℕ) → event.concerned ≡ name → Among (flash_names (Some form)) name → StopsBy (cause_of_event event) form old now event

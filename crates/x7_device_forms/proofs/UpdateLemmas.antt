@@ -25,12 +25,13 @@ use Rattle.x7_forms.specs.Status.{text_status}
 use Rattle.x7_forms.specs.Known.{Absent, Answer, Failing, Found, Known, Lacking, Mishap, flash_found, mishap_event, spoiled, spoiled_name, with_inputs, with_mishap}
 use Rattle.x7_forms.specs.Step.{Among, CameIn, DueBy, IsCaused, IsDecided, IsDue, IsPossible, IsUnplayed, step_over}
 use Rattle.x7_forms.proofs.ReadLemmas.{outside_goes}
-use Rattle.x7_outcome.specs.Leaving.{HasData, BytesAfterReason, MayBeFound, UsesFlash}
+use Rattle.x7_outcome.specs.Called.{CallsUpdate, OnlyAttaches, RefusesUpdate}
+use Rattle.x7_outcome.specs.Leaving.{HasData, BytesAfterReason, LeavesAnyFlash, MayBeFound, UsesFlash}
 use Rattle.x7_outcome.specs.Outcome.{FlashUpdates, FormGives, IsUpdateFault, UpdateNames, UpdatesBytes, UpdatesWith, no_text, stream_data, update_event}
 use Rattle.x7_outcome.specs.Outside.{CameInRun, Outside, known_in, sources}
 use Rattle.x7_outcome.specs.Ending.{GivesIfKnown, AnswersOver, CommandEndsAs, FailsLast, IsMeasured, IsUnattachedOrLarge}
 use Rattle.x7_device_forms.proofs.FlashLemmas.{bad_small, detached, other_fault, known_flash, unattached_measured, unread_last, unread_measured}
-use Rattle.x7_outcome.proofs.FlashLemmas.{came_wider, not_fault, not_large}
+use Rattle.x7_outcome.proofs.FlashLemmas.{attached_leaves, came_wider, not_fault, not_large}
 use Rattle.x7_outcome.proofs.EndingLemmas.{has_cause, leaves_all, near_all, no_break}
 use Rattle.x7_words.proofs.ListLemmas.{same_by_test, same_as_itself}
 
@@ -63,8 +64,8 @@ update_due None bytes flash stream end same o h = o.0
 update_due (Some t) bytes flash stream end same o h = (o.1, update_given t bytes flash stream end (same t refl) (h t refl))
 
 update_over : (flash stream : List ℕ) (old new : Outside) (end : Result Answer Event) → IsPossible end × IsDecided end
-    → ((t : Known) → known_in old ≡ Some t → UpdatesBytes (names flash stream) old.flash.bytes (stream_data t stream) end) → AnswersOver (UpdatingFlash flash stream) old new end
-update_over flash stream old new end o h = inr (update_due (known_in old) old.flash.bytes flash stream end (known_flash old.inputs.contents old.flash.bytes flash) o h)
+    → ((t : Known) → known_in old new ≡ Some t → UpdatesBytes (names flash stream) old.flash.bytes (stream_data t stream) end) → AnswersOver (UpdatingFlash flash stream) old new end
+update_over flash stream old new end o h = inr (update_due (known_in old new) old.flash.bytes flash stream end (known_flash new.inputs.contents old.flash.bytes flash) o h)
 
 agreed : (known : Option Known) (bytes : Option (List ℕ)) (flash stream : List ℕ) (end : Result Answer Event) → IsTold known flash bytes
     → ((t : Known) → known ≡ Some t → UpdatesBytes (names flash stream) bytes (stream_data t stream) end) → GivesIfKnown known (UpdatingFlash flash stream) end
@@ -143,19 +144,19 @@ fault_measured form n new NoMemory = not_large form new no_memory (λ r. absurd 
 -- a flash that can't be used
 pub attach_refused_over : (flash stream : List ℕ) (old new : Outside) (event : Event) → IsUnattachedOrLarge flash old.flash new.flash event → AnswersOver (UpdatingFlash flash stream) old new (Err event)
 attach_refused_over flash stream old new event (inl (inl h, d)) =
-    subst (λ (e : Event). AnswersOver (UpdatingFlash flash stream) old new (Err e)) (sym h.0) (inl (inr (record { mishap = Lacking flash; came = inr h.1; reports = refl; due = flash_due (known_in old) (Lacking flash) flash stream refl })))
+    subst (λ (e : Event). AnswersOver (UpdatingFlash flash stream) old new (Err e)) (sym h.0) (inl (inr (record { mishap = Lacking flash; came = inr h.1; reports = refl; due = flash_due (known_in old new) (Lacking flash) flash stream refl })))
 attach_refused_over flash stream old new event (inl (inr h, d)) =
-    subst (λ (e : Event). AnswersOver (UpdatingFlash flash stream) old new (Err e)) (sym h.0) (inl (inr (record { mishap = Failing flash new.inputs.given; came = (refl, inr h.1); reports = refl; due = flash_due (known_in old) (Failing flash new.inputs.given) flash stream refl })))
+    subst (λ (e : Event). AnswersOver (UpdatingFlash flash stream) old new (Err e)) (sym h.0) (inl (inr (record { mishap = Failing flash new.inputs.given; came = (refl, inr h.1); reports = refl; due = flash_due (known_in old new) (Failing flash new.inputs.given) flash stream refl })))
 attach_refused_over flash stream old new event (inr h) =
     subst (λ (e : Event). AnswersOver (UpdatingFlash flash stream) old new (Err e)) (sym h.0) (update_over flash stream old new (Err (too_large flash)) (tt, tt) (λ t e. inl (h.2, refl)))
 
 -- a stream that was not read
 pub unread_over : (flash stream : List ℕ) (old new : Outside) (event : Event) → IsWithin old.flash.bytes
-    → IsCaused {A = List ℕ} (known_in old) (CameIn (step_over (stream ∷ []) old.inputs new.inputs)) (λ t. stream_data t stream) (Err event) → AnswersOver (UpdatingFlash flash stream) old new (Err event)
+    → IsCaused {A = List ℕ} (known_in old new) (CameIn (step_over (stream ∷ []) old.inputs new.inputs)) (λ t. stream_data t stream) (Err event) → AnswersOver (UpdatingFlash flash stream) old new (Err event)
 unread_over flash stream old new event within (inl h) =
-    inl (outside_goes (List ℕ) Answer (known_in old) (CameIn (step_over (stream ∷ []) old.inputs new.inputs)) (CameInRun (Some (UpdatingFlash flash stream)) old new) (λ t r. stream_data t stream ≡ r) (λ t end. FormGives t (UpdatingFlash flash stream) end) event
-    (came_wider (UpdatingFlash flash stream) old new) (λ m e x. stream_due (known_in old) m old.flash.bytes flash stream event e (known_flash old.inputs.contents old.flash.bytes flash) within x) h)
-unread_over flash stream old new event within (inr h) = inr (unread_due (known_in old) old.flash.bytes flash stream event (known_flash old.inputs.contents old.flash.bytes flash) within h)
+    inl (outside_goes (List ℕ) Answer (known_in old new) (CameIn (step_over (stream ∷ []) old.inputs new.inputs)) (CameInRun (Some (UpdatingFlash flash stream)) old new) (λ t r. stream_data t stream ≡ r) (λ t end. FormGives t (UpdatingFlash flash stream) end) event
+    (came_wider (UpdatingFlash flash stream) old new) (λ m e x. stream_due (known_in old new) m old.flash.bytes flash stream event e (known_flash new.inputs.contents old.flash.bytes flash) within x) h)
+unread_over flash stream old new event within (inr h) = inr (unread_due (known_in old new) old.flash.bytes flash stream event (known_flash new.inputs.contents old.flash.bytes flash) within h)
 
 -- what was written to the output is what it had
 out_same : (old new : Outside) → new.out ≡ old.out → new.out.written ≡ old.out.written
@@ -170,17 +171,19 @@ keeps_all reason old new e = e
 
 -- an update that was refused
 pub refused_ends : (flash stream : List ℕ) (old new : Outside) (event : Event) → new.out ≡ old.out → IsMeasured (Some (UpdatingFlash flash stream)) new.flash (Err event)
-    → FailsLast (Some (UpdatingFlash flash stream)) old.inputs new.flash (Err event) → AnswersOver (UpdatingFlash flash stream) old new (Err event) → BytesAfterReason event.reason old.flash new.flash
-    → CommandEndsAs (Some (UpdatingFlash flash stream)) old new (Err event)
-refused_ends flash stream old new event out m l a kept =
+    → FailsLast (Some (UpdatingFlash flash stream)) new.inputs new.flash (Err event) → AnswersOver (UpdatingFlash flash stream) old new (Err event) → BytesAfterReason event.reason old.flash new.flash
+    → RefusesUpdate (names flash stream) old new event → CommandEndsAs (Some (UpdatingFlash flash stream)) old new (Err event)
+refused_ends flash stream old new event out m l a kept called =
     let form = UpdatingFlash flash stream in
     record {
       cause = has_cause form old new (Err event) a;
-      wrote = leaves_all form (cause_of_event event) old new event refl (no_break (known_in old) (CameInRun (Some form) old new) (λ t end. FormGives t form end) event a) (out_same old new out);
+      wrote = leaves_all form (cause_of_event event) old new event refl (no_break (known_in old new) (CameInRun (Some form) old new) (λ t end. FormGives t form end) event a) (out_same old new out);
       near = near_all form (status_of_event event) old new refl;
       measured = m;
       fails_last = l;
       updates = kept;
+      called = called;
+      as_read = tt;
     }
 
 -- the data of a stream that was read
@@ -214,12 +217,12 @@ cause_from bytes a b c (Differs place wrote read) e w f h = (h.0, sym e ∙ h.1,
 cause_from bytes a b c NoMemory e w f h = tt
 
 -- the flash can take the stream's data
-could_end : (flash stream bytes : List ℕ) (old : Outside) → IsWithin old.flash.bytes → HasData (known_in old) stream bytes → IfKnown old.flash.bytes (CanBeUpdatedWith bytes) → GivesIfKnown (known_in old) (UpdatingFlash flash stream) (Ok no_text)
-could_end flash stream bytes old within has can =
+could_end : (flash stream bytes : List ℕ) (old new : Outside) → IsWithin old.flash.bytes → HasData (known_in old new) stream bytes → IfKnown old.flash.bytes (CanBeUpdatedWith bytes) → GivesIfKnown (known_in old new) (UpdatingFlash flash stream) (Ok no_text)
+could_end flash stream bytes old new within has can =
     let known = old.flash.bytes in
     let n = names flash stream in
-    agreed (known_in old) known flash stream (Ok no_text) (known_flash old.inputs.contents known flash)
-    (λ t e. inr (within, subst (λ (r : Result (List ℕ) Event). UpdatesWith n known r (Ok no_text)) (sym (data_at (known_in old) stream bytes has t e)) (refl, can)))
+    agreed (known_in old new) known flash stream (Ok no_text) (known_flash new.inputs.contents known flash)
+    (λ t e. inr (within, subst (λ (r : Result (List ℕ) Event). UpdatesWith n known r (Ok no_text)) (sym (data_at (known_in old new) stream bytes has t e)) (refl, can)))
 
 -- the stream is good, whatever the flash holds
 stream_good : (contents : Option (List ℕ → Option (List ℕ))) (flash stream bytes : List ℕ) → HasData (with_inputs contents None) stream bytes → GivesIfKnown (with_inputs contents None) (UpdatingFlash flash stream) (Ok no_text)
@@ -237,80 +240,87 @@ fault_last flash stream bytes inputs new (Differs place wrote read) has size = n
 fault_last flash stream bytes inputs new NoMemory has size = not_fault (Some (UpdatingFlash flash stream)) inputs new no_memory (λ r. absurd (cc))
 
 -- an update that came to no end
-pub fault_ends : (flash stream bytes : List ℕ) (old new : Outside) (fault : UpdateFault) → new.out ≡ old.out → IsTrue (new.flash.names flash) → IsWithin old.flash.bytes → HasData (known_in old) stream bytes
-    → HasData (with_inputs old.inputs.contents None) stream bytes → new.flash.extent ≤ flash_limit → HasCause bytes old.flash new.flash fault → (IsEarly fault → new.flash.bytes ≡ old.flash.bytes)
-    → CommandEndsAs (Some (UpdatingFlash flash stream)) old new (Err (update_event (names flash stream) fault))
-fault_ends flash stream bytes old new (Failed true) out asked within has reads size h early =
+pub fault_ends : (flash stream bytes : List ℕ) (old new : Outside) (fault : UpdateFault) → new.out ≡ old.out → IsTrue (new.flash.names flash) → IsWithin old.flash.bytes → HasData (known_in old new) stream bytes
+    → HasData (with_inputs new.inputs.contents None) stream bytes → new.flash.extent ≤ flash_limit → HasCause bytes old.flash new.flash fault → (IsEarly fault → new.flash.bytes ≡ old.flash.bytes)
+    → RefusesUpdate (names flash stream) old new (update_event (names flash stream) fault) → CommandEndsAs (Some (UpdatingFlash flash stream)) old new (Err (update_event (names flash stream) fault))
+fault_ends flash stream bytes old new (Failed true) out asked within has reads size h early called =
     record {
-      cause = (refl, inr (h.0, size, could_end flash stream bytes old within has h.2));
-      fails_last = fault_last flash stream bytes old.inputs new.flash (Failed true) reads size;
+      cause = (refl, inr (h.0, size, could_end flash stream bytes old new within has h.2));
+      fails_last = fault_last flash stream bytes new.inputs new.flash (Failed true) reads size;
       wrote = out_same old new out;
       near = near_all
           (UpdatingFlash flash stream) (status_of_event writing_failed) old new refl;
       measured = fault_measured (Some (UpdatingFlash flash stream)) (names flash stream) new.flash
           (Failed true);
       updates = tt;
+      called = called;
+      as_read = tt;
     }
-fault_ends flash stream bytes old new (Failed false) out asked within has reads size h early =
-    refused_ends flash stream old new (reading_failed flash) out (fault_measured (Some (UpdatingFlash flash stream)) (names flash stream) new.flash (Failed false)) (fault_last flash stream bytes old.inputs new.flash (Failed false) reads size)
-    (inl (inr (record { mishap = Failing flash new.inputs.given; came = (refl, inr (record { among = inl refl; asked = asked; risen = h.0 })); reports = refl; due = flash_due (known_in old) (Failing flash new.inputs.given) flash stream refl }))) (inl h.0)
-fault_ends flash stream bytes old new TooLong out asked within has reads size h early =
-    refused_ends flash stream old new (bad_input stream input.Long) out (fault_measured (Some (UpdatingFlash flash stream)) (names flash stream) new.flash TooLong) (fault_last flash stream bytes old.inputs new.flash TooLong reads size)
-    (update_over flash stream old new (Err (bad_input stream input.Long)) (tt, tt) (λ t e. fault_known (names flash stream) old.flash.bytes (stream_data t stream) bytes TooLong within (data_at (known_in old) stream bytes has t e) h)) (early tt)
-fault_ends flash stream bytes old new (NoLayout place) out asked within has reads size h early =
-    refused_ends flash stream old new (bad_input flash (input.Layout place)) out (fault_measured (Some (UpdatingFlash flash stream)) (names flash stream) new.flash (NoLayout place)) (fault_last flash stream bytes old.inputs new.flash (NoLayout place) reads size)
+fault_ends flash stream bytes old new (Failed false) out asked within has reads size h early called =
+    refused_ends flash stream old new (reading_failed flash) out (fault_measured (Some (UpdatingFlash flash stream)) (names flash stream) new.flash (Failed false)) (fault_last flash stream bytes new.inputs new.flash (Failed false) reads size)
+    (inl (inr (record { mishap = Failing flash new.inputs.given; came = (refl, inr (record { among = inl refl; asked = asked; risen = h.0 })); reports = refl; due = flash_due (known_in old new) (Failing flash new.inputs.given) flash stream refl }))) (inl h.0) called
+fault_ends flash stream bytes old new TooLong out asked within has reads size h early called =
+    refused_ends flash stream old new (bad_input stream input.Long) out (fault_measured (Some (UpdatingFlash flash stream)) (names flash stream) new.flash TooLong) (fault_last flash stream bytes new.inputs new.flash TooLong reads size)
+    (update_over flash stream old new (Err (bad_input stream input.Long)) (tt, tt) (λ t e. fault_known (names flash stream) old.flash.bytes (stream_data t stream) bytes TooLong within (data_at (known_in old new) stream bytes has t e) h)) (early tt) called
+fault_ends flash stream bytes old new (NoLayout place) out asked within has reads size h early called =
+    refused_ends flash stream old new (bad_input flash (input.Layout place)) out (fault_measured (Some (UpdatingFlash flash stream)) (names flash stream) new.flash (NoLayout place)) (fault_last flash stream bytes new.inputs new.flash (NoLayout place) reads size)
     (update_over flash stream old new (Err (bad_input flash (input.Layout place))) (tt, tt)
-    (λ t e. fault_known (names flash stream) old.flash.bytes (stream_data t stream) bytes (NoLayout place) within (data_at (known_in old) stream bytes has t e) h)) (early tt)
-fault_ends flash stream bytes old new (Differs place wrote read) out asked within has reads size h early = record {
+    (λ t e. fault_known (names flash stream) old.flash.bytes (stream_data t stream) bytes (NoLayout place) within (data_at (known_in old new) stream bytes has t e) h)) (early tt) called
+fault_ends flash stream bytes old new (Differs place wrote read) out asked within has reads size h early called = record {
   cause = (
     (place, refl, h.1, record { bytes = bytes; has_data = has; wrote = wrote; read = read; wrong = h.0; first = h.2 }),
-    agreed (known_in old) old.flash.bytes flash stream (Err (differs flash place)) (known_flash old.inputs.contents old.flash.bytes flash)
-        (λ t e. fault_known (names flash stream) old.flash.bytes (stream_data t stream) bytes (Differs place wrote read) within (data_at (known_in old) stream bytes has t e) ((new.flash.extent, h.0), h.1)),
+    agreed (known_in old new) old.flash.bytes flash stream (Err (differs flash place)) (known_flash new.inputs.contents old.flash.bytes flash)
+        (λ t e. fault_known (names flash stream) old.flash.bytes (stream_data t stream) bytes (Differs place wrote read) within (data_at (known_in old new) stream bytes has t e) ((new.flash.extent, h.0), h.1)),
   );
   wrote = out_same old new out;
   near = near_all (UpdatingFlash flash stream) (status_of_event (differs flash place)) old new refl;
   measured = fault_measured (Some (UpdatingFlash flash stream)) (names flash stream) new.flash (Differs place wrote read);
-  fails_last = fault_last flash stream bytes old.inputs new.flash (Differs place wrote read) reads size;
+  fails_last = fault_last flash stream bytes new.inputs new.flash (Differs place wrote read) reads size;
   updates = tt;
+  called = called;
+  as_read = tt;
 }
-fault_ends flash stream bytes old new NoMemory out asked within has reads size h early = refused_ends flash stream old new no_memory out
-    (fault_measured (Some (UpdatingFlash flash stream)) (names flash stream) new.flash NoMemory) (fault_last flash stream bytes old.inputs new.flash NoMemory reads size) (inl (inl refl)) (early tt)
+fault_ends flash stream bytes old new NoMemory out asked within has reads size h early called = refused_ends flash stream old new no_memory out
+    (fault_measured (Some (UpdatingFlash flash stream)) (names flash stream) new.flash NoMemory) (fault_last flash stream bytes new.inputs new.flash NoMemory reads size) (inl (inl refl)) (early tt) called
 
 can_take : (known now : Option (List ℕ)) (bytes : List ℕ) → IfKnown known IsUpdatable → BecomesBytes (IsAfterUpdate bytes) known now → IfKnown known (CanBeUpdatedWith bytes)
 can_take None now bytes l b = tt
 can_take (Some all) now bytes l b = record { updatable = l; fits = b.2.fits }
 
 -- an update that is done
-pub done_ends : (flash stream bytes : List ℕ) (old new : Outside) → new.out ≡ old.out → IsWithin old.flash.bytes → HasData (known_in old) stream bytes → IfKnown old.flash.bytes IsUpdatable → new.flash.extent ≤ flash_limit → Becomes old.flash new.flash (IsAfterUpdate bytes)
-    → CommandEndsAs (Some (UpdatingFlash flash stream)) old new (Ok false)
-done_ends flash stream bytes old new out within has updatable size becomes =
+pub done_ends : (flash stream bytes : List ℕ) (old new : Outside) → new.out ≡ old.out → IsWithin old.flash.bytes → HasData (known_in old new) stream bytes → IfKnown old.flash.bytes IsUpdatable → new.flash.extent ≤ flash_limit → Becomes old.flash new.flash (IsAfterUpdate bytes)
+    → CallsUpdate flash bytes old.flash new.flash → CommandEndsAs (Some (UpdatingFlash flash stream)) old new (Ok false)
+done_ends flash stream bytes old new out within has updatable size becomes called =
     let known = old.flash.bytes in (
       [],
       record {
-        cause = could_end flash stream bytes old within has (can_take known new.flash.bytes bytes updatable becomes);
+        cause = could_end flash stream bytes old new within has (can_take known new.flash.bytes bytes updatable becomes);
         wrote = out_same old new out ∙ sym (appended_nil old.out.written);
         near = near_all (UpdatingFlash flash stream) (text_status false) old new refl;
         measured = λ name a. size;
         fails_last = tt;
         updates = (bytes, has, becomes);
+        called = (bytes, has, called);
+        as_read = tt;
       },
     )
 
 -- ---- what an update leaves of the flash
 
 -- a flash that was attached at most
-pub uses_opened : (flash stream : List ℕ) (inputs : InputsState) (old new : FlashState) (past since : ℕ → List ℕ → Type 0) → KeepsBytes old new past since → FlashIsAskedFor old flash new → UsesFlash (Some (UpdatingFlash flash stream)) (sources inputs old) new past since
-uses_opened flash stream inputs old new past since s a =
+pub uses_opened : (flash stream : List ℕ) (inputs : InputsState) (old new : FlashState) (past since : ℕ → List ℕ → Type 0) → KeepsBytes old new past since → FlashIsAskedFor old flash new → OnlyAttaches flash old new → UsesFlash (Some (UpdatingFlash flash stream)) (sources inputs old) new past since
+uses_opened flash stream inputs old new past since s a only =
     let known = with_inputs inputs.contents old.bytes in
     record {
       keeps = record { faults = s.faults; absences = s.absences; write_faults = omega (arith, s.unwritten.write_faults); no_other = a.no_other };
       moments = only_read old new past since (MayBeFound known (Some stream)) (λ all e. inl refl) s.bytes s.unwritten;
+      left = λ f found long fits h. inl (attached_leaves flash old new f found only h);
     }
 
 -- a flash that was attached and updated
 pub uses_updated : (flash stream bytes : List ℕ) (inputs : InputsState) (old mid new : FlashState) (past mids since : ℕ → List ℕ → Type 0) → KeepsBytes old mid past mids → FlashIsAskedFor old flash mid → HasData (with_inputs inputs.contents old.bytes) stream bytes
-    → OnlyUses mid new → AtAnyMoment mid new mids since (MayBeLeft bytes) → UsesFlash (Some (UpdatingFlash flash stream)) (sources inputs old) new past since
-uses_updated flash stream bytes inputs old mid new past mids since s a has o m =
+    → OnlyUses mid new → AtAnyMoment mid new mids since (MayBeLeft bytes) → LeavesAnyFlash (Some (UpdatingFlash flash stream)) (sources inputs old) new → UsesFlash (Some (UpdatingFlash flash stream)) (sources inputs old) new past since
+uses_updated flash stream bytes inputs old mid new past mids since s a has o m left =
     let P = MayBeFound (with_inputs inputs.contents old.bytes) (Some stream) in
     record {
       keeps = record {
@@ -320,4 +330,5 @@ uses_updated flash stream bytes inputs old mid new past mids since s a has o m =
         no_other = λ other h. a.no_other other (subst (λ (asked : List ℕ → Bool). IsTrue (asked other)) o.names h);
       };
       moments = read_moments old mid new past mids since P (λ all e. inl refl) s.bytes s.unwritten (moments_weaker mid new mids since (MayBeLeft bytes) P (λ all found e h. inr (bytes, has, h)) m);
+      left = left;
     }

@@ -1,5 +1,5 @@
 //! The command `boot`: which image a device starts from a flash, and why not another.
-ghost use Rattle.std.specs.Prelude.{◌≡◌, ◌≤◌, ℕ, List, [], IfErr, IfOk, true};
+ghost use Rattle.std.specs.Prelude.{◌≡◌, ◌≤◌, ℕ, List, [], Some, Ok, IfErr, IfOk, true};
 ghost use Rattle.x7_words.specs.FlashCalls.{CallWritesNothing};
 ghost use Rattle.x7_part.specs.Part.{PartData};
 ghost use Rattle.x7_boot.specs.Boot.{IsBoot};
@@ -7,7 +7,10 @@ ghost use Rattle.x7_engine.specs.Standing.{NoWordDue};
 ghost use Rattle.x7_forms.specs.Form.{Booting};
 ghost use Rattle.x7_boot.specs.Image.{flash_limit};
 ghost use Rattle.x7_forms.specs.Event.{event_of, no_memory, reading_failed};
-ghost use Rattle.x7_outcome.specs.Outcome.{IsBootText, boot_event, has_failed};
+ghost use Rattle.x7_boot.specs.Reads.{IfAgrees, answers_since};
+ghost use Rattle.x7_forms.specs.Known.{Held};
+ghost use Rattle.x7_outcome.specs.Leaving.{LeavesAsItWas};
+ghost use Rattle.x7_outcome.specs.Outcome.{FlashBoots, IsBootText, boot_event, has_failed};
 ghost use Rattle.x7_outcome.specs.Boot.{ForLastAttemptOf, boot_text};
 ghost use Rattle.x7_forms.specs.Step.{result_by};
 ghost use Rattle.x7_outcome.specs.Outside.{ReadsFlash, sources};
@@ -104,6 +107,9 @@ fn boot_from<'w, F: Flash>(
     ensures failed { IfErr result (λ r. event_of r ≡ reading_failed flash_name.now → (F.state flash.new).attached ≡ true → (F.state flash.new).extent ≤ flash_limit) }
     ensures reads { ReadsFlash flash_name.now (F.state flash.old) (F.state flash.new) }
     ensures unwritten { CallWritesNothing F.Flash flash.old flash.new }
+    ensures as_read { IfOk result (λ text. IfAgrees (answers_since (F.state flash.old) (F.state flash.new))
+        (λ all. FlashBoots flash_name.now part.now (Some (Held all)) (Ok (play_answer text)))) }
+    ensures left { LeavesAsItWas (F.state flash.old) (F.state flash.new) }
 {
     attach(flash, flash_name)?;
     match x7_boot::boot(alloc, part, flash) {
@@ -124,6 +130,7 @@ pub fn boot<'w, I: Inputs, F: Flash>(
         (sources (I.state inputs.new) (F.state flash.new)) (result_by play_answer result) }
     ensures reads { ReadsFlash flash_name.now (F.state flash.old) (F.state flash.new) }
     ensures unwritten { CallWritesNothing F.Flash flash.old flash.new }
+    ensures left { LeavesAsItWas (F.state flash.old) (F.state flash.new) }
 {
     let part = read_part(alloc, inputs, part_name)?;
     boot_from(alloc, &part, flash, flash_name)

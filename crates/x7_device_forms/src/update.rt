@@ -54,7 +54,7 @@ pub fn update<'w, I: Inputs, F: Flash>(
 ) -> Result<(), Refusal<'w>>
     ensures answered { AnsweredSilently (UpdatingFlash flash_name.now stream_name.now) (sources (I.state inputs.old) (F.state flash.old))
         (sources (I.state inputs.new) (F.state flash.new)) (result_by (λ _. false) result) }
-    ensures flash { CallUsesFlash F.Flash (Some (UpdatingFlash flash_name.now stream_name.now)) (I.state inputs.old) flash.old flash.new }
+    ensures flash { CallUsesFlash F.Flash (Some (UpdatingFlash flash_name.now stream_name.now)) (I.state inputs.new) flash.old flash.new }
 {
     open_flash(flash, flash_name)?;
     let read = read_stream(alloc, inputs, stream_name)?;

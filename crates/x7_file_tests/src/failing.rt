@@ -1,15 +1,17 @@
-//! A flash over files of the system of which one kind of call fails.
+//! Inputs and a flash over files of the system that count what is opened, and of which one kind of call fails.
 use crate::paths::{filled, path_of};
 use std::alloc::Allocator;
+use std::cell::Cell;
 use std::fs::{Metadata, OpenFile, OpenOptions, Permissions};
 use std::io::{ErrorKind, PipeReader, PipeWriter, Read, Seek, SeekFrom, Write};
+use std::marker::Brand;
 use std::os::fd::BorrowedFd;
 use std::os::unix::net::SocketAddr;
 use std::path::PathBuf;
 use std::rt::Files;
 use std::{fs, io};
-use x7_files::FileFlash;
-use x7_words::{Flash, SECTOR_SIZE};
+use x7_files::{FileFlash, FileInputs};
+use x7_words::{Flash, Inputs, SECTOR_SIZE};
 
 /// What fails.
 #[derive(Clone, Copy, PartialEq, Eq)]
@@ -33,11 +35,24 @@ fn denied() -> io::Error {
     io::Error::from(ErrorKind::PermissionDenied)
 }
 
-/// The files of the system, of which a call fails.
+/// The files of the system, of which a call fails. To open one so that it is made, cut or written at its end is refused.
 #[derive(Drop)]
 struct FailingFiles<'r, R: Files> {
     rt: &'r R,
     failing: Failing,
+    /// How often a file was to be opened.
+    opens: Cell<u64>,
+}
+
+impl<'r, R: Files> FailingFiles<'r, R> {
+    /// The files of the runtime, none opened yet.
+    fn new(rt: &'r R, failing: Failing) -> FailingFiles<'r, R> {
+        FailingFiles {
+            rt,
+            failing,
+            opens: Cell::new(0),
+        }
+    }
 }
 
 /// A file of the system, of which a call fails.
@@ -105,7 +120,11 @@ impl<'r, R: Files> Files for FailingFiles<'r, R> {
     type Dir = R::Dir;
 
     fn open_file(&self, how: &OpenOptions, path: &str) -> io::Result<FailingFile<R::File>> {
+        self.opens.set(self.opens.get().saturating_add(1));
         if self.failing == Failing::Opening && how.asks_write() {
+            return Err(denied());
+        }
+        if how.asks_create() || how.asks_create_new() || how.asks_truncate() || how.asks_append() {
             return Err(denied());
         }
         let file = self.rt.open_file(how, path)?;
@@ -213,41 +232,72 @@ fn answers_of<F: Flash>(flash: &mut F, name: &str) -> Option<Answers> {
     Some((is_erased, is_programmed, is_read.then_some(found)))
 }
 
-/// What a flash over a new file answers where calls fail, and how many bytes the file has then, and its first two.
-/// None where the file can't be made, or read.
-fn answers_over(
-    rt: &HostRuntime,
-    failing: Failing,
-    name: &str,
-) -> Option<(Answers, usize, [u8; 2])> {
+/// A file of one sector after calls of a flash: how often it was opened, the answers, its first two bytes, and whether
+/// each byte after these is the first one and no other stands in it.
+type Outcome = (u64, Answers, [u8; 2], bool);
+
+/// What comes of a new file that is a flash, where calls fail. None where the file can't be made, or read.
+fn outcome_over(rt: &HostRuntime, failing: Failing, name: &str) -> Option<Outcome> {
     let bytes = filled(rt.alloc(), &[(SECTOR_SIZE as usize, 0x3C)])?;
     fs::write(rt, name, bytes.as_slice()).ok()?;
-    let files = FailingFiles { rt, failing };
+    let files = FailingFiles::new(rt, failing);
     let answers = answers_of(&mut FileFlash::new(&files), name)?;
     let kept = fs::read(rt, name).ok()?;
     fs::remove_file(rt, name).ok()?;
-    Some((answers, kept.len(), *kept.first_chunk()?))
+    let first: [u8; 2] = *kept.first_chunk()?;
+    let parts = [
+        (1, first[0]),
+        (2, first[1]),
+        (SECTOR_SIZE as usize, first[0]),
+    ];
+    let wanted = filled(rt.alloc(), &parts)?;
+    Some((files.opens.get(), answers, first, kept == wanted))
 }
 
-/// What a flash over files that fail so answers at a path that no other test has, as `answers_over` says.
-fn answers_where(rt: &HostRuntime, failing: Failing) -> Option<(Answers, usize, [u8; 2])> {
+/// What comes of a flash over files that fail so at a path that no other test has, as `outcome_over` says.
+fn outcome_where(rt: &HostRuntime, failing: Failing) -> Option<Outcome> {
     let path = path_of(rt, "failing")?;
-    answers_over(rt, failing, path.as_path().as_str())
+    outcome_over(rt, failing, path.as_path().as_str())
 }
 
 #[test]
 fn a_write_of_a_file_fails_where_a_call_fails(rt: HostRuntime) {
-    // the call, whether the erase and the program succeed, the file's first bytes then, and whether they are read
+    // the call, how often the file is opened, whether the erase and the program succeed, the file's first bytes then, and
+    // whether they are read
     let cases = [
-        (Failing::Nothing, true, true, [0xFF, 0x0F], true),
-        (Failing::Opening, false, false, [0x3C, 0x3C], true),
-        (Failing::Reading, true, false, [0xFF, 0xFF], false),
-        (Failing::Placing, false, false, [0x3C, 0x3C], false),
-        (Failing::Writing, false, false, [0x3C, 0x3C], true),
-        (Failing::Keeping, false, false, [0xFF, 0x0F], true),
+        (Failing::Nothing, 1, true, true, [0xFF, 0x0F], true),
+        (Failing::Opening, 2, false, false, [0x3C, 0x3C], true),
+        (Failing::Reading, 1, true, false, [0xFF, 0xFF], false),
+        (Failing::Placing, 1, false, false, [0x3C, 0x3C], false),
+        (Failing::Writing, 1, false, false, [0x3C, 0x3C], true),
+        (Failing::Keeping, 1, false, false, [0xFF, 0x0F], true),
     ];
-    for (failing, erased, programmed, first, is_read) in cases {
+    for (failing, opens, erased, programmed, first, is_read) in cases {
         let answers = (erased, programmed, is_read.then_some(first));
-        assert!(rt; answers_where(&rt, failing) == Some((answers, SECTOR_SIZE as usize, first)));
+        assert!(rt; outcome_where(&rt, failing) == Some((opens, answers, first, true)));
     }
+}
+
+/// Selects a new file of five bytes where none may be opened for writing, and reads four bytes of it: how often a file
+/// was opened, and what was read. None where the file can't be made, or is refused.
+fn opens_of_a_select(rt: &HostRuntime, name: &str) -> Option<(u64, [u8; 4])> {
+    fs::write(rt, name, b"hello").ok()?;
+    let files = FailingFiles::new(rt, Failing::Opening);
+    let mut inputs = FileInputs::<_, Brand>::new(&files);
+    inputs.select(name).ok()?;
+    let mut buf = [0; 4];
+    inputs.read(&mut buf).ok()?;
+    fs::remove_file(rt, name).ok()?;
+    Some((files.opens.get(), buf))
+}
+
+/// What a select opens at a path that no other test has, as `opens_of_a_select` says.
+fn opens_of_an_input(rt: &HostRuntime) -> Option<(u64, [u8; 4])> {
+    let path = path_of(rt, "opened")?;
+    opens_of_a_select(rt, path.as_path().as_str())
+}
+
+#[test]
+fn a_select_opens_one_file_once_for_reading(rt: HostRuntime) {
+    assert!(rt; opens_of_an_input(&rt) == Some((1, *b"hell")));
 }

@@ -1,9 +1,10 @@
 //! Real files and writers; and inputs in memory, read in pieces and put anew while one is read.
 use crate::paths::{filled, path_of};
 use std::io::{ErrorKind, Write};
+use std::marker::Brand;
 use std::rt::Files;
 use std::{env, fs, io};
-use x7_files::{FileFlash, FileInputs, KnownSink, StdSink};
+use x7_files::{FileFlash, FileInputs, StdSink};
 use x7_in_memory::MemoryInputs;
 use x7_words::{Failed, Flash, Inputs, NoMemory, SelectFault, Sink, write_all};
 
@@ -144,7 +145,7 @@ fn found_around<R: Files>(
     below: &str,
     folder: &str,
 ) -> Option<[(Reads, Bytes); 6]> {
-    let (mut inputs, mut flash) = (FileInputs::new(rt), FileFlash::new(rt));
+    let (mut inputs, mut flash) = (FileInputs::<R, Brand>::new(rt), FileFlash::new(rt));
     found_by(rt, &mut inputs, &mut flash, path, below, folder)
 }
 
@@ -329,8 +330,8 @@ fn standard_output_and_standard_error_are_sinks(rt: HostRuntime) {
 }
 
 #[test]
-fn a_writer_that_knows_what_it_holds_is_a_sink(rt: HostRuntime) {
-    let mut sink = KnownSink::new(Vec::new(rt.alloc()));
+fn a_writer_holds_what_its_sink_wrote(rt: HostRuntime) {
+    let mut sink = StdSink::new(Vec::new(rt.alloc()));
     let first = write_all(&mut sink, b"hello");
     let second = write_all(&mut sink, b", world");
     let all = sink.into_writer();

@@ -6,7 +6,11 @@ use Rattle.std.specs.List.{concat}
 use Rattle.x7_words.specs.Count.{HasRisen, raised}
 use Rattle.x7_words.specs.Flash.{TimeElapses, OnlyReads, OnlyWrites, FlashRefuses, WritesNothing}
 use Rattle.x7_words.proofs.CountLemmas.{raised_risen}
-use Rattle.x7_files.specs.Files.{ClearsBits, ClearsAt, ClearsPieces, IsExtent, RealFlash, KnowsOfFile, after_attach, known_flash}
+use Rattle.x7_words.specs.FlashHistory.{CallsFor, NoFlashFault, attach_call}
+use Rattle.x7_words.specs.declared.flash_call.FlashCall.{FlashCall}
+use Rattle.x7_words.specs.declared.flash_call.FlashCall.TheVariants.{Read, ReadFailed}
+use Rattle.x7_ghost.specs.Answered.{read_call}
+use Rattle.x7_files.specs.Flash.{ClearsBits, ClearsAt, ClearsPieces, IsExtent, RealFlash, KnowsOfFile, after_attach, known_flash}
 use Rattle.x7_words.specs.declared.input.Failed.{Failed as FailedCall}
 use Rattle.x7_words.specs.declared.input.SelectFault.{SelectFault}
 use Rattle.x7_words.specs.declared.input.SelectFault.TheVariants.{Missing, Failed}
@@ -24,32 +28,48 @@ attached_ok t extent file (Ok _) e = open_extent t extent file e
 attached_ok t extent file (Err fault) e = tt
 
 -- an attach that is not Ok attaches nothing
-pub attached_err : {F : Type 0} → (old new : RealFlash F) (answer : Result (Unit {0}) SelectFault) → new ≡ after_attach old answer new → OnErr answer (is_some new.file ≡ false)
-attached_err old new (Ok _) e = tt
-attached_err old new (Err _) e = ap (λ f. is_some f.file) e
+pub attached_err : {F : Type 0} → (old new : RealFlash F) (name : List ℕ) (answer : Result (Unit {0}) SelectFault) → new ≡ after_attach old name answer new → OnErr answer (is_some new.file ≡ false)
+attached_err old new name (Ok _) e = tt
+attached_err old new name (Err _) e = ap (λ f. is_some f.file) e
 
 -- an attach that is not Ok counts what it answers
-pub attached_refused : {F : Type 0} → (old new : RealFlash F) (answer : Result (Unit {0}) SelectFault) → new ≡ after_attach old answer new → IfErr answer (FlashRefuses (known_flash old) (known_flash new))
-attached_refused old new (Ok _) e = tt
-attached_refused old new (Err Missing) e = raised_risen old.absences new.absences (ap (λ f. f.absences) e)
-attached_refused old new (Err Failed) e = raised_risen old.faults new.faults (ap (λ f. f.faults) e)
+pub attached_refused : {F : Type 0} → (old new : RealFlash F) (name : List ℕ) (answer : Result (Unit {0}) SelectFault) → new ≡ after_attach old name answer new → IfErr answer (FlashRefuses (known_flash old) (known_flash new))
+attached_refused old new name (Ok _) e = tt
+attached_refused old new name (Err Missing) e = raised_risen old.absences new.absences (ap (λ f. f.absences) e)
+attached_refused old new name (Err Failed) e = raised_risen old.faults new.faults (ap (λ f. f.faults) e)
 
 -- an attach leaves the count of faults of writes
-pub attach_write_faults : {F : Type 0} → (old new : RealFlash F) (answer : Result (Unit {0}) SelectFault) → new ≡ after_attach old answer new → new.write_faults ≡ old.write_faults
-attach_write_faults old new (Ok _) e = ap (λ f. f.write_faults) e
-attach_write_faults old new (Err _) e = ap (λ f. f.write_faults) e
+pub attach_write_faults : {F : Type 0} → (old new : RealFlash F) (name : List ℕ) (answer : Result (Unit {0}) SelectFault) → new ≡ after_attach old name answer new → new.write_faults ≡ old.write_faults
+attach_write_faults old new name (Ok _) e = ap (λ f. f.write_faults) e
+attach_write_faults old new name (Err _) e = ap (λ f. f.write_faults) e
+
+-- an attach that is Ok counts nothing
+pub attached_quiet : {F : Type 0} → (old new : RealFlash F) (name : List ℕ) (answer : Result (Unit {0}) SelectFault) → new ≡ after_attach old name answer new → OnOk answer (NoFlashFault (known_flash old) (known_flash new))
+attached_quiet old new name (Ok _) e = record { faults = ap (λ f. f.faults) e; absences = ap (λ f. f.absences) e }
+attached_quiet old new name (Err _) e = tt
+
+-- an attach is one call
+pub attach_called : {F : Type 0} → (old new : RealFlash F) (name : List ℕ) (answer : Result (Unit {0}) SelectFault) → new ≡ after_attach old name answer new → new.calls ≡ old.calls ++ attach_call name new.extent answer ∷ []
+attach_called old new name (Ok _) e = ap (λ f. f.calls) e
+attach_called old new name (Err _) e = ap (λ f. f.calls) e
+
+-- ---- a call of an attached flash
+
+-- a call is added, and the flash stays attached
+called_by : {F : Type 0} → (old new : RealFlash F) (call : FlashCall) → new.calls ≡ old.calls ++ call ∷ [] → new.extent ≡ old.extent → is_some new.file ≡ is_some old.file → CallsFor call (known_flash old) (known_flash new)
+called_by old new call c s a = λ i. record { calls = c i; size = s i; attached = a i }
 
 -- ---- a read
 
 -- a read that fails counts a fault
-pub failed_read_at : {F : Type 0} → (old new : RealFlash F) (file : Option F) (answer : Result (Unit {0}) FailedCall) → OnErr answer (new ≡ record old { file = file; faults = raised old.faults }) → OnErr answer (HasRisen old.faults new.faults)
-failed_read_at old new file (Ok _) e = tt
-failed_read_at old new file (Err _) e = raised_risen old.faults new.faults (ap (λ f. f.faults) e)
+pub failed_read_at : {F : Type 0} → (old new : RealFlash F) (file : Option F) (calls : List FlashCall) (answer : Result (Unit {0}) FailedCall) → OnErr answer (new ≡ record old { file = file; faults = raised old.faults; calls = calls }) → OnErr answer (HasRisen old.faults new.faults)
+failed_read_at old new file calls (Ok _) e = tt
+failed_read_at old new file calls (Err _) e = raised_risen old.faults new.faults (ap (λ f. f.faults) e)
 
 -- a read that is Ok counts no fault
-pub quiet_read_at : {F : Type 0} → (old new : RealFlash F) (file : Option F) (answer : Result (Unit {0}) FailedCall) → OnOk answer (new ≡ record old { file = file }) → OnOk answer (new.faults ≡ old.faults)
-quiet_read_at old new file (Ok _) e = ap (λ f. f.faults) e
-quiet_read_at old new file (Err _) e = tt
+pub quiet_read_at : {F : Type 0} → (old new : RealFlash F) (file : Option F) (calls : List FlashCall) (answer : Result (Unit {0}) FailedCall) → OnOk answer (new ≡ record old { file = file; calls = calls }) → OnOk answer (new.faults ≡ old.faults)
+quiet_read_at old new file calls (Ok _) e = ap (λ f. f.faults) e
+quiet_read_at old new file calls (Err _) e = tt
 
 -- of a read nothing is known
 pub unknown_read_at : (answer : Result (Unit {0}) FailedCall) → OnOk answer (Unit {0})
@@ -60,24 +80,33 @@ unknown_read_at (Err _) = tt
 pub unknown_unwritten : {F : Type 0} → (old new : RealFlash F) → new.write_faults ≡ old.write_faults → WritesNothing (known_flash old) (known_flash new) (λ moment found. Unit {0}) (λ moment found. Unit {0})
 unknown_unwritten old new e = record { write_faults = e; moments = refl; nothing_else = λ moment found since. tt; keeps = λ moment found since. tt }
 
--- a read leaves all but the file and the count of faults
-read_keeps : {F A : Type 0} → (part : RealFlash F → A) → ((f : RealFlash F) (file : Option F) (n : ℕ) → part (record f { file = file; faults = n }) ≡ part f) → (old new : RealFlash F) (file : Option F) (answer : Result (Unit {0}) FailedCall)
-    → OnOk answer (new ≡ record old { file = file }) → OnErr answer (new ≡ record old { file = file; faults = raised old.faults }) → part new ≡ part old
-read_keeps part same old new file (Ok _) o e = ap part o ∙ same old file old.faults
-read_keeps part same old new file (Err _) o e = ap part e ∙ same old file (raised old.faults)
+-- a read leaves all but the file, the count of faults and the calls
+read_keeps : {F A : Type 0} → (part : RealFlash F → A) → ((f : RealFlash F) (file : Option F) (n : ℕ) (calls : List FlashCall) → part (record f { file = file; faults = n; calls = calls }) ≡ part f)
+    → (old new : RealFlash F) (file : Option F) (calls : List FlashCall) (answer : Result (Unit {0}) FailedCall)
+    → OnOk answer (new ≡ record old { file = file; calls = calls }) → OnErr answer (new ≡ record old { file = file; faults = raised old.faults; calls = calls }) → part new ≡ part old
+read_keeps part same old new file calls (Ok _) o e = ap part o ∙ same old file old.faults calls
+read_keeps part same old new file calls (Err _) o e = ap part e ∙ same old file (raised old.faults) calls
 
-pub only_reads : {F : Type 0} → (old new : RealFlash F) (answer : Result (Unit {0}) FailedCall) → is_some old.file ≡ true → is_some new.file ≡ true
-    → OnOk answer (new ≡ record old { file = new.file }) → OnErr answer (new ≡ record old { file = new.file; faults = raised old.faults }) → old.faults ≤ new.faults
+-- a read is one call
+pub read_called : {F : Type 0} → (old new : RealFlash F) (place size : ℕ) (buffer : List ℕ) (answer : Result (Unit {0}) FailedCall) → is_some old.file ≡ true → is_some new.file ≡ true → length buffer ≡ size
+    → OnOk answer (new ≡ record old { file = new.file; calls = old.calls ++ read_call place buffer answer ∷ [] }) → OnErr answer (new ≡ record old { file = new.file; faults = raised old.faults; calls = old.calls ++ read_call place buffer answer ∷ [] })
+    → OnOk answer (CallsFor (Read place buffer) (known_flash old) (known_flash new)) × OnErr answer (CallsFor (ReadFailed place size) (known_flash old) (known_flash new))
+read_called old new place size buffer (Ok _) was is l o e = (called_by old new (Read place buffer) (ap (λ f. f.calls) o) (ap (λ f. f.extent) o) (is ∙ sym was), tt)
+read_called old new place size buffer (Err _) was is l o e =
+    (tt, called_by old new (ReadFailed place size) (ap (λ f. f.calls) e ∙ ap (λ n. old.calls ++ ReadFailed place n ∷ []) l) (ap (λ f. f.extent) e) (is ∙ sym was))
+
+pub only_reads : {F : Type 0} → (old new : RealFlash F) (calls : List FlashCall) (answer : Result (Unit {0}) FailedCall) → is_some old.file ≡ true → is_some new.file ≡ true
+    → OnOk answer (new ≡ record old { file = new.file; calls = calls }) → OnErr answer (new ≡ record old { file = new.file; faults = raised old.faults; calls = calls }) → old.faults ≤ new.faults
     → OnlyReads (known_flash old) (known_flash new) (λ moment found. Unit {0}) (λ moment found. Unit {0})
-only_reads old new answer was is o e rises = record {
+only_reads old new calls answer was is o e rises = record {
   bytes = refl;
-  extent = read_keeps (λ f. f.extent) (λ f file n. refl) old new new.file answer o e;
+  extent = read_keeps (λ f. f.extent) (λ f file n calls. refl) old new new.file calls answer o e;
   attached = is ∙ sym was;
   names = refl;
   seen = λ place byte h. refl;
   faults = rises;
-  absences = read_keeps (λ f. f.absences) (λ f file n. refl) old new new.file answer o e;
-  unwritten = unknown_unwritten old new (read_keeps (λ f. f.write_faults) (λ f file n. refl) old new new.file answer o e);
+  absences = read_keeps (λ f. f.absences) (λ f file n calls. refl) old new new.file calls answer o e;
+  unwritten = unknown_unwritten old new (read_keeps (λ f. f.write_faults) (λ f file n calls. refl) old new new.file calls answer o e);
 }
 
 -- ---- a write
@@ -106,25 +135,38 @@ clears_more {F} reads writes place at prefix piece given old between new c is on
 }
 
 -- a write that fails counts a fault of writes
-pub failed_write : {F : Type 0} → (old new : RealFlash F) (file : Option F) (answer : Result (Unit {0}) FailedCall) → OnErr answer (new ≡ record old { file = file; write_faults = raised old.write_faults }) → OnErr answer (HasRisen old.write_faults new.write_faults)
-failed_write old new file (Ok _) e = tt
-failed_write old new file (Err _) e = raised_risen old.write_faults new.write_faults (ap (λ f. f.write_faults) e)
+pub failed_write : {F : Type 0} → (old new : RealFlash F) (file : Option F) (calls : List FlashCall) (answer : Result (Unit {0}) FailedCall) → OnErr answer (new ≡ record old { file = file; write_faults = raised old.write_faults; calls = calls }) → OnErr answer (HasRisen old.write_faults new.write_faults)
+failed_write old new file calls (Ok _) e = tt
+failed_write old new file calls (Err _) e = raised_risen old.write_faults new.write_faults (ap (λ f. f.write_faults) e)
 
--- a write leaves all but the file and the count of faults of writes
-write_keeps : {F A : Type 0} → (part : RealFlash F → A) → ((f : RealFlash F) (file : Option F) (n : ℕ) → part (record f { file = file; write_faults = n }) ≡ part f) → (old new : RealFlash F) (file : Option F) (answer : Result (Unit {0}) FailedCall)
-    → OnOk answer (new ≡ record old { file = file }) → OnErr answer (new ≡ record old { file = file; write_faults = raised old.write_faults }) → part new ≡ part old
-write_keeps part same old new file (Ok _) o e = ap part o ∙ same old file old.write_faults
-write_keeps part same old new file (Err _) o e = ap part e ∙ same old file (raised old.write_faults)
+-- a write that is Ok counts no fault of writes
+pub quiet_write : {F : Type 0} → (old new : RealFlash F) (file : Option F) (calls : List FlashCall) (answer : Result (Unit {0}) FailedCall) → OnOk answer (new ≡ record old { file = file; calls = calls }) → OnOk answer (new.write_faults ≡ old.write_faults)
+quiet_write old new file calls (Ok _) e = ap (λ f. f.write_faults) e
+quiet_write old new file calls (Err _) e = tt
 
-pub only_writes : {F : Type 0} → (old new : RealFlash F) (answer : Result (Unit {0}) FailedCall) → is_some old.file ≡ true → is_some new.file ≡ true
-    → OnOk answer (new ≡ record old { file = new.file }) → OnErr answer (new ≡ record old { file = new.file; write_faults = raised old.write_faults }) → old.write_faults ≤ new.write_faults
+-- a write leaves all but the file, the count of faults of writes and the calls
+write_keeps : {F A : Type 0} → (part : RealFlash F → A) → ((f : RealFlash F) (file : Option F) (n : ℕ) (calls : List FlashCall) → part (record f { file = file; write_faults = n; calls = calls }) ≡ part f)
+    → (old new : RealFlash F) (file : Option F) (calls : List FlashCall) (answer : Result (Unit {0}) FailedCall)
+    → OnOk answer (new ≡ record old { file = file; calls = calls }) → OnErr answer (new ≡ record old { file = file; write_faults = raised old.write_faults; calls = calls }) → part new ≡ part old
+write_keeps part same old new file calls (Ok _) o e = ap part o ∙ same old file old.write_faults calls
+write_keeps part same old new file calls (Err _) o e = ap part e ∙ same old file (raised old.write_faults) calls
+
+-- a write is one call
+pub write_called : {F : Type 0} → (old new : RealFlash F) (call : Result (Unit {0}) FailedCall → FlashCall) (answer : Result (Unit {0}) FailedCall) → is_some old.file ≡ true → is_some new.file ≡ true
+    → OnOk answer (new ≡ record old { file = new.file; calls = old.calls ++ call answer ∷ [] }) → OnErr answer (new ≡ record old { file = new.file; write_faults = raised old.write_faults; calls = old.calls ++ call answer ∷ [] })
+    → OnOk answer (CallsFor (call (Ok tt)) (known_flash old) (known_flash new)) × OnErr answer (CallsFor (call (Err (record {}))) (known_flash old) (known_flash new))
+write_called old new call (Ok _) was is o e = (called_by old new (call (Ok tt)) (ap (λ f. f.calls) o) (ap (λ f. f.extent) o) (is ∙ sym was), tt)
+write_called old new call (Err _) was is o e = (tt, called_by old new (call (Err (record {}))) (ap (λ f. f.calls) e) (ap (λ f. f.extent) e) (is ∙ sym was))
+
+pub only_writes : {F : Type 0} → (old new : RealFlash F) (calls : List FlashCall) (answer : Result (Unit {0}) FailedCall) → is_some old.file ≡ true → is_some new.file ≡ true
+    → OnOk answer (new ≡ record old { file = new.file; calls = calls }) → OnErr answer (new ≡ record old { file = new.file; write_faults = raised old.write_faults; calls = calls }) → old.write_faults ≤ new.write_faults
     → OnlyWrites (known_flash old) (known_flash new)
-only_writes old new answer was is o e rises = record {
-  extent = write_keeps (λ f. f.extent) (λ f file n. refl) old new new.file answer o e;
+only_writes old new calls answer was is o e rises = record {
+  extent = write_keeps (λ f. f.extent) (λ f file n calls. refl) old new new.file calls answer o e;
   attached = is ∙ sym was;
   names = refl;
-  faults = write_keeps (λ f. f.faults) (λ f file n. refl) old new new.file answer o e;
-  absences = write_keeps (λ f. f.absences) (λ f file n. refl) old new new.file answer o e;
+  faults = write_keeps (λ f. f.faults) (λ f file n calls. refl) old new new.file calls answer o e;
+  absences = write_keeps (λ f. f.absences) (λ f file n calls. refl) old new new.file calls answer o e;
   write_faults = rises;
 }
 

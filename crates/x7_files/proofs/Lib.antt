@@ -1,2 +1,2 @@
 mod FileFlashLemmas
-mod FilesLemmas
+mod FileInputsLemmas

@@ -1,1 +1,5 @@
-pub mod Files
+pub mod Agreement
+pub mod Refusal
+pub mod Inputs
+pub mod Flash
+pub mod Sink

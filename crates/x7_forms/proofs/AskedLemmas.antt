@@ -1,7 +1,7 @@
 -- Lemmas on the last input that was asked for, and on how few bytes of it are given.
-use Rattle.std.proofs.Common.{◌≡◌, ◌<◌, ◌≤◌, ◌+◌, ◌-◌, ℕ, Bool, true, false, if◌then◌else◌, List, [], ◌∷◌, ◌++◌, Option, None, Some, Result, Ok, Err, append_assoc, drop, length, length-append, map, suc, add-one, get_or, inl, inr, refl, subst, sym, ap, ◌∙◌, arith}
+use Rattle.std.proofs.Common.{◌≡◌, ◌<◌, ◌≤◌, ◌+◌, ◌-◌, ℕ, Bool, true, false, if◌then◌else◌, List, [], ◌∷◌, ◌++◌, Option, None, Some, Result, Ok, Err, append_assoc, drop, length, length-append, map, zero, suc, add-one, get_or, inl, inr, refl, subst, sym, ap, ◌∙◌, arith}
 use Rattle.std.specs.Prelude.{IfSome, nat_lt}
-use Rattle.x7_words.specs.Input.{AsksAtMost, AsksOnce, InputsState, InputsStay}
+use Rattle.x7_words.specs.Input.{AsksAtMost, AsksOnce, InputsState, InputsStay, StillKnown}
 use Rattle.x7_words.proofs.InputLemmas.{few_once, stays_on}
 use Rattle.x7_forms.specs.declared.bad_input.InputFault.TheVariants as input
 use Rattle.x7_forms.specs.Event.{Event, bad_input, bad_part, missing, reading_failed, too_large}
@@ -134,9 +134,9 @@ size_found None = refl
 size_found (Some bytes) = refl
 
 -- a stream that was read leaves no more of the limit than its bytes do
-pub room_left : (contents now : Option (List ℕ → Option (List ℕ))) (C : Mishap → Type 0) (name : List ℕ) (limit : ℕ) (s : StreamRead) → now ≡ contents → s.room ≤ limit
-    → IsCaused (with_inputs now None) C (λ t. stream_known t limit name) (Ok s) → s.room ≤ limit - size_in contents name
-room_left contents now C name limit s same h c = by contents (subst (λ (k : Option (List ℕ → Option (List ℕ))). IsCaused (with_inputs k None) C (λ t. stream_known t limit name) (Ok s)) same c)
+pub room_left : (contents : Option (List ℕ → Option (List ℕ))) (C : Mishap → Type 0) (name : List ℕ) (limit : ℕ) (s : StreamRead) → s.room ≤ limit
+    → IsCaused (with_inputs contents None) C (λ t. stream_known t limit name) (Ok s) → s.room ≤ limit - size_in contents name
+room_left contents C name limit s h c = by contents c
   where
     by : (k : Option (List ℕ → Option (List ℕ))) → IsCaused (with_inputs k None) C (λ t. stream_known t limit name) (Ok s) → s.room ≤ limit - size_in k name
     by None c = omega (arith, h)
@@ -167,6 +167,22 @@ limits_next f all contents ss k left less s name h e nm l fewer =
       enough = omega (arith, l.enough, fewer);
       split = split ∙ sym (append_assoc l.passed (first ∷ []) (limited_together contents (l.room - size_in contents name) (map f (drop (suc k) ss))));
     })
+
+-- where nothing is known of the streams, each may have as many bytes as all
+limits_none : {X : Type 0} (f : X → List ℕ) (ss : List X) (limit k left : ℕ) → k ≤ length ss → left ≤ limit → LimitsFrom (limited_together None limit (map f ss)) None k left (map f (drop k ss))
+limits_none f ss limit zero left h e = record { passed = []; room = limit; as_many = refl; enough = e; split = refl }
+limits_none f [] limit (suc k) left h e = absurd (omega (arith, h))
+limits_none f (s ∷ ss) limit (suc k) left h e =
+    let l = limits_none f ss limit k left (omega (arith, h)) e in
+    let all : limit ≡ limit - 0 = omega arith in
+    let split = subst (λ (n : ℕ). limited_together None n (map f ss) ≡ l.passed ++ limited_together None l.room (map f (drop k ss))) all l.split in
+    record { passed = limited limit (f s) ∷ l.passed; room = l.room; as_many = ap suc l.as_many; enough = l.enough; split = ap (λ (x : List Limited). limited limit (f s) ∷ x) split }
+
+-- what may be left of the limit, by what is known later
+pub limits_later : {X : Type 0} (f : X → List ℕ) (mid new : Option (List ℕ → Option (List ℕ))) (ss : List X) (limit k left : ℕ) → StillKnown mid new → k ≤ length ss → left ≤ limit
+    → LimitsFrom (limited_together mid limit (map f ss)) mid k left (map f (drop k ss)) → LimitsFrom (limited_together new limit (map f ss)) new k left (map f (drop k ss))
+limits_later f mid None ss limit k left p h e l = limits_none f ss limit k left h e
+limits_later f mid (Some inputs) ss limit k left p h e l = subst (λ (c : Option (List ℕ → Option (List ℕ))). LimitsFrom (limited_together c limit (map f ss)) c k left (map f (drop k ss))) p l
 
 -- a stream of several that isn't played
 pub limits_stop : {X : Type 0} (f : X → List ℕ) (all : List Limited) (contents : Option (List ℕ → Option (List ℕ))) (ss : List X) (k left : ℕ) (s : X) (name : List ℕ) (old mid now : InputsState) (event : Event)

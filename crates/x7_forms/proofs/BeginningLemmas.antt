@@ -1,13 +1,13 @@
 -- A stream's first bytes, by which its header is judged.
-use Rattle.std.proofs.Common.{◌≡◌, ◌⊎◌, ℕ, ◌+◌, ◌-◌, ◌<◌, ◌≤◌, Bool, true, false, List, [], ◌∷◌, ◌++◌, Result, Ok, Err, Option, None, Some, inl, inr, length, drop, refl, ap, sym, subst, ◌∙◌, arith, append_assoc, append-nil, length-append}
+use Rattle.std.proofs.Common.{IfSome, ◌≡◌, ◌⊎◌, ℕ, ◌+◌, ◌-◌, ◌<◌, ◌≤◌, Bool, true, false, List, [], ◌∷◌, ◌++◌, Result, Ok, Err, Option, None, Some, inl, inr, length, drop, refl, ap, sym, subst, ◌∙◌, arith, append_assoc, append-nil, length-append}
 use Rattle.std.specs.Prelude.{MatchOption, nat_eq, nat_le}
 use Rattle.std.proofs.lemmas.Bool.{leb-true}
 use Rattle.std.specs.List.{starts_with}
 use Rattle.std.proofs.Math.Seq.{drop-append_seam}
-use Rattle.x7_words.specs.Input.{InputsState, AtEnd, InputsStay, TakesInput, preceded}
+use Rattle.x7_words.specs.Input.{InputsState, AtEnd, InputsStay, TakenBy, TakesInput, preceded}
 use Rattle.x7_words.specs.Word.{AreBytes}
 use Rattle.x7_words.proofs.CountLemmas.{risen_from}
-use Rattle.x7_words.proofs.InputLemmas.{preceded_preceded}
+use Rattle.x7_words.proofs.InputLemmas.{taken_before}
 use Rattle.x7_words.proofs.ListLemmas.{shorter_prefix}
 use Rattle.x7_header.specs.Header.{HeaderContents, EndsInHeader, contents_in_order, fixed_bytes, HasOtherLetter, HasOtherLetterAt, FitHeaderFields, fields_bytes, header_bytes, header_fields, longest_header}
 use Rattle.x7_header.specs.Reading.{HeaderWaits, header_at}
@@ -23,7 +23,7 @@ use Rattle.x7_forms.specs.Event.{Event, reading_failed, too_large}
 use Rattle.x7_forms.specs.Known.{stream_limit}
 use Rattle.x7_forms.specs.Turn.{DataBeginAt, ReadsBeginning, HoldsFew, IsBeginning, IsJudged, IsHeaderRefused, NoLetterGiven, ReadsBytes, RefusedAt, UnreadBeginning, UnreadToEnd, turn_size}
 use Rattle.x7_forms.proofs.HeadLemmas.{gives_self}
-use Rattle.x7_forms.proofs.ReadLemmas.{reads_as, reads_on}
+use Rattle.x7_forms.proofs.ReadLemmas.{reads_as, reads_on, rest_more}
 
 -- a stream that begins as no header does
 pub raw_listed : (bytes : List ℕ) → header_at bytes ≡ Err header.Raw → stream_listing bytes ≡ Ok (listing_of bytes)
@@ -64,8 +64,8 @@ pub few_in_header : (bytes : List ℕ) → EndsInHeader bytes → length bytes �
 few_in_header bytes h = omega (arith, header_limit h.header h.fit_header, ap length h.goes_on, length-append bytes (h.next ∷ h.missing))
 
 -- a turn more of a stream's beginning
-pub joined_taken : (old mid new : Option (List ℕ)) (a b c d : List ℕ) → old ≡ preceded a mid → mid ≡ preceded b new → c ≡ a ++ b → d ≡ c → old ≡ preceded d new
-joined_taken old mid new a b c d e f g h = e ∙ ap (preceded a) f ∙ preceded_preceded a b new ∙ ap (λ t. preceded t new) (sym g ∙ sym h)
+pub joined_taken : (old mid new : InputsState) (a b c d : List ℕ) → InputsStay mid new → TakenBy mid.contents old.rest a mid.rest → TakenBy new.contents mid.rest b new.rest → c ≡ a ++ b → d ≡ c → TakenBy new.contents old.rest d new.rest
+joined_taken old mid new a b c d s e f g h = subst (λ (t : List ℕ). TakenBy new.contents old.rest t new.rest) (sym g ∙ sym h) (rest_more old mid new a b s e f)
 
 -- ---- no byte is read after the one that judges a header
 
@@ -199,16 +199,20 @@ letter_late (x ∷ old) rest all n place some e fixed waits waiting h =
 -- no letter at which a header would be refused was given, where the bytes before were read
 -- and fewer more were given than are wanted
 pub none_given : (old mid new : InputsState) (bytes all : List ℕ) (n count : ℕ) → 0 < n → count ≤ n → all ≡ bytes → (length all < 13 → length all + n ≡ 13) → (EndsInHeader all → HeaderWaits all n) → (0 < length bytes → EndsInHeader bytes)
-    → ReadsBytes old bytes mid → new.given < mid.given + count → NoLetterGiven old new
-none_given old mid new bytes all n count some few e fixed waits waiting r g known place is h = by mid.rest refl
+    → InputsStay mid new → ReadsBytes old bytes mid → new.given < mid.given + count → NoLetterGiven old new
+none_given old mid new bytes all n count some few e fixed waits waiting s r g = at new.contents (taken_before mid.contents new.contents old.rest bytes mid.rest s.map r.takes.taken)
   where
-    by : (rest : Option (List ℕ)) → mid.rest ≡ rest → new.given ≤ old.given + place
-    by None m = let none : None ≡ Some known = ap (preceded bytes) (sym m) ∙ sym r.takes.taken ∙ is in absurd cc
-    by (Some rest) m =
-        let same : Some (bytes ++ rest) ≡ Some known = ap (preceded bytes) (sym m) ∙ sym r.takes.taken ∙ is in
+    by : (known : List ℕ) (place : ℕ) → old.rest ≡ preceded bytes mid.rest → old.rest ≡ Some known → HasOtherLetterAt known place → (rest : Option (List ℕ)) → mid.rest ≡ rest → new.given ≤ old.given + place
+    by known place taken is h None m = let none : None ≡ Some known = ap (preceded bytes) (sym m) ∙ sym taken ∙ is in absurd cc
+    by known place taken is h (Some rest) m =
+        let same : Some (bytes ++ rest) ≡ Some known = ap (preceded bytes) (sym m) ∙ sym taken ∙ is in
         let whole : known ≡ bytes ++ rest = cc in
         let late = letter_late bytes rest all n place some e fixed waits waiting (subst (λ (b : List ℕ). HasOtherLetterAt b place) whole h) in
         omega (arith, g, few, r.takes.given, late)
+
+    at : (contents : Option (List ℕ → Option (List ℕ))) → TakenBy contents old.rest bytes mid.rest → IfSome contents (λ map. (known : List ℕ) (place : ℕ) → old.rest ≡ Some known → HasOtherLetterAt known place → new.given ≤ old.given + place)
+    at None taken = tt
+    at (Some map) taken = λ known place is h. by known place taken is h mid.rest refl
 
 -- a header that is refused at a byte that is there is refused at a wrong letter
 pub letter_there : (bytes : List ℕ) (place : ℕ) → AreBytes bytes → stream_listing bytes ≡ Err place → place < length bytes → HasOtherLetterAt bytes place
@@ -280,5 +284,5 @@ unread_turn old mid new name bytes left event r n q small late (inl h) =
 unread_turn old mid new name bytes left event r n q small late (inr h) = absurd (small h.0)
 
 -- what was read, by its parts
-pub reads_by : (old new : InputsState) (bytes : List ℕ) → new.selected ≡ true → old.rest ≡ preceded bytes new.rest → new.given ≤ old.given + length bytes → new.asked ≡ old.asked → InputsStay old new → new.selects ≡ old.selects → ReadsBytes old bytes new
+pub reads_by : (old new : InputsState) (bytes : List ℕ) → new.selected ≡ true → TakenBy new.contents old.rest bytes new.rest → new.given ≤ old.given + length bytes → new.asked ≡ old.asked → InputsStay old new → new.selects ≡ old.selects → ReadsBytes old bytes new
 reads_by old new bytes s t g q k c = record { takes = record { selected = s; taken = t; given = g; selects = c }; asked = q; stays = k }

@@ -5,11 +5,11 @@ use Rattle.std.specs.Str.{bytes_eq}
 use Rattle.std.proofs.lemmas.Bool.Decides.{nat_tests}
 use Rattle.std.proofs.lemmas.List.{drop-take, length-take, length-take-le, take-take, drop_all}
 use Rattle.x7_words.specs.Count.{HasRisen}
-use Rattle.x7_words.specs.Input.{InputsState, AsksForName, AtEnd, MissesInput, RestIsWhole, InputsStay, TakesInput, preceded}
+use Rattle.x7_words.specs.Input.{InputsState, AsksForName, AtEnd, MissesInput, RestIsWhole, InputsStay, StillKnown, TakenBy, TakesInput, preceded}
 use Rattle.x7_words.specs.Input.{MapLacks}
 use Rattle.x7_words.specs.Word.{AreBytes}
 use Rattle.x7_words.proofs.CountLemmas.{risen_from}
-use Rattle.x7_words.proofs.InputLemmas.{preceded_preceded, stays_at, stays_on, takes_none, takes_on}
+use Rattle.x7_words.proofs.InputLemmas.{preceded_preceded, rest_on, stays_at, stays_on, taken_before, taken_on, takes_none, takes_on}
 use Rattle.x7_header.specs.Header.{HeaderContents, longest_header}
 use Rattle.x7_header.specs.Reading.{header_at}
 use Rattle.x7_header.specs.declared.fault.HeaderFault.{HeaderFault}
@@ -135,6 +135,11 @@ follows {A} {B} known C D due next a (Err event) s (inr h) (inl q) =
 follows None C D due next a got s (inr h) (inr q) = inr q
 follows (Some t) C D due next a got s (inr h) (inr q) = inr (q.0, rw h.1 q.1)
 
+-- a step that gave a value has a cause by what is known later
+pub later_ok : {A : Type 0} (mid new : Option (List ℕ → Option (List ℕ))) (flash : Option (List ℕ)) (C : Mishap → Type 0) (due : Known → Result A Event) (a : A) → StillKnown mid new → IsCaused (with_inputs mid flash) C due (Ok a) → IsCaused (with_inputs new flash) C due (Ok a)
+later_ok mid None flash C due a p h = inr tt
+later_ok mid (Some map) flash C due a p h = subst (λ (c : Option (List ℕ → Option (List ℕ))). IsCaused (with_inputs c flash) C due (Ok a)) p h
+
 -- a step that ended the command
 due_stops : (A B : Type 0) (known : Option Known) (m : Mishap) (due : Known → Result A Event) (next : Known → A → Result B Event) (event : Event) → DueBy {A = A} known m (λ t r. due t ≡ r) event → DueBy {A = B} known m (λ t r. and_so (due t) (next t) ≡ r) event
 due_stops A B None m due next event q = tt
@@ -202,6 +207,11 @@ rests_next (Some inputs) C names limit name left room whole s r h = λ flash. at
     at flash (inl q) = absurd q
     at flash (inr q) = rests_more (known_of inputs flash) names limit name left room whole s (r flash) q.1
 
+-- what is due for streams, by what is known later
+pub rests_later : (mid new : Option (List ℕ → Option (List ℕ))) (names : List (List ℕ)) (limit : ℕ) (left : List (List ℕ)) (room : ℕ) (whole : List ℕ) → StillKnown mid new → Rests mid names limit left room whole → Rests new names limit left room whole
+rests_later mid None names limit left room whole p r = tt
+rests_later mid (Some map) names limit left room whole p r = subst (λ (c : Option (List ℕ → Option (List ℕ))). Rests c names limit left room whole) p r
+
 -- a mishap of a stream is one of all
 rests_due : (contents : Option (List ℕ → Option (List ℕ))) (flash : Option (List ℕ)) (names : List (List ℕ)) (limit : ℕ) (name : List ℕ) (left : List (List ℕ)) (room : ℕ) (whole : List ℕ) (m : Mishap) (event : Event) → Rests contents names limit (name ∷ left) room whole
     → mishap_event m ≡ event → DueBy {A = StreamRead} (with_inputs contents flash) m (λ t r. stream_known t room name ≡ r) event → DueBy {A = List ℕ} (with_inputs contents flash) m (λ t r. streams_known t limit names ≡ r) event
@@ -246,28 +256,26 @@ left_at f ss k s h e =
 
 -- a stream that ended the command
 pub stream_err : {X : Type 0} (f : X → List ℕ) (old mid new : InputsState) (flash : Option (List ℕ)) (ss : List X) (k limit room : ℕ) (s : X) (name whole : List ℕ) (event : Event)
-    → InputsStay old mid → k < length ss → s ≡ get_or ss k s → name ≡ f s → Rests old.contents (map f ss) limit (map f (drop k ss)) room whole
-    → IsCaused (with_inputs mid.contents flash) (CameIn (step_over (name ∷ []) mid new)) (λ t. stream_known t room name) (Err event)
-    → IsCaused (with_inputs old.contents flash) (CameIn (step_over (map f ss) old new)) (λ t. streams_known t limit (map f ss)) (Err event)
-stream_err f old mid new flash ss k limit room s name whole event stays h e nm due got =
-    let got1 = subst (λ (c : Option (List ℕ → Option (List ℕ))). IsCaused (with_inputs c flash) (CameIn (step_over (name ∷ []) mid new)) (λ t. stream_known t room name) (Err event)) stays.map got in
+    → InputsStay old mid → InputsStay mid new → k < length ss → s ≡ get_or ss k s → name ≡ f s → Rests mid.contents (map f ss) limit (map f (drop k ss)) room whole
+    → IsCaused (with_inputs new.contents flash) (CameIn (step_over (name ∷ []) mid new)) (λ t. stream_known t room name) (Err event)
+    → IsCaused (with_inputs new.contents flash) (CameIn (step_over (map f ss) old new)) (λ t. streams_known t limit (map f ss)) (Err event)
+stream_err f old mid new flash ss k limit room s name whole event stays later h e nm due got =
     let eq : map f (drop k ss) ≡ name ∷ map f (drop (suc k) ss) = rw nm (left_at f ss k s h e) in
-    let due1 = rw eq at due in
+    let due1 = rests_later mid.contents new.contents (map f ss) limit (name ∷ map f (drop (suc k) ss)) room whole later.map (rw eq at due) in
     let among : Among (map f ss) name = rw nm (among_at f ss k s h e) in
-    caused_on_by (List ℕ) (with_inputs old.contents flash) (CameIn (step_over (name ∷ []) mid new)) (CameIn (step_over (map f ss) old new)) (λ t r. streams_known t limit (map f ss) ≡ r) (Err event)
+    caused_on_by (List ℕ) (with_inputs new.contents flash) (CameIn (step_over (name ∷ []) mid new)) (CameIn (step_over (map f ss) old new)) (λ t r. streams_known t limit (map f ss) ≡ r) (Err event)
     (came_in (name ∷ []) (map f ss) old mid new (among_one (map f ss) name among) stays)
-    (rests_stop old.contents flash (CameIn (step_over (name ∷ []) mid new)) (map f ss) limit name (map f (drop (suc k) ss)) room whole event due1 got1)
+    (rests_stop new.contents flash (CameIn (step_over (name ∷ []) mid new)) (map f ss) limit name (map f (drop (suc k) ss)) room whole event due1 got)
 
 -- a stream whose data were read
 pub stream_next : {X : Type 0} (f : X → List ℕ) (contents now : Option (List ℕ → Option (List ℕ))) (C : Mishap → Type 0) (ss : List X) (k limit room : ℕ) (s : X) (name whole : List ℕ) (read : StreamRead)
-    → now ≡ contents → k < length ss → s ≡ get_or ss k s → name ≡ f s → Rests contents (map f ss) limit (map f (drop k ss)) room whole
+    → StillKnown contents now → k < length ss → s ≡ get_or ss k s → name ≡ f s → Rests contents (map f ss) limit (map f (drop k ss)) room whole
     → ((flash : Option (List ℕ)) → IsCaused (with_inputs now flash) C (λ t. stream_known t room name) (Ok read))
-    → Rests contents (map f ss) limit (map f (drop (k + 1) ss)) read.room (whole ++ read.bytes)
+    → Rests now (map f ss) limit (map f (drop (k + 1) ss)) read.room (whole ++ read.bytes)
 stream_next f contents now C ss k limit room s name whole read same h e nm due got =
-    let got1 = rw same at got in
     let eq : map f (drop k ss) ≡ name ∷ map f (drop (suc k) ss) = rw nm (left_at f ss k s h e) in
-    let due1 = rw eq at due in
-    rw add-one (rests_next contents C (map f ss) limit name (map f (drop (suc k) ss)) room whole read due1 got1)
+    let due1 = rests_later contents now (map f ss) limit (name ∷ map f (drop (suc k) ss)) room whole same (rw eq at due) in
+    rw add-one (rests_next now C (map f ss) limit name (map f (drop (suc k) ss)) room whole read due1 got)
 
 -- nothing was read
 rests_start : (t : Known) (names : List (List ℕ)) (limit : ℕ) → RestsIn t names limit names limit []
@@ -338,12 +346,23 @@ stream_judged known C limit name whole got read e =
 
 -- ---- an input that is read turn by turn
 
-pub rest_more : (old mid new : Option (List ℕ)) (taken piece : List ℕ) → old ≡ preceded taken mid → mid ≡ preceded piece new → old ≡ preceded (taken ++ piece) new
-rest_more old mid new taken piece e f = e ∙ ap (preceded taken) f ∙ preceded_preceded taken piece new
+pub rest_more : (old mid new : InputsState) (taken piece : List ℕ) → InputsStay mid new → TakenBy mid.contents old.rest taken mid.rest → TakenBy new.contents mid.rest piece new.rest → TakenBy new.contents old.rest (taken ++ piece) new.rest
+rest_more old mid new taken piece s e f = taken_on new.contents old.rest mid.rest new.rest taken piece (taken_before mid.contents new.contents old.rest taken mid.rest s.map e) f
+
+-- a rest that is whole with the bytes before it is so by what is known later
+pub whole_later : (mid new : Option (List ℕ → Option (List ℕ))) (name : List ℕ) (rest : Option (List ℕ)) → StillKnown mid new → RestIsWhole mid name rest → RestIsWhole new name rest
+whole_later mid None name rest p w = tt
+whole_later mid (Some map) name rest p w = subst (λ (m : Option (List ℕ → Option (List ℕ))). RestIsWhole m name rest) p w
+
+-- the rest is whole with the bytes taken before it, and a piece more
+pub rest_go : (old new : Option (List ℕ → Option (List ℕ))) (name taken piece : List ℕ) (before after : Option (List ℕ)) → StillKnown old new → TakenBy new before piece after → RestIsWhole old name (preceded taken before) → RestIsWhole new name (preceded (taken ++ piece) after)
+rest_go old None name taken piece before after p t w = tt
+rest_go old (Some map) name taken piece before after p t w =
+    subst (λ (r : Option (List ℕ)). RestIsWhole (Some map) name r) (ap (preceded taken) t ∙ preceded_preceded taken piece after) (subst (λ (m : Option (List ℕ → Option (List ℕ))). RestIsWhole m name (preceded taken before)) p w)
 
 -- what was read of an input from a moment on, and a piece more
 pub reads_on : (old mid new : InputsState) (taken piece : List ℕ) → ReadsBytes old taken mid → TakesInput mid piece new → new.asked ≡ mid.asked → InputsStay mid new → ReadsBytes old (taken ++ piece) new
-reads_on old mid new taken piece r t a s = record { takes = takes_on old mid new taken piece r.takes t; asked = a ∙ r.asked; stays = stays_on old mid new r.stays s }
+reads_on old mid new taken piece r t a s = record { takes = takes_on old mid new taken piece s r.takes t; asked = a ∙ r.asked; stays = stays_on old mid new r.stays s }
 
 pub reads_none : (s : InputsState) → s.selected ≡ true → ReadsBytes s [] s
 reads_none s e = record { takes = takes_none s e; asked = refl; stays = stays_at s }
@@ -353,24 +372,24 @@ pub reads_as : (old new : InputsState) (bytes same : List ℕ) → bytes ≡ sam
 reads_as old new bytes same e r = subst (λ (b : List ℕ). ReadsBytes old b new) (sym e) r
 
 -- a turn that was not read, after others
-pub unread_on : (old mid new : InputsState) (name taken : List ℕ) (limit left : ℕ) (event : Event) → ReadsBytes old taken mid → length taken + left ≡ limit → UnreadToEnd mid name new left event → UnreadToEnd old name new limit event
-unread_on old mid new name taken limit left event r n (inl h) =
+pub unread_on : (old mid new : InputsState) (name taken : List ℕ) (limit left : ℕ) (event : Event) → InputsStay mid new → ReadsBytes old taken mid → length taken + left ≡ limit → UnreadToEnd mid name new left event → UnreadToEnd old name new limit event
+unread_on old mid new name taken limit left event s r n (inl h) =
     inl (h.0, record { risen = risen_from old.faults mid.faults new.faults r.stays.faults h.1.risen; selected = h.1.selected; given = omega (arith, n, r.takes.given, h.1.given) })
-unread_on old mid new name taken limit left event r n (inr h) =
+unread_on old mid new name taken limit left event s r n (inr h) =
     let piece = h.1.0 in
-    inr (h.0, (taken ++ piece, (rest_more old.rest mid.rest new.rest taken piece r.takes.taken h.1.1.0, omega (arith, n, h.1.1.1, length-append taken piece))))
+    inr (h.0, (taken ++ piece, (rest_more old mid new taken piece s r.takes.taken h.1.1.0, omega (arith, n, h.1.1.1, length-append taken piece))))
 
-pub rest_unread : (old mid new : InputsState) (name taken : List ℕ) (limit left : ℕ) (event : Event) → ReadsBytes old taken mid → length taken + left ≡ limit → UnreadToEnd mid name new left event → new.asked ≡ mid.asked → UnreadRest old name new limit event
-rest_unread old mid new name taken limit left event r n u a = (unread_on old mid new name taken limit left event r n u, a ∙ r.asked)
+pub rest_unread : (old mid new : InputsState) (name taken : List ℕ) (limit left : ℕ) (event : Event) → InputsStay mid new → ReadsBytes old taken mid → length taken + left ≡ limit → UnreadToEnd mid name new left event → new.asked ≡ mid.asked → UnreadRest old name new limit event
+rest_unread old mid new name taken limit left event s r n u a = (unread_on old mid new name taken limit left event s r n u, a ∙ r.asked)
 
 -- the first turn of an input
 pub reads_first : (old new : InputsState) (piece : List ℕ) → TakesInput old piece new → new.asked ≡ old.asked → InputsStay old new → ReadsBytes old piece new
 reads_first old new piece t a s = record { takes = t; asked = a; stays = s }
 
 -- want of memory, or what was left after the first turn was not read
-pub want_or_rest : (old mid new : InputsState) (name taken : List ℕ) (limit left : ℕ) (event : Event) → ReadsBytes old taken mid → length taken + left ≡ limit → (event ≡ no_memory) ⊎ UnreadRest mid name new left event → (event ≡ no_memory) ⊎ UnreadRest old name new limit event
-want_or_rest old mid new name taken limit left event r n (inl e) = inl e
-want_or_rest old mid new name taken limit left event r n (inr h) = inr (rest_unread old mid new name taken limit left event r n h.0 h.1)
+pub want_or_rest : (old mid new : InputsState) (name taken : List ℕ) (limit left : ℕ) (event : Event) → InputsStay mid new → ReadsBytes old taken mid → length taken + left ≡ limit → (event ≡ no_memory) ⊎ UnreadRest mid name new left event → (event ≡ no_memory) ⊎ UnreadRest old name new limit event
+want_or_rest old mid new name taken limit left event s r n (inl e) = inl e
+want_or_rest old mid new name taken limit left event s r n (inr h) = inr (rest_unread old mid new name taken limit left event s r n h.0 h.1)
 
 -- an input that was read to its end
 pub whole_read : (contents : Option (List ℕ → Option (List ℕ))) (flash : Option (List ℕ)) (C : Mishap → Type 0) (name whole : List ℕ) (rest : Option (List ℕ)) (limit : ℕ) → RestIsWhole contents name (preceded whole rest) → AtEnd rest → length whole ≤ limit
@@ -399,7 +418,7 @@ sum_more : (first more : List ℕ) (left limit : ℕ) → length more + left ≡
 sum_more first more left limit n l = (omega (arith, n, l, length-append first more), omega (arith, n, l, length-append first more))
 
 -- a stream whose data were read turn by turn
-pub stream_read : (contents : Option (List ℕ → Option (List ℕ))) (flash : Option (List ℕ)) (C : Mishap → Type 0) (name first more after : List ℕ) (mid rest : Option (List ℕ)) (limit left : ℕ) (last : Bool) → RestIsWhole contents name (preceded first mid) → mid ≡ preceded more rest → AtEnd rest
+pub stream_read : (contents : Option (List ℕ → Option (List ℕ))) (flash : Option (List ℕ)) (C : Mishap → Type 0) (name first more after : List ℕ) (mid rest : Option (List ℕ)) (limit left : ℕ) (last : Bool) → RestIsWhole contents name (preceded first mid) → TakenBy contents mid more rest → AtEnd rest
     → (last ≡ true → AtEnd mid) → (last ≡ false → longest_header ≤ length first) → AreBytes first → length more + left ≡ limit - length first → length first ≤ limit → Ok after ≡ data_in name first
     → IsCaused (with_inputs contents flash) C (λ t. stream_known t limit name) (Ok (record { bytes = after ++ more; room = left }))
 stream_read None flash C name first more after mid rest limit left last s e end ends long fits n l head = inr tt
@@ -442,22 +461,22 @@ absence_from A known old new name Due l d = inr (record { mishap = Lacking name;
 
 -- an input that was not opened
 unopened_free : (old new : InputsState) (flash : Option (List ℕ)) (name : List ℕ) (limit : ℕ) → AsksForName name new → new.selected ≡ false → MissesInput old name new
-    → IsCaused (with_inputs old.contents flash) (CameIn (step_over (name ∷ []) old new)) (λ t. whole_known t limit name) (Err (missing name))
-unopened_free old new flash name limit a s m = by old.contents refl m
+    → IsCaused (with_inputs new.contents flash) (CameIn (step_over (name ∷ []) old new)) (λ t. whole_known t limit name) (Err (missing name))
+unopened_free old new flash name limit a s m = by new.contents refl m
   where
-    by : (contents : Option (List ℕ → Option (List ℕ))) → old.contents ≡ contents → MapLacks contents name ⊎ HasRisen old.absences new.absences
+    by : (contents : Option (List ℕ → Option (List ℕ))) → new.contents ≡ contents → MapLacks contents name ⊎ HasRisen old.absences new.absences
         → IsCaused (with_inputs contents flash) (CameIn (step_over (name ∷ []) old new)) (λ t. whole_known t limit name) (Err (missing name))
     by None e (inl h) = absurd h
     by (Some inputs) e (inl h) = inr (tt, rw h refl)
     by contents e (inr h) = inl (absence_from (List ℕ) (with_inputs contents flash) old new name (λ t r. whole_known t limit name ≡ r) (record { among = inl refl; deselected = record { asked = a.asked; selected = s }; risen = h }) (absent_due contents flash name limit))
 
 pub open_refused : (old new : InputsState) (flash : Option (List ℕ)) (name : List ℕ) (limit : ℕ) (event : Event) → Unopened old name new event → AsksForName name new
-    → IsCaused (with_inputs old.contents flash) (CameIn (step_over (name ∷ []) old new)) (λ t. whole_known t limit name) (Err event)
+    → IsCaused (with_inputs new.contents flash) (CameIn (step_over (name ∷ []) old new)) (λ t. whole_known t limit name) (Err event)
 open_refused old new flash name limit event (inl h, s) a =
-    caused_event (with_inputs old.contents flash) (CameIn (step_over (name ∷ []) old new)) (λ t. whole_known t limit name) event (missing name) h.0 (unopened_free old new flash name limit a s h.1)
+    caused_event (with_inputs new.contents flash) (CameIn (step_over (name ∷ []) old new)) (λ t. whole_known t limit name) event (missing name) h.0 (unopened_free old new flash name limit a s h.1)
 open_refused old new flash name limit event (inr h, s) a =
-    caused_event (with_inputs old.contents flash) (CameIn (step_over (name ∷ []) old new)) (λ t. whole_known t limit name) event (reading_failed name) h.0
-    (inl (fault_from (List ℕ) (with_inputs old.contents flash) old new name (λ t r. whole_known t limit name ≡ r) (record { among = inl refl; deselected = record { asked = a.asked; selected = s }; risen = h.1 }) (broken_due old.contents flash name limit new.given (omega (arith, a.given)))))
+    caused_event (with_inputs new.contents flash) (CameIn (step_over (name ∷ []) old new)) (λ t. whole_known t limit name) event (reading_failed name) h.0
+    (inl (fault_from (List ℕ) (with_inputs new.contents flash) old new name (λ t r. whole_known t limit name ≡ r) (record { among = inl refl; deselected = record { asked = a.asked; selected = s }; risen = h.1 }) (broken_due new.contents flash name limit new.given (omega (arith, a.given)))))
 
 -- an input of which more was taken than its limit
 over_whole : (contents : Option (List ℕ → Option (List ℕ))) (flash : Option (List ℕ)) (C : Mishap → Type 0) (name whole : List ℕ) (rest : Option (List ℕ)) (limit : ℕ) → RestIsWhole contents name (preceded whole rest) → limit < length whole
@@ -469,20 +488,20 @@ over_whole (Some inputs) flash C name whole rest limit s h =
     inr (tt, rw (all.1.1, long) refl)
 
 -- an input that was opened and then not read to its end
-pub whole_refused : (old opened new : InputsState) (flash : Option (List ℕ)) (name : List ℕ) (limit : ℕ) (event : Event) → InputsStay old opened → RestIsWhole old.contents name opened.rest → AsksForName name opened → (event ≡ no_memory) ⊎ UnreadRest opened name new limit event
-    → IsCaused (with_inputs old.contents flash) (CameIn (step_over (name ∷ []) old new)) (λ t. whole_known t limit name) (Err event)
-whole_refused old opened new flash name limit event k s a (inl e) =
-    caused_event (with_inputs old.contents flash) (CameIn (step_over (name ∷ []) old new)) (λ t. whole_known t limit name) event no_memory e (inl (inl refl))
-whole_refused old opened new flash name limit event k s a (inr (inl h, q)) =
-    caused_event (with_inputs old.contents flash) (CameIn (step_over (name ∷ []) old new)) (λ t. whole_known t limit name) event (reading_failed name) h.0
-    (inl (fault_from (List ℕ) (with_inputs old.contents flash) old new name (λ t r. whole_known t limit name ≡ r)
+pub whole_refused : (old opened new : InputsState) (flash : Option (List ℕ)) (name : List ℕ) (limit : ℕ) (event : Event) → InputsStay old opened → InputsStay opened new → RestIsWhole opened.contents name opened.rest → AsksForName name opened → (event ≡ no_memory) ⊎ UnreadRest opened name new limit event
+    → IsCaused (with_inputs new.contents flash) (CameIn (step_over (name ∷ []) old new)) (λ t. whole_known t limit name) (Err event)
+whole_refused old opened new flash name limit event k later s a (inl e) =
+    caused_event (with_inputs new.contents flash) (CameIn (step_over (name ∷ []) old new)) (λ t. whole_known t limit name) event no_memory e (inl (inl refl))
+whole_refused old opened new flash name limit event k later s a (inr (inl h, q)) =
+    caused_event (with_inputs new.contents flash) (CameIn (step_over (name ∷ []) old new)) (λ t. whole_known t limit name) event (reading_failed name) h.0
+    (inl (fault_from (List ℕ) (with_inputs new.contents flash) old new name (λ t r. whole_known t limit name ≡ r)
     (record { among = inl refl; deselected = record { asked = asked_on name opened new a q; selected = h.1.selected }; risen = risen_from old.faults opened.faults new.faults k.faults h.1.risen })
-    (broken_due old.contents flash name limit new.given (omega (arith, a.given, h.1.given)))))
-whole_refused old opened new flash name limit event k s a (inr (inr h, q)) =
+    (broken_due new.contents flash name limit new.given (omega (arith, a.given, h.1.given)))))
+whole_refused old opened new flash name limit event k later s a (inr (inr h, q)) =
     let more = h.1.0 in
-    let taken : RestIsWhole old.contents name (preceded more new.rest) = subst (λ (r : Option (List ℕ)). RestIsWhole old.contents name r) h.1.1.0 s in
-    caused_event (with_inputs old.contents flash) (CameIn (step_over (name ∷ []) old new)) (λ t. whole_known t limit name) event (too_large name) h.0
-    (over_whole old.contents flash (CameIn (step_over (name ∷ []) old new)) name more new.rest limit taken (omega (arith, h.1.1.1)))
+    let taken = rest_on opened.contents new.contents name more opened.rest new.rest later.map h.1.1.0 s in
+    caused_event (with_inputs new.contents flash) (CameIn (step_over (name ∷ []) old new)) (λ t. whole_known t limit name) event (too_large name) h.0
+    (over_whole new.contents flash (CameIn (step_over (name ∷ []) old new)) name more new.rest limit taken (omega (arith, h.1.1.1)))
 
 -- no more than these bytes were given of the input of this name, the last that was asked for
 pub record IsAt (name bytes : List ℕ) (now : InputsState) : Type 0 where
@@ -502,36 +521,36 @@ at_fault old mid new name taken left k a b q =
     (record { among = inl refl; deselected = record { asked = subst (λ (k : Option (List ℕ)). IfSome k (λ kept. kept ≡ name)) (sym q) a.asked; selected = b.selected }; risen = risen_from old.faults mid.faults new.faults k.faults b.risen }, omega (arith, a.given, b.given))
 
 -- a turn of an input that was not read
-pub turn_refused : (old mid new : InputsState) (flash : Option (List ℕ)) (name taken : List ℕ) (limit left : ℕ) (event : Event) → InputsStay old mid
-    → RestIsWhole old.contents name (preceded taken mid.rest) → IsAt name taken mid → length taken + left ≡ limit → UnreadToEnd mid name new left event → new.asked ≡ mid.asked
-    → IsCaused (with_inputs old.contents flash) (CameIn (step_over (name ∷ []) old new)) (λ t. whole_known t limit name) (Err event)
-turn_refused old mid new flash name taken limit left event k s a n (inl h) q =
+pub turn_refused : (old mid new : InputsState) (flash : Option (List ℕ)) (name taken : List ℕ) (limit left : ℕ) (event : Event) → InputsStay old mid → InputsStay mid new
+    → RestIsWhole mid.contents name (preceded taken mid.rest) → IsAt name taken mid → length taken + left ≡ limit → UnreadToEnd mid name new left event → new.asked ≡ mid.asked
+    → IsCaused (with_inputs new.contents flash) (CameIn (step_over (name ∷ []) old new)) (λ t. whole_known t limit name) (Err event)
+turn_refused old mid new flash name taken limit left event k later s a n (inl h) q =
     let f = at_fault old mid new name taken left k a h.1 q in
-    caused_event (with_inputs old.contents flash) (CameIn (step_over (name ∷ []) old new)) (λ t. whole_known t limit name) event (reading_failed name) h.0
-    (inl (fault_from (List ℕ) (with_inputs old.contents flash) old new name (λ t r. whole_known t limit name ≡ r) f.0 (broken_due old.contents flash name limit new.given (omega (arith, f.1, n)))))
-turn_refused old mid new flash name taken limit left event k s a n (inr h) q =
+    caused_event (with_inputs new.contents flash) (CameIn (step_over (name ∷ []) old new)) (λ t. whole_known t limit name) event (reading_failed name) h.0
+    (inl (fault_from (List ℕ) (with_inputs new.contents flash) old new name (λ t r. whole_known t limit name ≡ r) f.0 (broken_due new.contents flash name limit new.given (omega (arith, f.1, n)))))
+turn_refused old mid new flash name taken limit left event k later s a n (inr h) q =
     let piece = h.1.0 in
-    let all : RestIsWhole old.contents name (preceded (taken ++ piece) new.rest) = subst (λ (r : Option (List ℕ)). RestIsWhole old.contents name r) (ap (preceded taken) h.1.1.0 ∙ preceded_preceded taken piece new.rest) s in
-    caused_event (with_inputs old.contents flash) (CameIn (step_over (name ∷ []) old new)) (λ t. whole_known t limit name) event (too_large name) h.0
-    (over_whole old.contents flash (CameIn (step_over (name ∷ []) old new)) name (taken ++ piece) new.rest limit all (omega (arith, n, h.1.1.1, length-append taken piece)))
+    let all = rest_go mid.contents new.contents name taken piece mid.rest new.rest later.map h.1.1.0 s in
+    caused_event (with_inputs new.contents flash) (CameIn (step_over (name ∷ []) old new)) (λ t. whole_known t limit name) event (too_large name) h.0
+    (over_whole new.contents flash (CameIn (step_over (name ∷ []) old new)) name (taken ++ piece) new.rest limit all (omega (arith, n, h.1.1.1, length-append taken piece)))
 
 -- a stream whose data are read, and whose rest was not
-pub stream_unread : (old opened new : InputsState) (flash : Option (List ℕ)) (name : List ℕ) (limit : ℕ) (event : Event) → InputsStay old opened → RestIsWhole old.contents name opened.rest → AsksForName name opened → (event ≡ no_memory) ⊎ UnreadRest opened name new limit event
-    → IsCaused (with_inputs old.contents flash) (CameIn (step_over (name ∷ []) old new)) (λ t. stream_known t limit name) (Err event)
-stream_unread old opened new flash name limit event k s a h =
-    stops (with_inputs old.contents flash) (CameIn (step_over (name ∷ []) old new)) (λ t. whole_known t limit name) (λ t whole. and_so (data_in name whole) (λ bytes. Ok (record { bytes = bytes; room = limit - length whole }))) event
-    (whole_refused old opened new flash name limit event k s a h)
+pub stream_unread : (old opened new : InputsState) (flash : Option (List ℕ)) (name : List ℕ) (limit : ℕ) (event : Event) → InputsStay old opened → InputsStay opened new → RestIsWhole opened.contents name opened.rest → AsksForName name opened → (event ≡ no_memory) ⊎ UnreadRest opened name new limit event
+    → IsCaused (with_inputs new.contents flash) (CameIn (step_over (name ∷ []) old new)) (λ t. stream_known t limit name) (Err event)
+stream_unread old opened new flash name limit event k later s a h =
+    stops (with_inputs new.contents flash) (CameIn (step_over (name ∷ []) old new)) (λ t. whole_known t limit name) (λ t whole. and_so (data_in name whole) (λ bytes. Ok (record { bytes = bytes; room = limit - length whole }))) event
+    (whole_refused old opened new flash name limit event k later s a h)
 
 pub stream_unopened : (old new : InputsState) (flash : Option (List ℕ)) (name : List ℕ) (limit : ℕ) (event : Event) → Unopened old name new event → AsksForName name new
-    → IsCaused (with_inputs old.contents flash) (CameIn (step_over (name ∷ []) old new)) (λ t. stream_known t limit name) (Err event)
+    → IsCaused (with_inputs new.contents flash) (CameIn (step_over (name ∷ []) old new)) (λ t. stream_known t limit name) (Err event)
 stream_unopened old new flash name limit event u a =
-    stops (with_inputs old.contents flash) (CameIn (step_over (name ∷ []) old new)) (λ t. whole_known t limit name) (λ t whole. and_so (data_in name whole) (λ bytes. Ok (record { bytes = bytes; room = limit - length whole }))) event
+    stops (with_inputs new.contents flash) (CameIn (step_over (name ∷ []) old new)) (λ t. whole_known t limit name) (λ t whole. and_so (data_in name whole) (λ bytes. Ok (record { bytes = bytes; room = limit - length whole }))) event
     (open_refused old new flash name limit event u a)
 
 -- a stream whose header is refused, after it was read to its end
 pub stream_refused : (contents : Option (List ℕ → Option (List ℕ)))
     (flash : Option (List ℕ)) (C : Mishap → Type 0) (name first more : List ℕ) (mid rest : Option (List ℕ)) (limit : ℕ) (last : Bool) (event : Event) → RestIsWhole contents name (preceded first mid)
-    → mid ≡ preceded more rest → AtEnd rest
+    → TakenBy contents mid more rest → AtEnd rest
     → (last ≡ true → AtEnd mid) → (last ≡ false → longest_header ≤ length first) → AreBytes first → length more ≤ limit - length first → length first ≤ limit → Err event ≡ data_in name first
     → IsCaused (with_inputs contents flash) C (λ t. stream_known t limit name) (Err event)
 stream_refused None flash C name first more mid rest limit last event s e end ends long fits n l head = inr (head_by StreamRead name first (header_at first) event (sym head)).0
@@ -559,31 +578,30 @@ first_of name names n (inr e) = absurd e
 pub answers_stop : (A B : Type 0) (some all : List (List ℕ)) (old new : InputsState) (due : Known → Result A Event) (next : Known → A → Result B Event) (event : Event) → ((n : List ℕ) → Among some n → Among all n)
     → AnswersAs {A = A} (step_over some old new) due (Err event) → AnswersAs {A = B} (step_over all old new) (λ t. and_so (due t) (next t)) (Err event)
 answers_stop A B some all old new due next event a h flash =
-    caused_on_by B (with_inputs old.contents flash) (CameIn (step_over some old new)) (CameIn (step_over all old new)) (λ t r. and_so (due t) (next t) ≡ r) (Err event)
+    caused_on_by B (with_inputs new.contents flash) (CameIn (step_over some old new)) (CameIn (step_over all old new)) (λ t r. and_so (due t) (next t) ≡ r) (Err event)
     (came_in some all old old new a (stays_at old))
-    (stops (with_inputs old.contents flash) (CameIn (step_over some old new)) due next event (h flash))
+    (stops (with_inputs new.contents flash) (CameIn (step_over some old new)) due next event (h flash))
 
 -- a step that went on, and the next
-pub answers_go : (A B : Type 0) (some more all : List (List ℕ)) (old mid new : InputsState) (due : Known → Result A Event) (next : Known → A → Result B Event) (a : A) (got : Result B Event) → Steady A due → InputsStay old mid → ((n : List ℕ) → Among more n → Among all n)
+pub answers_go : (A B : Type 0) (some more all : List (List ℕ)) (old mid new : InputsState) (due : Known → Result A Event) (next : Known → A → Result B Event) (a : A) (got : Result B Event) → Steady A due → InputsStay old mid → InputsStay mid new → ((n : List ℕ) → Among more n → Among all n)
     → AnswersAs {A = A} (step_over some old mid) due (Ok a) → AnswersAs {A = B} (step_over more mid new) (λ t. next t a) got → AnswersAs {A = B} (step_over all old new) (λ t. and_so (due t) (next t)) got
-answers_go A B some more all old mid new due next a got steady stays names h q flash =
-    let q1 = subst (λ (c : Option (List ℕ → Option (List ℕ))). IsCaused (with_inputs c flash) (CameIn (step_over more mid new)) (λ t. next t a) got) stays.map (q flash) in
-    let q2 = caused_on_by B (with_inputs old.contents flash) (CameIn (step_over more mid new)) (CameIn (step_over all old new)) (λ t r. next t a ≡ r) got
-    (came_in more all old mid new names stays) q1 in
-    follows (with_inputs old.contents flash) (CameIn (step_over some old mid)) (CameIn (step_over all old new)) due next a got steady (h flash) q2
+answers_go A B some more all old mid new due next a got steady stays later names h q flash =
+    let q2 = caused_on_by B (with_inputs new.contents flash) (CameIn (step_over more mid new)) (CameIn (step_over all old new)) (λ t r. next t a ≡ r) got
+    (came_in more all old mid new names stays) (q flash) in
+    follows (with_inputs new.contents flash) (CameIn (step_over some old mid)) (CameIn (step_over all old new)) due next a got steady (later_ok mid.contents new.contents flash (CameIn (step_over some old mid)) due a later.map (h flash)) q2
 
 -- a step that went on to one that reads nothing: want of memory, or what it says
 pub answers_end : (A B : Type 0) (names : List (List ℕ)) (old new : InputsState) (due : Known → Result A Event) (next : A → Result B Event) (a : A) (got : Result B Event) → Steady A due → AnswersAs {A = A} (step_over names old new) due (Ok a)
     → (got ≡ Err no_memory) ⊎ (IsPossible got × IsDecided got × (next a ≡ got)) → AnswersAs {A = B} (step_over names old new) (λ t. and_so (due t) next) got
-answers_end A B names old new due next a got steady h (inl e) flash = subst (λ (r : Result B Event). IsCaused (with_inputs old.contents flash) (CameIn (step_over names old new)) (λ t. and_so (due t) next) r) (sym e) (inl (inl refl))
+answers_end A B names old new due next a got steady h (inl e) flash = subst (λ (r : Result B Event). IsCaused (with_inputs new.contents flash) (CameIn (step_over names old new)) (λ t. and_so (due t) next) r) (sym e) (inl (inl refl))
 answers_end A B names old new due next a got steady h (inr q) flash =
-    follows (with_inputs old.contents flash) (CameIn (step_over names old new)) (CameIn (step_over names old new)) due (λ t x. next x) a got steady (h flash)
-    (works (with_inputs old.contents flash) (CameIn (step_over names old new)) (next a) got q.0 q.1 q.2)
+    follows (with_inputs new.contents flash) (CameIn (step_over names old new)) (CameIn (step_over names old new)) due (λ t x. next x) a got steady (h flash)
+    (works (with_inputs new.contents flash) (CameIn (step_over names old new)) (next a) got q.0 q.1 q.2)
 
 -- a step that ended the command, where a relation says what the next step comes to
 pub answers_kept : (A B : Type 0) (names : List (List ℕ)) (old new : InputsState) (due : Known → Result A Event) (Next : Result A Event → Result B Event → Type 0) (event : Event) → ((x : Event) → Next (Err x) (Err x))
     → AnswersAs {A = A} (step_over names old new) due (Err event) → AnswersBy {A = B} (step_over names old new) (λ t end. Next (due t) end) (Err event)
-answers_kept A B names old new due Next event keeps h flash = unread_by (with_inputs old.contents flash) (CameIn (step_over names old new)) due event Next keeps (h flash)
+answers_kept A B names old new due Next event keeps h flash = unread_by (with_inputs new.contents flash) (CameIn (step_over names old new)) due event Next keeps (h flash)
 
 after_by : (A B : Type 0) (known : Option Known) (C : Mishap → Type 0) (due : Known → Result A Event) (a : A) (Next : Result A Event → Result B Event → Type 0) (got : Result B Event) → IsCaused {A = A} known C due (Ok a)
     → (got ≡ Err no_memory) ⊎ (IsPossible got × IsDecided got × Next (Ok a) got) → IsCausedBy {A = B} known C (λ t end. Next (due t) end) got
@@ -594,7 +612,7 @@ after_by A B (Some t) C due a Next got (inr h) (inr q) = inr (q.1, subst (λ (r 
 
 pub answers_by : (A B : Type 0) (names : List (List ℕ)) (old new : InputsState) (due : Known → Result A Event) (a : A) (Next : Result A Event → Result B Event → Type 0) (got : Result B Event) → AnswersAs {A = A} (step_over names old new) due (Ok a)
     → (got ≡ Err no_memory) ⊎ (IsPossible got × IsDecided got × Next (Ok a) got) → AnswersBy {A = B} (step_over names old new) (λ t end. Next (due t) end) got
-answers_by A B names old new due a Next got h q flash = after_by A B (with_inputs old.contents flash) (CameIn (step_over names old new)) due a Next got (h flash) q
+answers_by A B names old new due a Next got h q flash = after_by A B (with_inputs new.contents flash) (CameIn (step_over names old new)) due a Next got (h flash) q
 
 -- ---- why an input isn't read, whatever it holds
 

@@ -2,7 +2,7 @@
 -- choice). A turn reads as many bytes as a buffer holds, or fewer: up to the input's end, and at most one byte over its
 -- limit. What it read is used before the next turn. The open input is the one that is selected.
 use Rattle.std.specs.Prelude.{◌≡◌, ◌≢◌, ◌<◌, ◌≤◌, ◌⊎◌, ◌++◌, ℕ, Bool, true, false, List, [], Some, Ok, Err, IfSome, drop, length, take, ◌+◌}
-use Rattle.x7_words.specs.Input.{InputsState, AsksAtMost, AsksForName, AsksOnce, AtEnd, InputsFail, MissesInput, InputsStay, TakesInput, preceded}
+use Rattle.x7_words.specs.Input.{InputsState, AsksAtMost, AsksForName, AsksOnce, AtEnd, InputsFail, MissesInput, InputsStay, TakenBy, TakesInput}
 use Rattle.x7_header.specs.Header.{HeaderContents, EndsInHeader, HasOtherLetterAt, FitHeaderFields, fixed_bytes, fixed_size, header_bytes, longest_header}
 use Rattle.x7_forms.specs.Event.{Event, bad_input, missing, no_memory, reading_failed, too_large}
 use Rattle.x7_forms.specs.declared.bad_input.InputFault.TheVariants as input
@@ -99,7 +99,7 @@ pub record ReadsTurn (old : InputsState) (left : ℕ) (turn : Turn) (buffer : Li
 abbrev pub UnreadToEnd : InputsState → List ℕ → InputsState → ℕ → Event → Type 0
 UnreadToEnd old name new left event =
     ((event ≡ reading_failed name) × BreaksWithin old (left + 1) new)
-    ⊎ ((event ≡ too_large name) × ((piece : List ℕ) × ((old.rest ≡ preceded piece new.rest) × (length piece ≡ left + 1))))
+    ⊎ ((event ≡ too_large name) × ((piece : List ℕ) × (TakenBy new.contents old.rest piece new.rest × (length piece ≡ left + 1))))
 
 -- a turn of at most `size` bytes of the open input wasn't read: the input failed before `size` bytes were given, or the
 -- turn passed the limit, of which `left` bytes were left
@@ -110,7 +110,7 @@ pub record StopsTurn (old : InputsState) (name : List ℕ) (left size : ℕ) (ne
 
 -- the rest of the open input, the bytes `more`, was read to its end
 abbrev pub ReadsRest : InputsState → InputsState → List ℕ → Type 0
-ReadsRest old new more = (old.rest ≡ preceded more new.rest) × AtEnd new.rest
+ReadsRest old new more = TakenBy new.contents old.rest more new.rest × AtEnd new.rest
 
 -- the rest of the open input, at most `limit` bytes, was read to its end and appended to the bytes `before`, which
 -- makes `after`
@@ -190,7 +190,7 @@ pub record IsBadBeginning (old new : InputsState) (name : List ℕ) (event : Eve
   pub bytes : List ℕ
   pub last : Bool
   pub reports : event ≡ bad_input name (input.Byte place)
-  pub taken : old.rest ≡ preceded bytes new.rest
+  pub taken : TakenBy new.contents old.rest bytes new.rest
   pub end : last ≡ true → AtEnd new.rest
   pub refused : IsHeaderRefused bytes last place
   -- no byte after the one at which the header is refused
@@ -199,7 +199,7 @@ pub record IsBadBeginning (old new : InputsState) (name : List ℕ) (event : Eve
 -- where the rest of an open input is known, and begins with a header that has another byte in
 -- a letter's place, that byte was not given
 abbrev pub NoLetterGiven : InputsState → InputsState → Type 0
-NoLetterGiven old new = (bytes : List ℕ) (place : ℕ) → old.rest ≡ Some bytes → HasOtherLetterAt bytes place → new.given ≤ old.given + place
+NoLetterGiven old new = IfSome new.contents (λ map. (bytes : List ℕ) (place : ℕ) → old.rest ≡ Some bytes → HasOtherLetterAt bytes place → new.given ≤ old.given + place)
 
 -- a stream's beginning was not read, since the inputs failed within the limit of a stream; no wrong letter of its
 -- header was given (`NoLetterGiven`)

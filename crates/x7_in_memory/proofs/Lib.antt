@@ -3,3 +3,4 @@ mod FoundSinceLemmas
 mod NamedBytesLemmas
 mod RecordLemmas
 mod TornLemmas
+mod HistoryLemmas

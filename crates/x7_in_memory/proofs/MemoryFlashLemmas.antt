@@ -1,13 +1,20 @@
 -- Lemmas on what a write to a flash in memory leaves: just what a caller of any flash may know.
-use Rattle.std.proofs.Common.{◌≡◌, ℕ, ◌+◌, ◌≤◌, ◌⊎◌, inl, inr, List, [], ◌∷◌, Bool, true, false, cond, IsTrue, ◌||◌, ◌&&◌, ◌==◌, nat_le, nat_lt, min, max, Option, None, Some, Result, Ok, Err, OnOk, OnErr, is_err, is_some, length, get_or, slice_range, refl, ap, sym, subst, ◌∙◌, arith, length-append}
+use Rattle.std.proofs.Common.{◌≡◌, ℕ, ◌+◌, ◌≤◌, ◌⊎◌, inl, inr, List, [], ◌∷◌, ◌++◌, Bool, true, false, cond, if◌then◌else◌, IsTrue, ◌||◌, ◌&&◌, ◌==◌, nat_le, nat_lt, min, max, Option, None, Some, Result, Ok, Err, OnOk, OnErr, is_err, is_some, length, get_or, slice_range, refl, ap, sym, subst, ◌∙◌, arith, length-append}
 use Rattle.std.proofs.lemmas.Bool.{cases_Bool}
 use Rattle.std.proofs.lemmas.Bool.Decides.{nat_tests}
 use Rattle.std.specs.Cmp.Lexicographic.{bytes_decides}
 use Rattle.std.specs.Str.{bytes_eq}
 use Rattle.x7_words.specs.Count.{HasRisen}
 use Rattle.x7_words.specs.Flash.{replaced, FlashIsAskedFor, IsTorn, TimeElapses, KeepsBytes, OnlyReads, SeesBytes, WritesNothing}
-use Rattle.x7_in_memory.specs.Memory.{FlashInMemory, PastWrite, WriteRecord, left_by, write_refused, next_tear, latest_tear, flash_write_fails, known_flash, names_asked, seen_in, after_memory_attach, after_read_at, flash_call_fails, begun, after_refusal, after_tear, after_begun_write, after_flash_write, recorded, has_room}
+use Rattle.x7_in_memory.specs.Memory.{FlashInMemory, PastWrite, WriteRecord, left_by, write_refused, next_tear, latest_tear, flash_write_fails, known_flash, with_call, attach_answer, raised_if, names_asked, seen_in, after_memory_attach, after_read_at, flash_call_fails, begun, after_refusal, after_tear, after_begun_write, after_flash_write, recorded, has_room}
 use Rattle.x7_in_memory.specs.FoundSince.{FoundSince}
+use Rattle.x7_ghost.specs.Answered.{read_call}
+use Rattle.x7_words.specs.Count.{raised}
+use Rattle.x7_words.specs.FlashHistory.{CallsFor, NoFlashFault, attach_call}
+use Rattle.x7_words.specs.declared.flash_call.FlashCall.{FlashCall}
+use Rattle.x7_words.specs.declared.flash_call.FlashCall.TheVariants.{Read, ReadFailed}
+use Rattle.x7_words.specs.declared.input.SelectFault.{SelectFault}
+use Rattle.x7_words.specs.declared.input.SelectFault.TheVariants.{Missing, Failed}
 use Rattle.x7_words.proofs.CountLemmas.{raised_risen}
 use Rattle.x7_words.proofs.FlashLemmas.{get_or_slice_range, old_is_torn}
 use Rattle.x7_in_memory.proofs.TornLemmas.{left_is_torn, left_back, length_left_in}
@@ -149,6 +156,7 @@ module _ (old new : FlashInMemory) (place : ℕ) (target : List ℕ) (within : p
     pub absences : new.absences ≡ old.absences
     pub names : names_asked new ≡ names_asked old
     pub moment : length new.writes.past ≤ length old.writes.past + 1
+    pub quiet : OnOk answer (new.write_faults ≡ old.write_faults)
 
   pub promised : (answer : Result (Unit {0}) FailedWrite) → is_err answer ≡ flash_write_fails old (length target) → new ≡ after_flash_write old place target → Promised answer
   promised answer a e =
@@ -164,8 +172,13 @@ module _ (old new : FlashInMemory) (place : ℕ) (target : List ℕ) (within : p
         absences = tells_same (λ f. f.absences) refl (λ tear. refl) (is_err answer) w;
         names = tells_same names_asked refl (λ tear. refl) (is_err answer) w;
         moment = tells_moment (is_err answer) w;
+        quiet = quiet answer w;
       }
     where
+      quiet : (r : Result (Unit {0}) FailedWrite) → Went old new place target (is_err r) → OnOk r (new.write_faults ≡ old.write_faults)
+      quiet (Ok _) w = ap (λ f. f.write_faults) (tells_done w)
+      quiet (Err _) w = tt
+
       written : (r : Result (Unit {0}) FailedWrite) → Went old new place target (is_err r) → OnOk r (Some new.bytes ≡ Some (replaced place target old.bytes))
       written (Ok _) w = ap (λ f. Some f.bytes) (tells_done w)
       written (Err _) w = tt
@@ -177,6 +190,85 @@ module _ (old new : FlashInMemory) (place : ℕ) (target : List ℕ) (within : p
       failed : (r : Result (Unit {0}) FailedWrite) → Went old new place target (is_err r) → OnErr r (HasRisen old.write_faults new.write_faults)
       failed (Ok _) w = tt
       failed (Err _) w = tells_risen w
+
+-- what all flashes promise of a write holds too where its call is kept
+pub promised_kept : (old new : FlashInMemory) (place : ℕ) (target : List ℕ) (within : place + length target ≤ length old.bytes) (call : FlashCall) (answer : Result (Unit {0}) FailedWrite)
+    → is_err answer ≡ flash_write_fails old (length target) → new ≡ with_call call (after_flash_write old place target) → Promised old new place target within answer
+promised_kept old new place target within call answer a e = subst (λ n. Promised old n place target within answer) (sym e) (kept (promised old (after_flash_write old place target) place target within answer a refl))
+  where
+    kept : Promised old (after_flash_write old place target) place target within answer → Promised old (with_call call (after_flash_write old place target)) place target within answer
+    kept p = record {
+      written = p.written;
+      torn = p.torn;
+      passes = p.passes;
+      failed = p.failed;
+      attached = p.attached;
+      extent = p.extent;
+      faults = p.faults;
+      absences = p.absences;
+      names = p.names;
+      moment = p.moment;
+      quiet = p.quiet;
+    }
+
+-- ---- what a call adds
+
+-- a call is added, and the flash stays attached
+called_by : (old new : FlashInMemory) (call : FlashCall) → new.history ≡ old.history ++ call ∷ [] → length new.bytes ≡ length old.bytes → new.attached ≡ old.attached → CallsFor call (known_flash old) (known_flash new)
+called_by old new call c s a = λ i. record { calls = c i; size = s i; attached = a i }
+
+-- a write leaves the calls
+pub write_history : (old : FlashInMemory) (place : ℕ) (target : List ℕ) → (after_flash_write old place target).history ≡ old.history
+write_history old place target = by (write_refused old (length target))
+  where
+    by : (is_refused : Bool) → (cond is_refused (after_refusal old) (after_begun_write old place target (next_tear old))).history ≡ old.history
+    by true = refl
+    by false = refl
+
+-- a write is one call
+pub write_called : (old new : FlashInMemory) (place : ℕ) (target : List ℕ) (call : Result (Unit {0}) FailedWrite → FlashCall) (answer : Result (Unit {0}) FailedWrite) → new ≡ with_call (call answer) (after_flash_write old place target)
+    → length new.bytes ≡ length old.bytes → new.attached ≡ old.attached
+    → OnOk answer (CallsFor (call (Ok tt)) (known_flash old) (known_flash new)) × OnErr answer (CallsFor (call (Err (record {}))) (known_flash old) (known_flash new))
+write_called old new place target call answer e s a = by answer (ap (λ f. f.history) e ∙ ap (λ calls. calls ++ call answer ∷ []) (write_history old place target))
+  where
+    by : (r : Result (Unit {0}) FailedWrite) → new.history ≡ old.history ++ call r ∷ [] → OnOk r (CallsFor (call (Ok tt)) (known_flash old) (known_flash new)) × OnErr r (CallsFor (call (Err (record {}))) (known_flash old) (known_flash new))
+    by (Ok _) h = (called_by old new (call (Ok tt)) h s a, tt)
+    by (Err _) h = (tt, called_by old new (call (Err (record {}))) h s a)
+
+-- a read is one call
+pub read_called : (old new : FlashInMemory) (place size : ℕ) (buffer : List ℕ) (answer : Result (Unit {0}) FailedWrite) → new ≡ with_call (read_call place buffer answer) (after_read_at old place size) → length buffer ≡ size
+    → OnOk answer (CallsFor (Read place buffer) (known_flash old) (known_flash new)) × OnErr answer (CallsFor (ReadFailed place size) (known_flash old) (known_flash new))
+read_called old new place size buffer (Ok _) e l = (called_by old new (Read place buffer) (ap (λ f. f.history) e) (ap (λ f. length f.bytes) e) (ap (λ f. f.attached) e), tt)
+read_called old new place size buffer (Err _) e l =
+    (tt, called_by old new (ReadFailed place size) (ap (λ f. f.history) e ∙ ap (λ n. old.history ++ ReadFailed place n ∷ []) l) (ap (λ f. length f.bytes) e) (ap (λ f. f.attached) e))
+
+-- an attach is one call
+pub attach_called : (old new : FlashInMemory) (name : List ℕ) (answer : Result (Unit {0}) SelectFault) → new ≡ with_call (attach_call name (length old.bytes) answer) (after_memory_attach old name) → new.history ≡ old.history ++ attach_call name (length new.bytes) answer ∷ []
+attach_called old new name answer e = ap (λ f. f.history) e ∙ ap (λ n. old.history ++ attach_call name n answer ∷ []) (sym (ap (λ f. length f.bytes) e))
+
+-- what an attach answers, by whether its call fails and whether the name is the flash's own
+abbrev answer_by : Bool → Bool → Result (Unit {0}) SelectFault
+answer_by fails own = if fails then Err Failed else if own then Ok tt else Err Missing
+
+-- an attach that is Ok counts nothing
+pub attach_quiet : (old new : FlashInMemory) (name : List ℕ) (call : FlashCall) (answer : Result (Unit {0}) SelectFault) → answer ≡ attach_answer old name → new ≡ with_call call (after_memory_attach old name) → OnOk answer (NoFlashFault (known_flash old) (known_flash new))
+attach_quiet old new name call (Err _) a e = tt
+attach_quiet old new name call (Ok _) a e =
+    let is : is_err (answer_by (flash_call_fails old) (bytes_eq old.name name)) ≡ false = sym (ap is_err a) in
+    let works = by (flash_call_fails old) (bytes_eq old.name name) is in
+    record {
+      faults = ap (λ f. f.read_faults) e ∙ ap (λ fails. raised_if fails old.read_faults) works;
+      absences = ap (λ f. f.absences) e ∙ absent (flash_call_fails old) (bytes_eq old.name name) is;
+    }
+  where
+    by : (fails own : Bool) → is_err (answer_by fails own) ≡ false → fails ≡ false
+    by false own a = refl
+    by true own a = absurd (cc)
+
+    absent : (fails own : Bool) → is_err (answer_by fails own) ≡ false → (if fails || own then old.absences else raised old.absences) ≡ old.absences
+    absent true own a = refl
+    absent false true a = refl
+    absent false false a = absurd (cc)
 
 -- ---- attaching and reading
 
@@ -202,23 +294,23 @@ asked_other false true true Same f h = inr (f refl refl)
 asked_other false false true Same f h = inl h
 asked_other a own false Same f h = inl refl
 
-pub attach_asks : (old new : FlashInMemory) (name : List ℕ) → new ≡ after_memory_attach old name → FlashIsAskedFor (known_flash old) name (known_flash new)
-attach_asks old new name e = subst (λ (n : FlashInMemory). FlashIsAskedFor (known_flash old) name (known_flash n)) (sym e) (record {
+pub attach_asks : (old new : FlashInMemory) (name : List ℕ) (call : FlashCall) → new ≡ with_call call (after_memory_attach old name) → FlashIsAskedFor (known_flash old) name (known_flash new)
+attach_asks old new name call e = subst (λ (n : FlashInMemory). FlashIsAskedFor (known_flash old) name (known_flash n)) (sym e) (record {
   asked = asked_now old.asked (bytes_eq old.name name);
   no_other = λ other h. asked_other old.asked (bytes_eq old.name name) (bytes_eq old.name other) (other ≡ name)
       (λ own is. sym ((bytes_decides old.name other).0 is) ∙ (bytes_decides old.name name).0 own) h;
 })
 
-pub attach_stays : (old new : FlashInMemory) (name : List ℕ) → new ≡ after_memory_attach old name → old.read_faults ≤ new.read_faults → old.absences ≤ new.absences
+pub attach_stays : (old new : FlashInMemory) (name : List ℕ) (call : FlashCall) → new ≡ with_call call (after_memory_attach old name) → old.read_faults ≤ new.read_faults → old.absences ≤ new.absences
     → KeepsBytes (known_flash old) (known_flash new) (FoundSince old.writes.past old.bytes) (FoundSince new.writes.past new.bytes)
-attach_stays old new name e faults absences = record {
+attach_stays old new name call e faults absences = record {
   bytes = ap (λ f. Some f.bytes) e;
   faults = faults;
   absences = absences;
   unwritten = unwritten_by old new (ap (λ f. f.writes) e) (ap (λ f. f.bytes) e) (ap (λ f. f.write_faults) e);
 }
 
-module _ (old new : FlashInMemory) (place count : ℕ) (e : new ≡ after_read_at old place count) where
+module _ (old new : FlashInMemory) (place count : ℕ) (call : FlashCall) (e : new ≡ with_call call (after_read_at old place count)) where
   -- what was seen stays so
   stays_seen : (at byte : ℕ) → IsTrue (seen_in old at byte) → IsTrue (seen_in new at byte)
   stays_seen at byte h = subst (λ (n : FlashInMemory). IsTrue (seen_in n at byte)) (sym e) (wider (flash_call_fails old))

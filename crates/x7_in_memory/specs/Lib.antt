@@ -3,3 +3,4 @@ pub mod FoundSince
 pub mod WriteRanges
 pub mod Tearing
 pub mod NamedBytes
+pub mod History

@@ -5,6 +5,7 @@ use Rattle.std.specs.Str.{bytes_eq}
 use Rattle.x7_words.specs.Count.{ends_counted, raised}
 use Rattle.x7_words.specs.Flash.{FlashState, replaced, zip_with}
 use Rattle.x7_words.specs.Input.{InputsState}
+use Rattle.x7_words.specs.declared.flash_call.FlashCall.{FlashCall}
 use Rattle.x7_words.specs.declared.input.SelectFault.{SelectFault}
 use Rattle.x7_words.specs.declared.input.SelectFault.TheVariants.{Missing, Failed}
 
@@ -223,6 +224,8 @@ pub record FlashInMemory : Type 0 where
   pub tear : Option Tear
   -- whether a write was torn: all calls fail from then on
   pub stopped : Bool
+  -- the calls with their answers, the newest last
+  pub history : List FlashCall
 
 -- a flash of these bytes under the name, not attached, with no room for a write
 abbrev pub new_flash : List ℕ → List ℕ → FlashInMemory
@@ -240,6 +243,7 @@ new_flash name bytes = record {
   writes = no_writes;
   tear = None;
   stopped = false;
+  history = [];
 }
 
 -- the names that the flash may have been asked for: its own only where it was, and any other, since these aren't kept
@@ -263,7 +267,12 @@ known_flash f = record {
   absences = f.absences;
   write_faults = f.write_faults;
   moments = length f.writes.past;
+  calls = f.history;
 }
+
+-- the flash, which keeps this call
+abbrev pub with_call : FlashCall → FlashInMemory → FlashInMemory
+with_call call f = record f { history = f.history ++ call ∷ [] }
 
 -- the next call of the flash fails, as planned or since a write was torn
 abbrev pub flash_call_fails : FlashInMemory → Bool

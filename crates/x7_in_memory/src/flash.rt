@@ -3,12 +3,16 @@ ghost use Rattle.std.specs.Prelude.{◌≡◌, ◌+◌, ◌<◌, ◌≤◌, ◌^
 ghost use Rattle.x7_words.specs.Count.{IsLaterCount};
 ghost use Rattle.x7_words.specs.Word.{AreBytes};
 ghost use Rattle.x7_words.specs.Flash.{zip_with, cleared, erased_sector, replaced, sector_size, sector_place};
-ghost use Rattle.x7_in_memory.specs.Memory.{new_flash, with_failing_call, flash_call_fails, numbered, with_room, has_room, recorded, left_by, torn_byte, attach_answer, after_memory_attach, after_read_at, write_refused, flash_write_fails, begun, after_refusal, after_flash_write, latest_tear, after_tear};
+ghost use Rattle.x7_words.specs.FlashHistory.{attach_call};
+ghost use Rattle.x7_ghost.specs.Answered.{erase_call, program_call, read_call};
+ghost use Rattle.x7_in_memory.specs.History.{IsCallOf};
+ghost use Rattle.x7_in_memory.specs.Memory.{new_flash, with_call, with_failing_call, flash_call_fails, numbered, with_room, has_room, recorded, left_by, torn_byte, attach_answer, after_memory_attach, after_read_at, write_refused, flash_write_fails, begun, after_refusal, after_flash_write, latest_tear, after_tear};
 
 use crate::calls::Calls;
 use crate::record::Record;
 use std::alloc::Global;
 use std::marker::Model;
+use x7_ghost::FlashCalls;
 use x7_words::{ERASED_BYTE, Failed, Flash, NoMemory, SECTOR_SIZE, SelectFault, are_bytes, raised};
 
 /// A write that is torn: the number of its call, from 1, and the pattern of the bits that stay old.
@@ -45,6 +49,8 @@ pub struct MemoryFlash {
     tear: Option<Torn>,
     // whether a write was torn: all calls fail from then on
     stopped: bool,
+    // the calls with their answers; they have no bytes
+    history: FlashCalls,
 }
 
 impl Drop for MemoryFlash {
@@ -64,6 +70,7 @@ impl Drop for MemoryFlash {
             target: _,
             tear: _,
             stopped: _,
+            history: _,
         } = self;
     }
 }
@@ -89,6 +96,7 @@ impl Model for MemoryFlash {
       writes = f.writes;
       tear = tear_of f.tear;
       stopped = f.stopped;
+      history = f.history;
     } };
 
     ghost invariant = { λ f. (f.absences < 2 ^ 64) × (f.read_faults < 2 ^ 64) × (f.write_faults < 2 ^ 64)
@@ -163,6 +171,7 @@ impl MemoryFlash {
             target: Vec::new(alloc),
             tear: None,
             stopped: false,
+            history: FlashCalls::new(),
         })
     }
 
@@ -263,24 +272,9 @@ impl MemoryFlash {
         self.write_faults = raised(self.write_faults);
         Err(Failed)
     }
-}
 
-impl Flash for MemoryFlash {
-    ghost use Rattle.std.proofs.Common.{refl};
-    ghost use Rattle.x7_in_memory.specs.Memory.{known_flash};
-    ghost use Rattle.x7_in_memory.specs.FoundSince.{FoundSince, found_last, only_bytes};
-
-    ghost state = { known_flash };
-
-    ghost found_since = { λ f moment found. FoundSince f.writes.past f.bytes moment found };
-
-    ghost counted = { λ _. refl };
-
-    ghost found_now = { λ f moment all le is. found_last f.writes.past f.bytes moment all is };
-
-    ghost only_now = { λ f found since. only_bytes f.writes.past f.bytes found since };
-
-    fn attach(&mut self, name: &str) -> Result<(), SelectFault>
+    /// `attach` but for keeping the call.
+    fn try_attach(&mut self, name: &str) -> Result<(), SelectFault>
         ensures answer { result ≡ attach_answer self.old name.now }
         ensures after { self.new ≡ after_memory_attach self.old name.now }
         ensures bytes { AreBytes self.new.bytes }
@@ -303,15 +297,8 @@ impl Flash for MemoryFlash {
         Ok(())
     }
 
-    fn size(&self) -> u64
-        ensures extent { result ≡ length self.now.bytes }
-        ensures bytes { AreBytes self.now.bytes }
-    {
-        are_bytes(&self.bytes);
-        self.bytes.len() as u64
-    }
-
-    fn read_at(&mut self, place: u64, buf: &mut [u8]) -> Result<(), Failed>
+    /// `read_at` but for keeping the call.
+    fn try_read(&mut self, place: u64, buf: &mut [u8]) -> Result<(), Failed>
         requires attached { self.old.attached ≡ true }
         requires within { place + length buf.old ≤ length self.old.bytes }
         ensures answer { is_err result ≡ flash_call_fails self.old }
@@ -334,7 +321,8 @@ impl Flash for MemoryFlash {
         Ok(())
     }
 
-    fn erase(&mut self, sector: u64) -> Result<(), Failed>
+    /// `erase` but for keeping the call.
+    fn try_erase(&mut self, sector: u64) -> Result<(), Failed>
         requires attached { self.old.attached ≡ true }
         requires within { sector_place sector + sector_size ≤ length self.old.bytes }
         ensures answer { is_err result ≡ flash_write_fails self.old sector_size }
@@ -357,7 +345,8 @@ impl Flash for MemoryFlash {
         self.end_write(torn)
     }
 
-    fn program(&mut self, place: u64, given: &[u8]) -> Result<(), Failed>
+    /// `program` but for keeping the call.
+    fn try_program(&mut self, place: u64, given: &[u8]) -> Result<(), Failed>
         requires attached { self.old.attached ≡ true }
         requires within { place + length given.now ≤ length self.old.bytes }
         ensures answer { is_err result ≡ flash_write_fails self.old (length given.now) }
@@ -374,5 +363,89 @@ impl Flash for MemoryFlash {
         let torn = self.torn();
         write_target(&mut self.bytes, &mut self.writes, place, &self.target, torn);
         self.end_write(torn)
+    }
+}
+
+impl Flash for MemoryFlash {
+    ghost use Rattle.std.proofs.Common.{refl};
+    ghost use Rattle.x7_in_memory.specs.Memory.{known_flash};
+    ghost use Rattle.x7_in_memory.specs.FoundSince.{FoundSince, found_last, only_bytes};
+
+    ghost state = { known_flash };
+
+    ghost found_since = { λ f moment found. FoundSince f.writes.past f.bytes moment found };
+
+    ghost counted = { λ _. refl };
+
+    ghost found_now = { λ f moment all le is. found_last f.writes.past f.bytes moment all is };
+
+    ghost only_now = { λ f found since. only_bytes f.writes.past f.bytes found since };
+
+    fn attach(&mut self, name: &str) -> Result<(), SelectFault>
+        ensures answer { result ≡ attach_answer self.old name.now }
+        ensures after { self.new ≡ with_call (attach_call name.now (length self.old.bytes) result)
+            (after_memory_attach self.old name.now) }
+        ensures is_call { IsCallOf (attach_call name.now (length self.old.bytes) result) self.old self.new }
+        ensures bytes { AreBytes self.new.bytes }
+        ensures faults { IsLaterCount self.old.read_faults self.new.read_faults }
+        ensures absences { IsLaterCount self.old.absences self.new.absences }
+    {
+        let answer = self.try_attach(name);
+        self.history.attach(name, self.bytes.len() as u64, answer);
+        answer
+    }
+
+    fn size(&self) -> u64
+        ensures extent { result ≡ length self.now.bytes }
+        ensures bytes { AreBytes self.now.bytes }
+    {
+        are_bytes(&self.bytes);
+        self.bytes.len() as u64
+    }
+
+    fn read_at(&mut self, place: u64, buf: &mut [u8]) -> Result<(), Failed>
+        requires attached { self.old.attached ≡ true }
+        requires within { place + length buf.old ≤ length self.old.bytes }
+        ensures answer { is_err result ≡ flash_call_fails self.old }
+        ensures read { OnOk result (buf.new ≡
+            slice_range self.old.bytes place (place + length buf.old)) }
+        ensures same_buffer { OnErr result (buf.new ≡ buf.old) }
+        ensures length { length buf.new ≡ length buf.old }
+        ensures after { self.new ≡ with_call (read_call place buf.new result)
+            (after_read_at self.old place (length buf.old)) }
+        ensures is_call { IsCallOf (read_call place buf.new result) self.old self.new }
+        ensures faults { IsLaterCount self.old.read_faults self.new.read_faults }
+    {
+        let answer = self.try_read(place, buf);
+        self.history.read_at(place, buf, answer);
+        answer
+    }
+
+    fn erase(&mut self, sector: u64) -> Result<(), Failed>
+        requires attached { self.old.attached ≡ true }
+        requires within { sector_place sector + sector_size ≤ length self.old.bytes }
+        ensures answer { is_err result ≡ flash_write_fails self.old sector_size }
+        ensures after { self.new ≡ with_call (erase_call sector result)
+            (after_flash_write self.old (sector_place sector) erased_sector) }
+        ensures is_call { IsCallOf (erase_call sector result) self.old self.new }
+        ensures write_faults { IsLaterCount self.old.write_faults self.new.write_faults }
+    {
+        let answer = self.try_erase(sector);
+        self.history.erase(sector, answer);
+        answer
+    }
+
+    fn program(&mut self, place: u64, given: &[u8]) -> Result<(), Failed>
+        requires attached { self.old.attached ≡ true }
+        requires within { place + length given.now ≤ length self.old.bytes }
+        ensures answer { is_err result ≡ flash_write_fails self.old (length given.now) }
+        ensures after { self.new ≡ with_call (program_call place given.now result)
+            (after_flash_write self.old place (cleared place given.now self.old.bytes)) }
+        ensures is_call { IsCallOf (program_call place given.now result) self.old self.new }
+        ensures write_faults { IsLaterCount self.old.write_faults self.new.write_faults }
+    {
+        let answer = self.try_program(place, given);
+        self.history.program(place, given, answer);
+        answer
     }
 }

@@ -4,10 +4,12 @@
 mod calls;
 mod flash;
 mod inputs;
+mod laws;
 mod named_bytes;
 mod record;
 mod sink;
 
 pub use flash::MemoryFlash;
 pub use inputs::MemoryInputs;
+pub use laws::memory_flashes_give_what_was_written;
 pub use sink::MemorySink;

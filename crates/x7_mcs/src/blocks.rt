@@ -22,6 +22,7 @@ fn write_rows<S: Sink>(out: &mut S, flash: &[u8], block: &mut Vec<u8>) -> Result
     ensures whole { OnOk result (PutsAll (S.state out.old) (row_lines 0 (rows row_size flash.now)) (S.state out.new)) }
     ensures prefix { PutsSome (S.state out.old) (row_lines 0 (rows row_size flash.now)) (S.state out.new) }
     ensures failed { OnErr result (SinkFails (S.state out.old) (S.state out.new)) }
+    ensures no_fault { OnOk result ((S.state out.new).faults ≡ (S.state out.old).faults) }
     ensures counts { SinkFaultsNeverFall (S.state out.old) (S.state out.new) }
     ensures room { block_room ≤ vec_capacity block.new }
 {
@@ -73,6 +74,7 @@ impl McsText {
         ensures whole { OnOk result (PutsAll (S.state out.old) (mcs_text self.old) (S.state out.new)) }
         ensures prefix { PutsSome (S.state out.old) (mcs_text self.old) (S.state out.new) }
         ensures failed { OnErr result (SinkFails (S.state out.old) (S.state out.new)) }
+        ensures no_fault { OnOk result ((S.state out.new).faults ≡ (S.state out.old).faults) }
         ensures same { self.new ≡ self.old }
     {
         write_rows(out, &self.image, &mut self.block)?;

@@ -15,20 +15,20 @@ mishap_cause : (m : Mishap) (form : AskedForm) (old new : Outside) (event : Even
 mishap_cause (Failing name given) form old new event e h = subst (λ (c : ReasonCause). CausedBy c form old new event) (ap cause_of_event e) h
 mishap_cause (Lacking name) form old new event e h = subst (λ (c : ReasonCause). CausedBy c form old new event) (ap cause_of_event e) (inl h)
 
-outside_cause : (form : AskedForm) (old new : Outside) (event : Event) → IsFromOutside {A = Answer} (known_in old) (CameInRun (Some form) old new) (λ t end. FormGives t form end) (Err event) → CausedBy (cause_of_event event) form old new event
+outside_cause : (form : AskedForm) (old new : Outside) (event : Event) → IsFromOutside {A = Answer} (known_in old new) (CameInRun (Some form) old new) (λ t end. FormGives t form end) (Err event) → CausedBy (cause_of_event event) form old new event
 outside_cause form old new event (inl e) = subst (λ (x : Event). CausedBy (cause_of_event x) form old new x) (sym e) refl
 outside_cause form old new event (inr h) = mishap_cause h.mishap form old new event h.reports h
 
-known_cause : (cause : ReasonCause) (known : Known) (form : AskedForm) (old new : Outside) (event : Event) → known_in old ≡ Some known → DecidedBy cause → FormGives known form (Err event) → CausedBy cause form old new event
+known_cause : (cause : ReasonCause) (known : Known) (form : AskedForm) (old new : Outside) (event : Event) → known_in old new ≡ Some known → DecidedBy cause → FormGives known form (Err event) → CausedBy cause form old new event
 known_cause Absence known form old new event k d h = inr (rw k h)
 known_cause Contents known form old new event k d h = rw k h
 known_cause cause known form old new event k d h = absurd d
 
-open_cause : (cause : ReasonCause) (form : AskedForm) (old new : Outside) (event : Event) → known_in old ≡ None → PossibleBy cause → CausedBy cause form old new event
+open_cause : (cause : ReasonCause) (form : AskedForm) (old new : Outside) (event : Event) → known_in old new ≡ None → PossibleBy cause → CausedBy cause form old new event
 open_cause Contents form old new event k o = rw k tt
 open_cause cause form old new event k o = absurd o
 
-due_cause : (known : Option Known) (form : AskedForm) (old new : Outside) (got : Result Answer Event) → known_in old ≡ known → IsDue known (λ t end. FormGives t form end) got → EndIsCaused (Some form) old new got
+due_cause : (known : Option Known) (form : AskedForm) (old new : Outside) (got : Result Answer Event) → known_in old new ≡ known → IsDue known (λ t end. FormGives t form end) got → EndIsCaused (Some form) old new got
 due_cause None form old new (Ok answer) k h = rw k tt
 due_cause (Some known) form old new (Ok answer) k h = rw k h.1
 due_cause None form old new (Err event) k h = open_cause (cause_of_event event) form old new event k h
@@ -38,7 +38,7 @@ due_cause (Some known) form old new (Err event) k h = known_cause (cause_of_even
 pub has_cause : (form : AskedForm) (old new : Outside) (got : Result Answer Event) → AnswersOver form old new got → EndIsCaused (Some form) old new got
 has_cause form old new (Ok answer) (inl h) = absurd h
 has_cause form old new (Err event) (inl h) = outside_cause form old new event h
-has_cause form old new got (inr h) = due_cause (known_in old) form old new got refl h
+has_cause form old new got (inr h) = due_cause (known_in old new) form old new got refl h
 
 -- what forms other than `list` leave of the output where nothing was written
 pub leaves_all : (form : AskedForm) (cause : ReasonCause) (old new : Outside) (event : Event) → listed_by (Some form) ≡ None → (cause ≡ Break → ⊥) → new.out.written ≡ old.out.written → OutputByCause cause (Some form) old new event

@@ -7,11 +7,10 @@ use Rattle.x7_words.specs.Input.{InputsState}
 use Rattle.x7_forms.specs.Event.{Event}
 use Rattle.x7_forms.specs.Known.{Answer, Known, Mishap, whole_known, with_inputs, with_mishap}
 use Rattle.x7_forms.specs.Step.{AnswersBy, CameIn, DueBy, IsCaused, IsCausedBy, ReadsWhole, step_over}
-use Rattle.x7_forms.proofs.ReadLemmas.{outside_goes}
-use Rattle.std.proofs.Common.{inl, inr, ◌≡◌, ℕ, List, [], ◌∷◌, ◌++◌, Option, None, Some, Ok, Err, ap, sym, subst, ◌∙◌, append_assoc, append-nil, Result}
-use Rattle.x7_words.specs.Input.{InputsState, RestIsWhole, preceded}
+use Rattle.x7_forms.proofs.ReadLemmas.{outside_goes, rest_go}
+use Rattle.std.proofs.Common.{inl, inr, ◌≡◌, ℕ, List, [], ◌∷◌, ◌++◌, Option, None, Some, Ok, Err, sym, subst, append_assoc, append-nil, Result}
+use Rattle.x7_words.specs.Input.{InputsStay, RestIsWhole, TakenBy, preceded}
 use Rattle.x7_forms.specs.Step.{CameIn, step_over}
-use Rattle.x7_words.proofs.InputLemmas.{preceded_preceded}
 use Rattle.x7_forms.specs.Event.{Event}
 use Rattle.x7_forms.specs.Known.{Mishap, with_inputs}
 
@@ -31,7 +30,7 @@ module _ {T F : Type 0} (took : T → List (List ℕ) → Type 0) (fails : F →
 -- a text that was not read is the event of whatever is made of it
 pub unread_by : (name : List ℕ) (limit : ℕ) (D : Known → Result Answer Event → Type 0) (old new : InputsState) (event : Event) → ((t : Known) → whole_known t limit name ≡ Err event → D t (Err event)) → ReadsWhole old new limit name (Err event)
     → AnswersBy (step_over (name ∷ []) old new) D (Err event)
-unread_by name limit D old new event f h = λ flash. by (with_inputs old.contents flash) (h flash)
+unread_by name limit D old new event f h = λ flash. by (with_inputs new.contents flash) (h flash)
   where
     C : Mishap → Type 0
     C = CameIn (step_over (name ∷ []) old new)
@@ -46,7 +45,5 @@ unread_by name limit D old new event f h = λ flash. by (with_inputs old.content
     by (Some t) (inr x) = inr (x.0, f t x.1)
 
 -- bytes more were taken
-pub taken_more : (contents : Option (List ℕ → Option (List ℕ))) (name taken piece : List ℕ) (old new : Option (List ℕ)) → RestIsWhole contents name (preceded taken old) → old ≡ preceded piece new → RestIsWhole contents name (preceded (taken ++ piece) new)
-taken_more contents name taken piece old new s e =
-    let whole : preceded taken old ≡ preceded (taken ++ piece) new = ap (preceded taken) e ∙ preceded_preceded taken piece new in
-    subst (λ r. RestIsWhole contents name r) whole s
+pub taken_more : (mid new : InputsState) (name taken piece : List ℕ) → InputsStay mid new → RestIsWhole mid.contents name (preceded taken mid.rest) → TakenBy new.contents mid.rest piece new.rest → RestIsWhole new.contents name (preceded (taken ++ piece) new.rest)
+taken_more mid new name taken piece s w t = rest_go mid.contents new.contents name taken piece mid.rest new.rest s.map t w

@@ -26,24 +26,24 @@ pub want_stops : (form : AskedForm) (old now : InputsState) (event : Event) → 
 want_stops form old now event e = subst (λ (x : Event). StopsBy (cause_of_event x) form old now x) (sym e) tt
 
 -- reading stopped at one of the form's inputs
-pub among_stops : (form : AskedForm) (old now : InputsState) (event : Event) → StopsAmong (inputs_of old.contents form) old now event → StopsBy (cause_of_event event) form old now event
+pub among_stops : (form : AskedForm) (old now : InputsState) (event : Event) → StopsAmong (inputs_of now.contents form) old now event → StopsBy (cause_of_event event) form old now event
 among_stops form old now event (inl e) = want_stops form old now event e
 among_stops form old now event (inr h) = stops_by (cause_of_event event) form old now event (inr (inr h))
 
 -- reading stopped at the first of the form's inputs
 pub first_stops : (form : AskedForm) (first : Limited) (others : List Limited) (old now : InputsState) (event : Event)
-    → inputs_of old.contents form ≡ first ∷ others → IsLastAsked first.name first.limit now → AsksAtMost old 1 now → IsAbout first.name event → StopsBy (cause_of_event event) form old now event
-first_stops form first others old now event i s n a = among_stops form old now event (about_among (inputs_of old.contents form) [] first others old now event i s n a)
+    → inputs_of now.contents form ≡ first ∷ others → IsLastAsked first.name first.limit now → AsksAtMost old 1 now → IsAbout first.name event → StopsBy (cause_of_event event) form old now event
+first_stops form first others old now event i s n a = among_stops form old now event (about_among (inputs_of now.contents form) [] first others old now event i s n a)
 
 -- reading stopped at the second of the form's inputs
 pub second_stops : (form : AskedForm) (first second : Limited) (others : List Limited) (old now : InputsState) (event : Event)
-    → inputs_of old.contents form ≡ first ∷ second ∷ others → IsLastAsked second.name second.limit now → AsksAtMost old 2 now → IsAbout second.name event → StopsBy (cause_of_event event) form old now event
-second_stops form first second others old now event i s n a = among_stops form old now event (about_among (inputs_of old.contents form) (first ∷ []) second others old now event i s n a)
+    → inputs_of now.contents form ≡ first ∷ second ∷ others → IsLastAsked second.name second.limit now → AsksAtMost old 2 now → IsAbout second.name event → StopsBy (cause_of_event event) form old now event
+second_stops form first second others old now event i s n a = among_stops form old now event (about_among (inputs_of now.contents form) (first ∷ []) second others old now event i s n a)
 
 -- reading stopped at the third of the form's inputs
 pub third_stops : (form : AskedForm) (first second third : Limited) (others : List Limited) (old now : InputsState) (event : Event)
-    → inputs_of old.contents form ≡ first ∷ second ∷ third ∷ others → IsLastAsked third.name third.limit now → AsksAtMost old 3 now → IsAbout third.name event → StopsBy (cause_of_event event) form old now event
-third_stops form first second third others old now event i s n a = among_stops form old now event (about_among (inputs_of old.contents form) (first ∷ second ∷ []) third others old now event i s n a)
+    → inputs_of now.contents form ≡ first ∷ second ∷ third ∷ others → IsLastAsked third.name third.limit now → AsksAtMost old 3 now → IsAbout third.name event → StopsBy (cause_of_event event) form old now event
+third_stops form first second third others old now event i s n a = among_stops form old now event (about_among (inputs_of now.contents form) (first ∷ second ∷ []) third others old now event i s n a)
 
 -- a call's result, where each refusal stops so
 pub result_stops : {A B : Type 0} (value : A → B) (form : AskedForm) (old now : InputsState) (r : Result A Refusal) → IfErr r (λ x. StopsBy (cause_of_event (event_of x)) form old now (event_of x)) → StopsReading (Some form) old now (result_by value r)

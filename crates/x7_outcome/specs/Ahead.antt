@@ -47,28 +47,28 @@ pub record GivesNear (bytes : List ℕ) (given : ℕ) (before after : List ℕ) 
 -- read than are listed
 abbrev pub IsNear : List ℕ → Outside → Outside → Type 0
 IsNear stream old new =
-    (inputs : List ℕ → Option (List ℕ)) (bytes left before after : List ℕ) → old.inputs.contents ≡ Some inputs → inputs stream ≡ Some bytes → new.inputs.rest ≡ Some left
+    (inputs : List ℕ → Option (List ℕ)) (bytes left before after : List ℕ) → new.inputs.contents ≡ Some inputs → inputs stream ≡ Some bytes → new.inputs.rest ≡ Some left
     → old.out.written ≡ Some before → new.out.written ≡ Some after → ReadsNear bytes left before after
 
 -- where the stream and what the sink got are known, at most `most_bytes_ahead` bytes more were given than are listed:
 -- after a fault nothing may be known of what is left
 abbrev pub IsGivenNear : List ℕ → Outside → Outside → Type 0
 IsGivenNear stream old new =
-    (inputs : List ℕ → Option (List ℕ)) (bytes before after : List ℕ) → old.inputs.contents ≡ Some inputs → inputs stream ≡ Some bytes
+    (inputs : List ℕ → Option (List ℕ)) (bytes before after : List ℕ) → new.inputs.contents ≡ Some inputs → inputs stream ≡ Some bytes
     → old.out.written ≡ Some before → new.out.written ≡ Some after → GivesNear bytes new.inputs.given before after
 
 -- where the stream and what is left of it are known, and its header is refused at the byte `place`, from 0, no byte
 -- after that byte was read
 abbrev pub IsRefusedSoon : List ℕ → Outside → Outside → Type 0
 IsRefusedSoon stream old new =
-    (inputs : List ℕ → Option (List ℕ)) (bytes left : List ℕ) (place : ℕ) → old.inputs.contents ≡ Some inputs → inputs stream ≡ Some bytes → new.inputs.rest ≡ Some left → stream_listing bytes ≡ Err place
+    (inputs : List ℕ → Option (List ℕ)) (bytes left : List ℕ) (place : ℕ) → new.inputs.contents ≡ Some inputs → inputs stream ≡ Some bytes → new.inputs.rest ≡ Some left → stream_listing bytes ≡ Err place
     → length bytes ≤ length left + (place + 1)
 
 -- where the stream is known and made of bytes, and its header is refused at a byte that it has, no more bytes are
 -- counted as given than stand before that byte
 abbrev pub IsUnjudged : List ℕ → Outside → Outside → Type 0
 IsUnjudged stream old new =
-    (inputs : List ℕ → Option (List ℕ)) (bytes : List ℕ) (place : ℕ) → old.inputs.contents ≡ Some inputs → inputs stream ≡ Some bytes
+    (inputs : List ℕ → Option (List ℕ)) (bytes : List ℕ) (place : ℕ) → new.inputs.contents ≡ Some inputs → inputs stream ≡ Some bytes
     → AreBytes bytes → stream_listing bytes ≡ Err place → place < length bytes
     → new.inputs.given ≤ place
 

@@ -4,6 +4,7 @@ use Rattle.std.specs.Prelude.{◌≡◌, ◌<◌, ◌≤◌, ℕ, List, [], ◌�
 use Rattle.x7_words.specs.Flash.{FlashState, IfKnown}
 use Rattle.x7_words.specs.Input.{AsksAtMost, InputsState, InputsStay}
 use Rattle.x7_boot.specs.Image.{flash_limit}
+use Rattle.x7_boot.specs.Reads.{IfAgrees, answers_since}
 use Rattle.x7_update.specs.Writing.{IsFirstRead, IsReadWrong}
 use Rattle.x7_words.specs.Sink.{PutsAll, PutsPrefix, PutsSome, SinkFails, SinkState}
 use Rattle.x7_words.specs.Word.{AreBytes}
@@ -17,6 +18,7 @@ use Rattle.x7_part.specs.Part.{PartData}
 use Rattle.x7_forms.specs.Status.{final_status}
 use Rattle.x7_forms.specs.Step.{Among, AnswersBy, IsCausedBy, IsOfMishap, step_over}
 use Rattle.x7_outcome.specs.Ahead.{StaysNear}
+use Rattle.x7_outcome.specs.Called.{UpdateCalled}
 use Rattle.x7_outcome.specs.Outcome.{FlashBoots, FormGives, no_text}
 use Rattle.x7_outcome.specs.Leaving.{HasData, UpdateLeaves}
 use Rattle.x7_outcome.specs.Outside.{CameInRun, FlashFailsAmong, FlashLacksAmong, Outside, Sources, Transfer, WritesFail, known_in, sources, with_sources, with_transfer}
@@ -37,7 +39,7 @@ GivesIfKnown (Some known) form end = FormGives known form end
 -- The event reports a mishap that came; where the contents are known, the form comes to the event over them with that
 -- mishap.
 abbrev pub ReportsMishap : AskedForm → Outside → Outside → Event → Type 0
-ReportsMishap form old new event = IsOfMishap Answer (known_in old) (CameInRun (Some form) old new) (λ known end. FormGives known form end) event
+ReportsMishap form old new event = IsOfMishap Answer (known_in old new) (CameInRun (Some form) old new) (λ known end. FormGives known form end) event
 
 -- At `place` of the flash another byte was read than an update with the data of the stream named `stream` writes there.
 -- This byte is the first such one of these data and the FF after them, or of the switch word of the slot that is
@@ -52,13 +54,13 @@ pub record ReadsWrongAt (known : Option Known) (stream : List ℕ) (new : FlashS
 
 -- the event says that a byte differs, of a flash that the form updates and whose bytes aren't known
 abbrev pub IsDifference : AskedForm → Outside → Outside → Event → Type 0
-IsDifference (UpdatingFlash name stream) old new event = (place : ℕ) × (event ≡ differs name place) × (old.flash.bytes ≡ None) × ReadsWrongAt (known_in old) stream new.flash place
+IsDifference (UpdatingFlash name stream) old new event = (place : ℕ) × (event ≡ differs name place) × (old.flash.bytes ≡ None) × ReadsWrongAt (known_in old new) stream new.flash place
 IsDifference _ old new event = ⊥
 
 -- A write of the flash of a form failed: the flash is within the limit, and where the contents are known, the form
 -- comes over them to its whole text, which is empty.
 abbrev pub WritesLast : AskedForm → Outside → Outside → Type 0
-WritesLast form old new = WritesFail (updated_by (Some form)) old.flash new.flash × (new.flash.extent ≤ flash_limit) × GivesIfKnown (known_in old) form (Ok no_text)
+WritesLast form old new = WritesFail (updated_by (Some form)) old.flash new.flash × (new.flash.extent ≤ flash_limit) × GivesIfKnown (known_in old new) form (Ok no_text)
 
 -- by its cause, what is so of an event that ends a form
 abbrev pub CausedBy : ReasonCause → AskedForm → Outside → Outside → Event → Type 0
@@ -70,20 +72,26 @@ CausedBy Want form old new event = event ≡ no_memory
 CausedBy Fault form old new event = ReportsMishap form old new event
 -- the event reports a name that was missing, by the count of absences, and is the first one over known contents without
 -- that name; or known contents give the event
-CausedBy Absence form old new event = ReportsMishap form old new event ⊎ IsKnownToGive (known_in old) form (Err event)
+CausedBy Absence form old new event = ReportsMishap form old new event ⊎ IsKnownToGive (known_in old new) form (Err event)
 -- the output failed, or a write of the flash, as `WritesLast` says
 CausedBy Break form old new event = (event ≡ writing_failed) × (SinkFails old.out new.out ⊎ WritesLast form old new)
 -- a byte of a flash whose bytes aren't known differs, and where the contents are known, they give the event
-CausedBy Difference form old new event = IsDifference form old new event × GivesIfKnown (known_in old) form (Err event)
+CausedBy Difference form old new event = IsDifference form old new event × GivesIfKnown (known_in old new) form (Err event)
 -- where the contents are known, they give the event
-CausedBy Contents form old new event = GivesIfKnown (known_in old) form (Err event)
+CausedBy Contents form old new event = GivesIfKnown (known_in old new) form (Err event)
 
 -- why a command ended so: words without a form are a wrong usage, a whole text is that of the contents where they are
 -- known, and an event has its cause
 abbrev pub EndIsCaused : Option AskedForm → Outside → Outside → Result Answer Event → Type 0
 EndIsCaused None old new end = end ≡ Err usage
-EndIsCaused (Some form) old new (Ok answer) = GivesIfKnown (known_in old) form (Ok answer)
+EndIsCaused (Some form) old new (Ok answer) = GivesIfKnown (known_in old new) form (Ok answer)
 EndIsCaused (Some form) old new (Err event) = CausedBy (cause_of_event event) form old new event
+
+-- The text of a boot is that of every flash of this size that gives what was read, one of the system too.
+abbrev pub BootsAsRead : Option AskedForm → Sources → Sources → Result Answer Event → Type 0
+BootsAsRead (Some (Booting part flash)) old new (Ok answer) =
+    IfAgrees (answers_since old.flash new.flash) (λ all. GivesIfKnown (with_inputs new.inputs.contents (Some all)) (Booting part flash) (Ok answer))
+BootsAsRead form old new end = Unit {0}
 
 -- ---- what the output got
 
@@ -106,7 +114,7 @@ pub record ListsSoFar (bytes : List ℕ) (old new : Option (List ℕ)) : Type 0 
 -- follow them
 abbrev pub ListsPrefix : List ℕ → Outside → Outside → Type 0
 ListsPrefix stream old new =
-    (new.out.written ≡ old.out.written) ⊎ ((bytes : List ℕ) × (IsPrefixOfInput (known_in old) stream bytes × ListsSoFar bytes old.out.written new.out.written))
+    (new.out.written ≡ old.out.written) ⊎ ((bytes : List ℕ) × (IsPrefixOfInput (known_in old new) stream bytes × ListsSoFar bytes old.out.written new.out.written))
 
 -- what `list` wrote where a reason ended it: what it had listed as it read, or nothing
 -- where the reason comes before the listing
@@ -141,7 +149,7 @@ GetsPrefixOfText (Some known) form old new = GetsPrefixOfKnown (listed_by (Some 
 
 -- what the output got where a write failed: a prefix of the text; of a form with a stream for a flash, nothing
 abbrev pub OutputAfterFailure : Option (List ℕ) → AskedForm → Outside → Outside → Type 0
-OutputAfterFailure None form old new = GetsPrefixOfText (known_in old) form old.out new.out
+OutputAfterFailure None form old new = GetsPrefixOfText (known_in old new) form old.out new.out
 OutputAfterFailure (Some stream) form old new = new.out.written ≡ old.out.written
 
 -- what the output got after an event of this cause
@@ -153,6 +161,12 @@ OutputByCause _ form old new event = OutputAfterEvent (listed_by form) event old
 abbrev pub OutputGets : Option AskedForm → Outside → Outside → Result Answer Event → Type 0
 OutputGets form old new (Ok answer) = PutsAll old.out answer.text new.out
 OutputGets form old new (Err event) = OutputByCause (cause_of_event event) form old new event
+
+-- The output failed in no call, by its count of faults; save where the event is a write fault, or memory was wanting. So
+-- a failed write is the last, and no other reason is told after it.
+abbrev pub FailsOutLast : {A : Type 0} → SinkState → SinkState → Result A Event → Type 0
+FailsOutLast old new (Ok a) = new.faults ≡ old.faults
+FailsOutLast old new (Err event) = (event ≡ no_memory) ⊎ ((event ≡ writing_failed) ⊎ (new.faults ≡ old.faults))
 
 -- ---- how large a flash is
 
@@ -197,14 +211,16 @@ JudgesFlash form old new end = Unit {0}
 -- ---- the end of a command
 
 -- how a command ended: why, what the output got, how far `list` read ahead, how large the flash is, what was in order
--- before the flash failed, and what an update left
+-- before the flash failed, what an update left and called its flash for, and of which flashes the text of a boot is
 pub record CommandEnds (form : Option AskedForm) (old new : Outside) (end : Result Answer Event) : Type 0 where
   pub cause : EndIsCaused form old new end
   pub wrote : OutputGets form old new end
   pub near : StaysNear (final_status end) form old new
   pub measured : IsMeasured form new.flash end
-  pub fails_last : FailsLast form old.inputs new.flash end
+  pub fails_last : FailsLast form new.inputs new.flash end
   pub updates : UpdateLeaves (updated_by form) old new end
+  pub called : UpdateCalled form old new end
+  pub as_read : BootsAsRead form (sources old.inputs old.flash) (sources new.inputs new.flash) end
 
 -- how a command ended, by whether what it wrote reports that something stopped, or by the event
 abbrev pub CommandEndsAs : Option AskedForm → Outside → Outside → Result Bool Event → Type 0
@@ -239,7 +255,7 @@ PutsAnswer (Ok answer) old new (Err event) = (event ≡ writing_failed) × SinkF
 -- a text of the form that is ready, or the event in place of it, has its cause: the form gives it over the known
 -- contents, or what the form names failed or was missing, or memory was wanting
 abbrev pub AnswersOver : AskedForm → Outside → Outside → Result Answer Event → Type 0
-AnswersOver form old new got = IsCausedBy (known_in old) (CameInRun (Some form) old new) (λ known end. FormGives known form end) got
+AnswersOver form old new got = IsCausedBy (known_in old new) (CameInRun (Some form) old new) (λ known end. FormGives known form end) got
 
 -- a text of the form that is ready, or the event in place of it, has its cause in what the form reads, whatever the
 -- sinks hold
@@ -265,9 +281,10 @@ pub record MakesReady (form : AskedForm) (old new : InputsState) (got : Result A
 -- the rest is as in `MakesReady`.
 pub record MakesReadyFrom (form : AskedForm) (old new : Sources) (got : Result Answer Event) : Type 0 where
   pub caused : AnswersFrom form old new got
+  pub as_read : BootsAsRead (Some form) old new got
   pub stops : StopsReading (Some form) old.inputs new.inputs got
   pub measured : IsMeasured (Some form) new.flash got
-  pub fails_last : FailsLast (Some form) old.inputs new.flash got
+  pub fails_last : FailsLast (Some form) new.inputs new.flash got
   pub judges : JudgesFlash (Some form) old new got
   pub asks : AsksAtMost old.inputs (length (names_of (Some form))) new.inputs
   pub stays : InputsStay old.inputs new.inputs

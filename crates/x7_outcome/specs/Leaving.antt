@@ -1,8 +1,11 @@
 -- What a run leaves of a flash, and what may be found of it after a power loss at any moment (this project's choice).
-use Rattle.std.specs.Prelude.{◌≡◌, ℕ, List, Option, None, Some, Result, Ok, Err, ◌⊎◌}
+use Rattle.std.specs.Prelude.{◌≡◌, ℕ, List, drop, length, Option, None, Some, Result, Ok, Err, ◌⊎◌}
 use Rattle.x7_words.specs.Flash.{FlashFails, FlashState}
 use Rattle.x7_words.specs.FlashCalls.{FlashModel}
+use Rattle.x7_words.specs.FlashHistory.{MayLeave}
 use Rattle.x7_words.specs.Input.{InputsState}
+use Rattle.x7_words.specs.Word.{AreBytes}
+use Rattle.x7_words.specs.declared.flash_call.FlashCall.{FlashCall}
 use Rattle.x7_update.specs.After.{IsAfterUpdate, MayBeLeft}
 use Rattle.x7_update.specs.Writing.{AtAnyMoment, Becomes}
 use Rattle.x7_forms.specs.declared.refusal.Why.{Why}
@@ -24,10 +27,31 @@ abbrev pub MayBeFound : Option Known → Option (List ℕ) → List ℕ → List
 MayBeFound known None flash found = found ≡ flash
 MayBeFound known (Some stream) flash found = (found ≡ flash) ⊎ ((bytes : List ℕ) × HasData known stream bytes × MayBeLeft bytes flash found)
 
+-- a flash of which these bytes are known
+abbrev pub holding : List ℕ → FlashState → FlashState
+holding all state = record state { bytes = Some all }
+
+-- the calls from one state of a flash to a later one
+abbrev pub calls_since : FlashState → FlashState → List FlashCall
+calls_since old new = drop (length old.calls) new.calls
+
+-- a power loss at any moment of the calls from one state of a flash to a later one leaves what the flash held, whatever
+-- that is
+abbrev pub LeavesAsItWas : FlashState → FlashState → Type 0
+LeavesAsItWas old new = (flash found : List ℕ) → MayLeave (calls_since old new) flash found → found ≡ flash
+
+-- What a form leaves of a flash, whatever the flash held before: where it gives what it holds, a power loss at any
+-- moment of the calls leaves what may be found of it.
+abbrev pub LeavesAnyFlash : Option AskedForm → Sources → FlashState → Type 0
+LeavesAnyFlash form old new =
+    (flash found : List ℕ) → length flash ≡ new.extent → AreBytes flash → MayLeave (calls_since old.flash new) flash found
+    → MayBeFound (known_from (record old { flash = holding flash old.flash })) (updated_by form) flash found
+
 -- what a run does to the flash; and what the flash may hold, after a power loss at any moment of the run and at its end
 pub record UsesFlash (form : Option AskedForm) (old : Sources) (new : FlashState) (past since : ℕ → List ℕ → Type 0) : Type 0 where
   pub keeps : UsesFlashAs (flash_use form) old.flash new
   pub moments : AtAnyMoment old.flash new past since (MayBeFound (known_from old) (updated_by form))
+  pub left : LeavesAnyFlash form old new
 
 -- what a call for a form, over these inputs, does to the flash; and what the flash may hold, after a power loss at any
 -- moment of the call and at its end
@@ -46,5 +70,5 @@ BytesAfterReason reason old new = new.bytes ≡ old.bytes
 -- contents aren't known. Of one that isn't, `BytesAfterReason` says what it leaves.
 abbrev pub UpdateLeaves : Option (List ℕ) → Outside → Outside → Result Answer Event → Type 0
 UpdateLeaves None old new end = Unit {0}
-UpdateLeaves (Some stream) old new (Ok answer) = (bytes : List ℕ) × HasData (known_in old) stream bytes × Becomes old.flash new.flash (IsAfterUpdate bytes)
+UpdateLeaves (Some stream) old new (Ok answer) = (bytes : List ℕ) × HasData (known_in old new) stream bytes × Becomes old.flash new.flash (IsAfterUpdate bytes)
 UpdateLeaves (Some stream) old new (Err event) = BytesAfterReason event.reason old.flash new.flash

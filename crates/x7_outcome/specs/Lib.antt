@@ -1,5 +1,6 @@
 pub mod Ahead
 pub mod Boot
+pub mod Called
 pub mod Ending
 pub mod Feeding
 pub mod Generate

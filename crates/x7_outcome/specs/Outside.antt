@@ -49,9 +49,9 @@ with_transfer o t = record o { inputs = t.inputs; out = t.out }
 abbrev pub outside : InputsState → FlashState → SinkState → SinkState → Outside
 outside inputs flash out err = record { inputs = inputs; flash = flash; out = out; err = err }
 
--- what is known of the inputs and of the flash; nothing where the inputs aren't known
-abbrev pub known_in : Outside → Option Known
-known_in o = with_inputs o.inputs.contents o.flash.bytes
+-- what is known, at the end, of the inputs, and before, of the flash; nothing where the inputs aren't known
+abbrev pub known_in : Outside → Outside → Option Known
+known_in old new = with_inputs new.inputs.contents old.flash.bytes
 
 -- the flash `name`, one of `names`, failed: it may have been asked for by that name, and its count of faults rose
 pub record FlashFailsAmong (names : List (List ℕ)) (old new : FlashState) (name : List ℕ) : Type 0 where

@@ -31,7 +31,7 @@ inputs_of contents (FromMcs text) = limited text_limit text ∷ []
 -- the event names the form's flash, or is that too many words were read out, or names the input at which reading
 -- stopped
 abbrev pub NamesItsStop : AskedForm → InputsState → InputsState → Event → Type 0
-NamesItsStop form old now event = Among (flash_names (Some form)) event.concerned ⊎ ((event ≡ too_many_reads) ⊎ StopsAt (inputs_of old.contents form) old now event)
+NamesItsStop form old now event = Among (flash_names (Some form)) event.concerned ⊎ ((event ≡ too_many_reads) ⊎ StopsAt (inputs_of now.contents form) old now event)
 
 -- by the cause of an event: one that lies in what an input or a flash holds, in its fault or in its absence names where
 -- the command stopped; of any other nothing is said

@@ -1,7 +1,9 @@
 //! A flash that a command reads or updates, attached under its name.
-ghost use Rattle.std.specs.Prelude.{◌≡◌, ◌≤◌, IfErr, OnOk, length, true, false};
+ghost use Rattle.std.specs.Prelude.{◌≡◌, ◌≤◌, IfErr, OnErr, OnOk, length, true, false};
 ghost use Rattle.x7_words.specs.Flash.{FlashIsAskedFor, ExtentIsLength, IfKnown};
 ghost use Rattle.x7_words.specs.FlashCalls.{CallKeepsBytes};
+ghost use Rattle.x7_words.specs.FlashHistory.{history_of};
+ghost use Rattle.x7_outcome.specs.Called.{AttachedAs, OnlyAttaches};
 ghost use Rattle.x7_boot.specs.Image.{flash_limit};
 ghost use Rattle.x7_forms.specs.Event.{event_of};
 ghost use Rattle.x7_outcome.specs.Outside.{ReadsFlash};
@@ -18,6 +20,8 @@ pub fn attach<'w, F: Flash>(flash: &mut F, name: &'w str) -> Result<(), Refusal<
     ensures reads { ReadsFlash name.now (F.state flash.old) (F.state flash.new) }
     ensures stays { CallKeepsBytes F.Flash flash.old flash.new }
     ensures asks { FlashIsAskedFor (F.state flash.old) name.now (F.state flash.new) }
+    ensures called { OnOk result (AttachedAs name.now (F.state flash.old) (history_of (F.state flash.new))) }
+    ensures called_alone { OnErr result (OnlyAttaches name.now (F.state flash.old) (F.state flash.new)) }
     ensures sized { ExtentIsLength (F.state flash.new) }
 {
     match flash.attach(name) {
@@ -41,6 +45,8 @@ pub fn open_flash<'w, F: Flash>(flash: &mut F, name: &'w str) -> Result<(), Refu
     ensures refused { IfErr result (λ r. IsUnattachedOrLarge name.now (F.state flash.old) (F.state flash.new) (event_of r)) }
     ensures stays { CallKeepsBytes F.Flash flash.old flash.new }
     ensures asks { FlashIsAskedFor (F.state flash.old) name.now (F.state flash.new) }
+    ensures called { OnOk result (AttachedAs name.now (F.state flash.old) (history_of (F.state flash.new))) }
+    ensures called_alone { OnErr result (OnlyAttaches name.now (F.state flash.old) (F.state flash.new)) }
 {
     attach(flash, name)?;
     if flash.size() > FLASH_LIMIT {

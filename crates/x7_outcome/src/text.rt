@@ -4,7 +4,7 @@ ghost use Rattle.x7_words.specs.Sink.{PutsPrefix, SinkFails, appended};
 ghost use Rattle.x7_forms.specs.Known.{Answer};
 ghost use Rattle.x7_outcome.specs.Play.{play_answer};
 ghost use Rattle.x7_outcome.specs.Ready.{bytes_answer, mcs_answer, text_answer};
-ghost use Rattle.x7_outcome.specs.Ending.{PutsAnswer};
+ghost use Rattle.x7_outcome.specs.Ending.{FailsOutLast, PutsAnswer};
 ghost use Rattle.x7_forms.specs.Step.{result_by};
 
 use x7_forms::{Refusal, Why};
@@ -25,7 +25,8 @@ pub trait Ready {
     fn write<O: Sink>(&mut self, out: &mut O) -> Result<(), Failed>
         ensures whole { OnOk result ((O.state out.new).written ≡ appended (O.state out.old).written (answer self.old).text) }
         ensures prefix { PutsPrefix (O.state out.old).written (answer self.old).text (O.state out.new).written }
-        ensures failed { OnErr result (SinkFails (O.state out.old) (O.state out.new)) };
+        ensures failed { OnErr result (SinkFails (O.state out.old) (O.state out.new)) }
+        ensures no_fault { OnOk result ((O.state out.new).faults ≡ (O.state out.old).faults) };
 }
 
 /// A text that was made whole, and whether what it reports stopped (`Status::Stopped`).
@@ -94,7 +95,8 @@ pub fn put_whole<'w, T: Ready + Drop, O: Sink>(
     whole: Result<T, Refusal<'w>>,
     out: &mut O,
 ) -> Result<bool, Refusal<'w>>
-    ensures { PutsAnswer (result_by T.answer whole.entry) (O.state out.old) (O.state out.new) (result_by (λ stopped. stopped) result) }
+    ensures put { PutsAnswer (result_by T.answer whole.entry) (O.state out.old) (O.state out.new) (result_by (λ stopped. stopped) result) }
+    ensures failed_last { FailsOutLast (O.state out.old) (O.state out.new) (result_by (λ stopped. stopped) result) }
 {
     let mut text = whole?;
     let stopped = text.is_stopped();

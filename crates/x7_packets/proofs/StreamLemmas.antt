@@ -2,8 +2,8 @@
 use Rattle.std.proofs.Common.{Option, ◌≡◌, ◌≢◌, ℕ, ◌+◌, ◌*◌, ◌-◌, ◌<◌, ◌≤◌, ◌↔◌, Bool, true, false, List, [], ◌∷◌, ◌++◌, length, take, drop, Bor, inl, inr, refl, ap, sym, subst, ◌∙◌, append_assoc, append-nil, arith, length-append, length-take, if◌then◌else◌, ◌⊎◌, suc}
 use Rattle.std.specs.Bool.{⊤}
 use Rattle.std.proofs.lemmas.List.{drop-drop, drop-take, take-append-drop, take-take, take_all, take_at, drop_all}
-use Rattle.x7_words.specs.Input.{AtEnd, preceded}
-use Rattle.x7_words.proofs.InputLemmas.{preceded_nil}
+use Rattle.x7_words.specs.Input.{AtEnd, InputsState, InputsStay, TakenBy}
+use Rattle.x7_words.proofs.InputLemmas.{taken_before, taken_none, taken_on}
 use Rattle.x7_words.specs.Word.{words_of_bytes}
 use Rattle.x7_packets.specs.SyncWord.{sync_bytes}
 use Rattle.x7_packets.specs.Packet.{Packet, ended, payload_steps}
@@ -597,23 +597,24 @@ again p off good = record {
   good = good;
 }
 
-pub gives_again : (p : PacketsState) (rest : Option (List ℕ)) (r : Run) → p.is_done ≡ true → p.has_failed ≡ false → AtEnd rest → r ≡ run.End → GivesRun p (record p { found = FoundRun.End }) rest rest r
-gives_again p rest r off good end at =
+pub gives_again : (p : PacketsState) (now : InputsState) (r : Run) → p.is_done ≡ true → p.has_failed ≡ false → AtEnd now.rest → r ≡ run.End → GivesRun p (record p { found = FoundRun.End }) now now r
+gives_again p now r off good end at =
     let same : record p { found = FoundRun.End } ≡ record p { found = FoundRun.End; is_done = true } = ap (λ (d : Bool). record p { found = FoundRun.End; is_done = d }) off in
-    rw (same, at) (record { more = []; taken = sym (preceded_nil rest); tells = again p off good; end = λ _. end })
+    rw (same, at) (record { more = []; taken = taken_none now.contents now.rest; tells = again p off good; end = λ _. end })
 
 -- a read that gave no byte, and then the tail or the end
-pub gives_end : (first old now mid new : PacketsState) (more piece : List ℕ) (rest rest_mid rest_now : Option (List ℕ)) (r : Run) (s : CutsNext old now false) → old.is_done ≡ false → old.has_failed ≡ false → TookBytes first old more
-    → rest ≡ preceded more rest_mid → rest_mid ≡ preceded piece rest_now → mid ≡ filled now piece → piece ≡ [] → AtEnd rest_now
+pub gives_end : (first old now mid new : PacketsState) (more piece : List ℕ) (first_in mid_in now_in : InputsState) (r : Run) (s : CutsNext old now false) → old.is_done ≡ false → old.has_failed ≡ false → TookBytes first old more
+    → InputsStay mid_in now_in → TakenBy mid_in.contents first_in.rest more mid_in.rest → TakenBy now_in.contents mid_in.rest piece now_in.rest → mid ≡ filled now piece → piece ≡ [] → AtEnd now_in.rest
     → (mid.cutter.kept ≢ [] → new ≡ record mid { found = FoundRun.Tail; is_done = true }) → (mid.cutter.kept ≡ [] → new ≡ record mid { found = FoundRun.End; is_done = true })
-    → IsLastFound new r → GivesRun first new rest rest_now r
-gives_end first old now mid new more piece rest rest_mid rest_now r s on good reads t u is none end tail no_tail last =
+    → IsLastFound new r → GivesRun first new first_in now_in r
+gives_end first old now mid new more piece first_in mid_in now_in r s on good reads stays t u is none end tail no_tail last =
     let at : mid ≡ filled now [] = is ∙ ap (filled now) none in
     let by_tail : now.cutter.kept ≢ [] → new ≡ record (filled now []) { found = FoundRun.Tail; is_done = true } = subst (λ (m : PacketsState). m.cutter.kept ≢ [] → new ≡ record m { found = FoundRun.Tail; is_done = true }) at tail in
     let by_none : now.cutter.kept ≡ [] → new ≡ record (filled now []) { found = FoundRun.End; is_done = true } = subst (λ (m : PacketsState). m.cutter.kept ≡ [] → new ≡ record m { found = FoundRun.End; is_done = true }) at no_tail in
     record {
       more = more;
-      taken = t ∙ ap (preceded more) (u ∙ ap (λ (p : List ℕ). preceded p rest_now) none ∙ preceded_nil rest_now);
+      taken = subst (λ (b : List ℕ). TakenBy now_in.contents first_in.rest b now_in.rest) (ap (λ (p : List ℕ). more ++ p) none ∙ append-nil more)
+          (taken_on now_in.contents first_in.rest mid_in.rest now_in.rest more piece (taken_before mid_in.contents now_in.contents first_in.rest more mid_in.rest stays.map t) u);
       tells = (tells_end first old now new more r s on good reads by_tail by_none last).0;
       end = λ _. end;
     }

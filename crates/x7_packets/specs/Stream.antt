@@ -1,9 +1,9 @@
 -- Packets over an input: what a reader of packets stands for, and what each run that it lends says (this project's
 -- choice).
-use Rattle.std.specs.Prelude.{◌≡◌, ℕ, ◌+◌, ◌<◌, ◌≤◌, ◌↔◌, List, [], ◌++◌, length, take, drop, Bool, true, false, if◌then◌else◌, Option, Result, Ok, Err, OnErr, OnOk, ◌⊎◌}
+use Rattle.std.specs.Prelude.{◌≡◌, ℕ, ◌+◌, ◌<◌, ◌≤◌, ◌↔◌, List, [], ◌++◌, length, take, drop, Bool, true, false, if◌then◌else◌, Result, Ok, Err, OnErr, OnOk, ◌⊎◌}
 use Rattle.std.specs.Borrow.{Bor, Fml, MutBor}
 use Rattle.std.specs.Io.BufRead.{Rests}
-use Rattle.x7_words.specs.Input.{AtEnd, InputsFail, InputsState, InputsStay, preceded, taken_bytes_limit}
+use Rattle.x7_words.specs.Input.{AtEnd, InputsFail, InputsState, InputsStay, TakenBy, taken_bytes_limit}
 use Rattle.x7_words.specs.declared.input.Failed.{Failed}
 use Rattle.x7_packets.specs.Reading.{Place, Searching, Synced, EndedSession, IsReading, tail_of}
 use Rattle.x7_packets.specs.Cutter.{CutterStandsFor, CutsRun, IsLent, IsNeed, SkipsAll}
@@ -85,13 +85,13 @@ abbrev pub filled : PacketsState → List ℕ → PacketsState
 filled p piece = record p { left = piece; bytes = []; taken = p.taken + length piece }
 
 -- one read: a piece of some bytes, or the end of the input
-pub record ReadsPiece (old new : PacketsState) (rest rest_now : Option (List ℕ)) (gave_bytes : Bool) : Type 0 where
+pub record ReadsPiece (old new : PacketsState) (before after : InputsState) (gave_bytes : Bool) : Type 0 where
   pub piece : List ℕ
-  pub taken : rest ≡ preceded piece rest_now
+  pub taken : TakenBy after.contents before.rest piece after.rest
   pub is : new ≡ filled old piece
   pub most : length piece ≤ piece_size
   pub some : gave_bytes ≡ true → 0 < length piece
-  pub end : gave_bytes ≡ false → (piece ≡ []) × AtEnd rest_now
+  pub end : gave_bytes ≡ false → (piece ≡ []) × AtEnd after.rest
 
 -- of two modes of a cutter: in both, or in neither, a sync word was found that is still to be given
 abbrev pub SameSyncFound : Mode → Mode → Type 0
@@ -125,11 +125,11 @@ pub record ReadsAndGives (old new : PacketsState) (more : List ℕ) (r : Run) : 
   pub good : new.has_failed ≡ false
 
 -- the call gave a run: the tail and the end only where the input's rest, if it is known, is empty
-pub record GivesRun (old new : PacketsState) (rest rest_now : Option (List ℕ)) (r : Run) : Type 0 where
+pub record GivesRun (old new : PacketsState) (before after : InputsState) (r : Run) : Type 0 where
   pub more : List ℕ
-  pub taken : rest ≡ preceded more rest_now
+  pub taken : TakenBy after.contents before.rest more after.rest
   pub tells : ReadsAndGives old new more r
-  pub end : is_last r ≡ true → AtEnd rest_now
+  pub end : is_last r ≡ true → AtEnd after.rest
 
 -- a call may come: the input is selected unless an earlier call failed, its rest, if it is known, is empty once the
 -- tail or the end was given, and the count of bytes taken can still grow
@@ -153,10 +153,10 @@ pub record GivesUp (old new : PacketsState) : Type 0 where
   pub failed : new.has_failed ≡ true
 
 -- a call gave a run, or failed
-abbrev pub EndsCall : PacketsState → PacketsState → Option (List ℕ) → Option (List ℕ) → Result Run Failed → Type 0
-EndsCall old new rest rest_now (Ok r) = GivesRun old new rest rest_now r
-EndsCall old new rest rest_now (Err e) = GivesUp old new
+abbrev pub EndsCall : PacketsState → PacketsState → InputsState → InputsState → Result Run Failed → Type 0
+EndsCall old new before after (Ok r) = GivesRun old new before after r
+EndsCall old new before after (Err e) = GivesUp old new
 
 -- once the run that it lends is given back, the reader is one after a call with this result
-abbrev pub EndsNextCall : MutBor PacketsState → Option (List ℕ) → Option (List ℕ) → Result Run Failed → Fml
-EndsNextCall p rest rest_now result = Rests the_row p (λ new. EndsCall p.now new rest rest_now result)
+abbrev pub EndsNextCall : MutBor PacketsState → InputsState → InputsState → Result Run Failed → Fml
+EndsNextCall p before after result = Rests the_row p (λ new. EndsCall p.now new before after result)

@@ -146,7 +146,7 @@ impl Packets {
         requires selected { self.old.has_failed ≡ false → (I.state inputs.old).selected ≡ true }
         requires end { self.old.is_done ≡ true → AtEnd (I.state inputs.old).rest }
         requires count { self.old.taken ≤ taken_bytes_limit }
-        ensures* next { sem 𝓛 (EndsNextCall self.entry (I.state inputs.old).rest (I.state inputs.new).rest result) }
+        ensures* next { sem 𝓛 (EndsNextCall self.entry (I.state inputs.old) (I.state inputs.new) result) }
         ensures failed { OnErr result ((self.old.has_failed ≡ true) ⊎ InputsFail (I.state inputs.old) (I.state inputs.new)) }
         ensures selected { OnOk result ((I.state inputs.new).selected ≡ true) }
         ensures stays_failed { self.old.has_failed ≡ true → OnOk result ⊥ }
@@ -162,7 +162,7 @@ impl Packets {
     fn advance<I: Inputs>(&mut self, inputs: &mut I) -> Result<(), Failed>
         requires { MayCall self.old (I.state inputs.old) }
         ensures gives_run { OnOk result ((r : Run) → IsLastFound self.new r
-            → GivesRun self.old self.new (I.state inputs.old).rest (I.state inputs.new).rest r) }
+            → GivesRun self.old self.new (I.state inputs.old) (I.state inputs.new) r) }
         ensures gives_up { OnErr result (GivesUp self.old self.new) }
         ensures call { IsCallResult self.old (I.state inputs.old) (I.state inputs.new) result }
         ensures reads_no_more { self.old.is_done ≡ true → inputs.new ≡ inputs.old }
@@ -229,7 +229,7 @@ impl Packets {
         requires selected { (I.state inputs.old).selected ≡ true }
         requires none_left { self.old.left ≡ [] }
         requires count { self.old.taken + piece_size < 2 ^ 64 }
-        ensures fills { IfOk result (λ gave_bytes. ReadsPiece self.old self.new (I.state inputs.old).rest (I.state inputs.new).rest gave_bytes) }
+        ensures fills { IfOk result (λ gave_bytes. ReadsPiece self.old self.new (I.state inputs.old) (I.state inputs.new) gave_bytes) }
         ensures loses_bytes { OnErr result (self.new ≡ record self.old { bytes = []; has_failed = true }) }
         ensures failed { OnErr result (InputsFail (I.state inputs.old) (I.state inputs.new)) }
         ensures selected { OnOk result ((I.state inputs.new).selected ≡ true) }

@@ -101,7 +101,7 @@ pub fn play_streams<'w, I: Inputs>(
     ensures played { IfOk result (λ player. PlaysStreams part.now player (I.state inputs.old) (I.state inputs.new) (map string_bytes streams.now)) }
     ensures refused { IfErr result (λ r. ReadsStreams (I.state inputs.old) (I.state inputs.new) (map string_bytes streams.now) (Err (event_of r))) }
     ensures named { IfErr result (λ r. IsOneUnplayed (map string_bytes streams.now) (event_of r)) }
-    ensures stops { IfErr result (λ r. StopsAmong (limited_together (I.state inputs.old).contents stream_limit (map string_bytes streams.now))
+    ensures stops { IfErr result (λ r. StopsAmong (limited_together (I.state inputs.new).contents stream_limit (map string_bytes streams.now))
         (I.state inputs.old) (I.state inputs.new) (event_of r)) }
     ensures asks { AsksAtMost (I.state inputs.old) (length streams.now) (I.state inputs.new) }
     ensures inputs { InputsStay (I.state inputs.old) (I.state inputs.new) }

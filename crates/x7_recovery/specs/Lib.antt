@@ -6,3 +6,4 @@ pub mod OpenSlot
 pub mod PlannedImage
 pub mod Recovery
 pub mod Updated
+pub mod Region

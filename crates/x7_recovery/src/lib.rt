@@ -7,6 +7,7 @@ mod golden_law;
 mod image_law;
 mod laws;
 mod open_law;
+mod region_law;
 
 pub use clean_law::{updated_flashes_fall_back, updates_keep_golden_streams};
 pub use golden_law::{
@@ -16,3 +17,4 @@ pub use golden_law::{
 pub use image_law::{images_boot, premises_hold};
 pub use laws::{found_flashes_boot, images_are_prepared, images_are_updatable};
 pub use open_law::{flashes_have_an_open_slot, open_slots_boot};
+pub use region_law::{regions_boot_alone, updated_regions_boot_alike};

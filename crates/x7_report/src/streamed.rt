@@ -48,6 +48,7 @@ fn write_lines<S: Sink>(
     ensures whole { OnOk result (PutsAll (S.state out.old) (frame_lines_text (frame_at part.now memory.now) fars.now) (S.state out.new)) }
     ensures prefix { PutsSome (S.state out.old) (frame_lines_text (frame_at part.now memory.now) fars.now) (S.state out.new) }
     ensures failed { OnErr result (SinkFails (S.state out.old) (S.state out.new)) }
+    ensures no_fault { OnOk result ((S.state out.new).faults ≡ (S.state out.old).faults) }
     ensures counts { SinkFaultsNeverFall (S.state out.old) (S.state out.new) }
     ensures room { room_at_once ≤ vec_capacity buffer.new }
 {
@@ -137,6 +138,7 @@ impl PlayText {
         ensures whole { OnOk result (PutsAll (S.state out.old) self.old.text (S.state out.new)) }
         ensures prefix { PutsSome (S.state out.old) self.old.text (S.state out.new) }
         ensures failed { OnErr result (SinkFails (S.state out.old) (S.state out.new)) }
+        ensures no_fault { OnOk result ((S.state out.new).faults ≡ (S.state out.old).faults) }
         ensures same { self.new ≡ self.old }
     {
         write_all(out, &self.head)?;

@@ -1,6 +1,8 @@
 -- Lemmas on specs/Ahead.
-use Rattle.std.proofs.Common.{◌≡◌, ℕ, ◌+◌, ◌<◌, ◌≤◌, ◌⊎◌, inl, inr, List, [], ◌++◌, Option, Some, Result, Ok, Err, length, length-append, ap, refl, sym, subst, ◌∙◌, append-nil, append_assoc, arith}
-use Rattle.x7_words.specs.Input.{AsksForName, InputsState, preceded, RestIsWhole}
+use Rattle.std.proofs.Common.{IfSome, ◌≡◌, ℕ, ◌+◌, ◌<◌, ◌≤◌, ◌⊎◌, inl, inr, List, [], ◌++◌, Option, Some, Result, Ok, Err, length, length-append, ap, refl, sym, subst, ◌∙◌, append-nil, append_assoc, arith}
+use Rattle.x7_header.specs.Header.{HasOtherLetterAt}
+use Rattle.x7_words.specs.Input.{AsksForName, InputsState, InputsStay, preceded, RestIsWhole}
+use Rattle.x7_words.proofs.InputLemmas.{rest_on}
 use Rattle.x7_words.specs.Word.{AreBytes}
 use Rattle.x7_words.specs.Sink.{SinkState, appended, PutsPrefix}
 use Rattle.x7_words.proofs.SinkLemmas.{appended_appended, appended_nil}
@@ -18,7 +20,7 @@ use Rattle.x7_forms.specs.Form.{Listing}
 use Rattle.x7_forms.specs.Turn.{IsBadBeginning, NoLetterGiven, UnreadBeginning, Unopened, UnreadToEnd, longest_beginning, turn_size}
 use Rattle.x7_stream_forms.specs.Between.{ListsInTurns, ListsStream}
 use Rattle.x7_forms.proofs.BeginningLemmas.{letter_there}
-use Rattle.x7_forms.proofs.ReadLemmas.{known_all}
+use Rattle.x7_forms.proofs.ReadLemmas.{known_all, whole_later}
 use Rattle.x7_stream_forms.proofs.Causes.{may_follow, nothing_listed, nothing_taken}
 use Rattle.x7_stream_forms.proofs.TurnLemmas.{stream_whole}
 use Rattle.x7_outcome.proofs.FeedLemmas.{taken_more}
@@ -54,7 +56,7 @@ StaysBy status.ReadFault contents stream given rest old new = UnjudgedBy content
 StaysBy status.NoMemory contents stream given rest old new = GivenBy contents stream given old new
 StaysBy s contents stream given rest old new = Unit {0}
 
-stays_by : (s : Status) (stream : List ℕ) (old new : Outside) → StaysBy s old.inputs.contents stream new.inputs.given new.inputs.rest old.out.written new.out.written → StaysNearBy s stream old new
+stays_by : (s : Status) (stream : List ℕ) (old new : Outside) → StaysBy s new.inputs.contents stream new.inputs.given new.inputs.rest old.out.written new.out.written → StaysNearBy s stream old new
 stays_by status.WriteFault stream old new h = h
 stays_by status.TooLarge stream old new h = h
 stays_by status.BadInput stream old new h = h
@@ -62,7 +64,7 @@ stays_by status.ReadFault stream old new h = h
 stays_by status.NoMemory stream old new h = h
 stays_by s stream old new h = tt
 
-pub stays_near : (event : Event) (stream : List ℕ) (old new : Outside) → StaysBy (status_of_event event) old.inputs.contents stream new.inputs.given new.inputs.rest old.out.written new.out.written → StaysNear (status_of_event event) (Some (Listing stream)) old new
+pub stays_near : (event : Event) (stream : List ℕ) (old new : Outside) → StaysBy (status_of_event event) new.inputs.contents stream new.inputs.given new.inputs.rest old.out.written new.out.written → StaysNear (status_of_event event) (Some (Listing stream)) old new
 stays_near event stream old new h = stays_by (status_of_event event) stream old new h
 
 -- ---- what has become longer
@@ -165,9 +167,9 @@ turn_given contents stream taken line content given l rest old mid new s few e t
 same_place : (m n : ℕ) (r : Result (List ℕ) ℕ) → r ≡ Err m → r ≡ Err n → m ≡ n
 same_place m n r a b = let e : Err m ≡ r = sym a in cc
 
-pub bad_soon : (contents : Option (List ℕ → Option (List ℕ))) (stream name : List ℕ) (m n : InputsState) (event : Event) → RestIsWhole contents stream m.rest → IsBadBeginning m n name event → SoonBy contents stream n.rest
-bad_soon contents stream name m n event s b inputs bytes left place c i r l =
-    let sel : RestIsWhole contents stream (preceded b.bytes n.rest) = subst (λ (k : Option (List ℕ)). RestIsWhole contents stream k) b.taken s in
+pub bad_soon : (stream name : List ℕ) (m n : InputsState) (event : Event) → InputsStay m n → RestIsWhole m.contents stream m.rest → IsBadBeginning m n name event → SoonBy n.contents stream n.rest
+bad_soon stream name m n event later s b inputs bytes left place c i r l =
+    let sel = rest_on m.contents n.contents stream b.bytes m.rest n.rest later.map b.taken s in
     let t = known_all inputs stream b.bytes n.rest (subst (λ (k : Option (List ℕ → Option (List ℕ))). RestIsWhole k stream (preceded b.bytes n.rest)) c sel) in
     let tail : left ≡ t.0 = let e = t.1.0 in cc in
     let whole : bytes ≡ b.bytes ++ t.0 = let e = t.1.1 in cc in
@@ -178,12 +180,13 @@ bad_soon contents stream name m n event s b inputs bytes left place c i r l =
 -- ---- what a fault finds
 
 -- where the header was not judged yet, no wrong letter was given
-pub prefix_unjudged : (contents : Option (List ℕ → Option (List ℕ))) (stream name : List ℕ) (m n : InputsState) → RestIsWhole contents stream m.rest → AsksForName name m → NoLetterGiven m n → UnjudgedBy contents stream n.given
-prefix_unjudged contents stream name m n s a g inputs bytes place c i fits e l =
+pub prefix_unjudged : (stream name : List ℕ) (m n : InputsState) → RestIsWhole n.contents stream m.rest → AsksForName name m → NoLetterGiven m n → UnjudgedBy n.contents stream n.given
+prefix_unjudged stream name m n s a g inputs bytes place c i fits e l =
+    let none = subst (λ (k : Option (List ℕ → Option (List ℕ))). IfSome k (λ map. (bytes : List ℕ) (place : ℕ) → m.rest ≡ Some bytes → HasOtherLetterAt bytes place → n.given ≤ m.given + place)) c g in
     let t = known_all inputs stream [] m.rest (nothing_taken (Some inputs) stream m.rest (subst (λ (k : Option (List ℕ → Option (List ℕ))). RestIsWhole k stream m.rest) c s)) in
     let whole : bytes ≡ t.0 = let f = t.1.1 in cc in
     let rest : m.rest ≡ Some bytes = t.1.0 ∙ ap Some (sym whole) in
-    omega (arith, a.given, g bytes place rest (letter_there bytes place fits e l))
+    omega (arith, a.given, none bytes place rest (letter_there bytes place fits e l))
 
 -- where the header was judged well, none is refused
 pub judged_unjudged : (contents : Option (List ℕ → Option (List ℕ))) (stream taken : List ℕ) (rest : Option (List ℕ)) (given : ℕ) → RestIsWhole contents stream (preceded taken rest) → ((left : List ℕ) → (text : List ℕ) × (stream_listing (taken ++ left) ≡ Ok text))
@@ -205,25 +208,26 @@ module _ (contents : Option (List ℕ → Option (List ℕ))) (stream : List ℕ
   unopened_near s n name event a l (inl h, none) = as_event n.given event (missing name) h.0 tt
   unopened_near s n name event a l (inr h, none) = as_event n.given event (reading_failed name) h.0 (λ inputs bytes place c i fits e f. omega (arith, a.given), prefix_given contents stream n.given old new (omega (arith, a.given)) l)
 
-  pub without_prefix_near : (m n : InputsState) (name : List ℕ) (event : Event) → n.rest ≡ rest → RestIsWhole contents stream m.rest → AsksForName name m → n.given ≤ m.given + longest_beginning → Longer old new → UnreadBeginning m name n event
+  pub without_prefix_near : (m n : InputsState) (name : List ℕ) (event : Event) → n.rest ≡ rest → n.contents ≡ contents → InputsStay m n → RestIsWhole m.contents stream m.rest → AsksForName name m → n.given ≤ m.given + longest_beginning → Longer old new → UnreadBeginning m name n event
       → StaysBy (status_of_event event) contents stream n.given rest old new
-  without_prefix_near m n name event e s a few l (inl h) = as_event n.given event no_memory h (prefix_given contents stream n.given old new (omega (arith, a.given, few)) l)
-  without_prefix_near m n name event e s a few l (inr (inl h)) =
-      as_event n.given event (reading_failed name) h.0 (prefix_unjudged contents stream name m n s a h.3, prefix_given contents stream n.given old new (omega (arith, a.given, few)) l)
-  without_prefix_near m n name event e s a few l (inr (inr h)) =
-      as_event n.given event (bad_input name (input.Byte h.place)) h.reports (subst (λ (r : Option (List ℕ)). SoonBy contents stream r) e (bad_soon contents stream name m n event s h))
+  without_prefix_near m n name event e k later s a few l (inl h) = as_event n.given event no_memory h (prefix_given contents stream n.given old new (omega (arith, a.given, few)) l)
+  without_prefix_near m n name event e k later s a few l (inr (inl h)) =
+      as_event n.given event (reading_failed name) h.0 (subst (λ (c : Option (List ℕ → Option (List ℕ))). UnjudgedBy c stream n.given) k (prefix_unjudged stream name m n (whole_later m.contents n.contents stream m.rest later.map s) a h.3), prefix_given contents stream n.given old new (omega (arith, a.given, few)) l)
+  without_prefix_near m n name event e k later s a few l (inr (inr h)) =
+      as_event n.given event (bad_input name (input.Byte h.place)) h.reports (subst (λ (r : Option (List ℕ)). SoonBy contents stream r) e (subst (λ (c : Option (List ℕ → Option (List ℕ))). SoonBy c stream n.rest) k (bad_soon stream name m n event later s h)))
 
-  pub unread_near : (s n : InputsState) (name taken : List ℕ) (l : ListerState) (left : ℕ) (event : Event) → n.rest ≡ rest → RestIsWhole contents stream (preceded taken s.rest) → (t : ListsStream l old new taken)
+  pub unread_near : (s n : InputsState) (name taken : List ℕ) (l : ListerState) (left : ℕ) (event : Event) → n.rest ≡ rest → n.contents ≡ contents → InputsStay s n → RestIsWhole s.contents stream (preceded taken s.rest) → (t : ListsStream l old new taken)
       → n.given ≤ length taken + turn_size → (event ≡ too_large name → left < turn_size) → Longer new new → UnreadToEnd s name n left event → StaysBy (status_of_event event) contents stream n.given rest old new
-  unread_near s n name taken l left event e sel t few over same (inl h) =
+  unread_near s n name taken l left event e k later sel t few over same (inl h) =
+      let here = subst (λ (c : Option (List ℕ → Option (List ℕ))). RestIsWhole c stream (preceded taken s.rest)) k (whole_later s.contents n.contents stream (preceded taken s.rest) later.map sel) in
       as_event n.given event (reading_failed name) h.0 (
-        judged_unjudged contents stream taken s.rest n.given sel (λ more. (t.line ++ listing_of (t.content ++ more), t.listing more)),
-        turn_given contents stream taken t.line t.content n.given l s.rest old new new sel few (stream_whole taken t.line t.content (t.listing [])) t.lists same,
+        judged_unjudged contents stream taken s.rest n.given here (λ more. (t.line ++ listing_of (t.content ++ more), t.listing more)),
+        turn_given contents stream taken t.line t.content n.given l s.rest old new new here few (stream_whole taken t.line t.content (t.listing [])) t.lists same,
       )
-  unread_near s n name taken l left event e sel t few over same (inr h) =
+  unread_near s n name taken l left event e k later sel t few over same (inr h) =
       let piece = h.1.0 in
       let some = over h.0 in
-      let near = turn_near contents stream taken piece t.line t.content l n.rest old new new (taken_more contents stream taken piece s.rest n.rest sel h.1.1.0) t.short_header (omega (arith, some, h.1.1.1)) (stream_whole taken t.line t.content (t.listing [])) t.lists same in
+      let near = turn_near contents stream taken piece t.line t.content l n.rest old new new (subst (λ (c : Option (List ℕ → Option (List ℕ))). RestIsWhole c stream (preceded (taken ++ piece) n.rest)) k (taken_more s n stream taken piece later sel h.1.1.0)) t.short_header (omega (arith, some, h.1.1.1)) (stream_whole taken t.line t.content (t.listing [])) t.lists same in
       as_event n.given event (too_large name) h.0 (subst (λ (r : Option (List ℕ)). NearBy contents stream r old new) e near)
 
   pub unwritten_near : (Q : Type 0) (given : ℕ) (event : Event) → GivenBy contents stream given old new → NearBy contents stream rest old new → (event ≡ no_memory) ⊎ ((event ≡ writing_failed) × Q) → StaysBy (status_of_event event) contents stream given rest old new

@@ -7,6 +7,7 @@ use Rattle.std.proofs.lemmas.List.{length-take}
 use Rattle.x7_words.specs.Count.{HasRisen}
 use Rattle.x7_words.specs.Input.{InputsState, AsksForName, AtEnd, MissesInput, RestIsWhole, InputsStay, preceded}
 use Rattle.x7_words.specs.Input.{MapLacks}
+use Rattle.x7_words.proofs.InputLemmas.{rest_on}
 use Rattle.x7_words.specs.Sink.{SinkFails, SinkState, appended, PutsPrefix}
 use Rattle.x7_words.specs.Word.{AreBytes}
 use Rattle.x7_header.specs.Header.{fixed_bytes}
@@ -66,15 +67,15 @@ Ended known C stream Full old new (Err event) = EndedBy (cause_of_event event) k
 -- what a listing ended with, over the outside before and after
 abbrev pub EndedIn : List ℕ → Outside → Outside → Result Answer Event → Type 0
 EndedIn stream old new end =
-    Ended (known_in old) (CameIn (step_over (stream ∷ []) old.inputs new.inputs)) stream (SinkFails old.out new.out) old.out.written new.out.written end
+    Ended (known_in old new) (CameIn (step_over (stream ∷ []) old.inputs new.inputs)) stream (SinkFails old.out new.out) old.out.written new.out.written end
 
 ended_cause : (cause : ReasonCause) (stream : List ℕ) (old new : Outside) (event : Event) → cause_of_event event ≡ cause
-    → EndedBy cause (known_in old) (CameIn (step_over (stream ∷ []) old.inputs new.inputs)) stream (SinkFails old.out new.out) old.out.written new.out.written event
+    → EndedBy cause (known_in old new) (CameIn (step_over (stream ∷ []) old.inputs new.inputs)) stream (SinkFails old.out new.out) old.out.written new.out.written event
     → EndIsCaused (Some (Listing stream)) old new (Err event)
 ended_cause Break stream old new event e h = rw e (h.0, inl h.1)
 ended_cause cause stream old new event e h = has_cause (Listing stream) old new (Err event) (answers_over (Listing stream) old new (Err event) h.0)
 
-left_as : (reason : Why) (stream : List ℕ) (old new : Outside) → LeftAs reason (known_in old) stream old.out.written new.out.written → ListingAfterReason reason stream old new
+left_as : (reason : Why) (stream : List ℕ) (old new : Outside) → LeftAs reason (known_in old new) stream old.out.written new.out.written → ListingAfterReason reason stream old new
 left_as why.ReadFault stream old new h = h
 left_as why.TooLarge stream old new h = h
 left_as why.NoMemory stream old new h = h
@@ -85,14 +86,14 @@ some_of None stream old new h = h
 some_of (Some known) stream old new h = h
 
 ended_left : (cause : ReasonCause) (stream : List ℕ) (old new : Outside) (event : Event)
-    → EndedBy cause (known_in old) (CameIn (step_over (stream ∷ []) old.inputs new.inputs)) stream (SinkFails old.out new.out) old.out.written new.out.written event
+    → EndedBy cause (known_in old new) (CameIn (step_over (stream ∷ []) old.inputs new.inputs)) stream (SinkFails old.out new.out) old.out.written new.out.written event
     → OutputByCause cause (Some (Listing stream)) old new event
-ended_left Break stream old new event h = some_of (known_in old) stream old.out new.out h.2
+ended_left Break stream old new event h = some_of (known_in old new) stream old.out new.out h.2
 ended_left cause stream old new event h = left_as event.reason stream old new h.1
 
 pub list_ends : (stream : List ℕ) (old new : Outside) (end : Result Answer Event) → EndedIn stream old new end → StaysNear (final_status end) (Some (Listing stream)) old new → CommandEnds (Some (Listing stream)) old new end
-list_ends stream old new (Ok answer) h n = record { cause = has_cause (Listing stream) old new (Ok answer) (answers_over (Listing stream) old new (Ok answer) h.0); wrote = h.1; near = n; measured = λ name a. absurd a; fails_last = tt; updates = tt }
-list_ends stream old new (Err event) h n = record { cause = ended_cause (cause_of_event event) stream old new event refl h; wrote = ended_left (cause_of_event event) stream old new event h; near = n; measured = λ name a e. absurd a; fails_last = λ name a e at. absurd a; updates = tt }
+list_ends stream old new (Ok answer) h n = record { cause = has_cause (Listing stream) old new (Ok answer) (answers_over (Listing stream) old new (Ok answer) h.0); wrote = h.1; near = n; measured = λ name a. absurd a; fails_last = tt; updates = tt; called = tt; as_read = tt }
+list_ends stream old new (Err event) h n = record { cause = ended_cause (cause_of_event event) stream old new event refl h; wrote = ended_left (cause_of_event event) stream old new event h; near = n; measured = λ name a e. absurd a; fails_last = λ name a e at. absurd a; updates = tt; called = tt; as_read = tt }
 
 -- a listing ends as it should, by the result of the call that ended it
 pub list_seen : {A : Type 0} (stream : List ℕ) (old new : Outside) (r : Result A Refusal) → OnOk r ((text : List ℕ) × EndedIn stream old new (Ok (record { stopped = false; text = text })))
@@ -116,10 +117,10 @@ absent_due (Some inputs) flash stream = let here = same_as_itself stream in rw h
 
 -- a name that isn't there
 pub absent : (old new : InputsState) (flash : Option (List ℕ)) (name : List ℕ) → AsksForName name new → new.selected ≡ false → MissesInput old name new
-    → IsCaused {A = Answer} (with_inputs old.contents flash) (CameIn (step_over (name ∷ []) old new)) (λ known. listed known name) (Err (missing name))
-absent old new flash name a s m = by old.contents refl m
+    → IsCaused {A = Answer} (with_inputs new.contents flash) (CameIn (step_over (name ∷ []) old new)) (λ known. listed known name) (Err (missing name))
+absent old new flash name a s m = by new.contents refl m
   where
-    by : (contents : Option (List ℕ → Option (List ℕ))) → old.contents ≡ contents → MapLacks contents name ⊎ HasRisen old.absences new.absences
+    by : (contents : Option (List ℕ → Option (List ℕ))) → new.contents ≡ contents → MapLacks contents name ⊎ HasRisen old.absences new.absences
         → IsCaused {A = Answer} (with_inputs contents flash) (CameIn (step_over (name ∷ []) old new)) (λ known. listed known name) (Err (missing name))
     by None e (inl h) = absurd h
     by (Some inputs) e (inl h) = inr (tt, rw h refl)
@@ -127,8 +128,8 @@ absent old new flash name a s m = by old.contents refl m
 
 -- a fault of the stream
 pub faulted : (old new : InputsState) (flash : Option (List ℕ)) (stream : List ℕ) → FailsAmong (stream ∷ []) old new stream → new.given ≤ stream_limit
-    → IsCaused {A = Answer} (with_inputs old.contents flash) (CameIn (step_over (stream ∷ []) old new)) (λ known. listed known stream) (Err (reading_failed stream))
-faulted old new flash stream f g = inl (fault_from Answer (with_inputs old.contents flash) old new stream (λ t r. listed t stream ≡ r) f (broken_due old.contents flash stream new.given g))
+    → IsCaused {A = Answer} (with_inputs new.contents flash) (CameIn (step_over (stream ∷ []) old new)) (λ known. listed known stream) (Err (reading_failed stream))
+faulted old new flash stream f g = inl (fault_from Answer (with_inputs new.contents flash) old new stream (λ t r. listed t stream ≡ r) f (broken_due new.contents flash stream new.given g))
 
 pub nothing_listed : stream_listing [] ≡ Ok (listing_of [])
 nothing_listed = raw_listed [] ((raw_at [] (starts_with nat_eq [] fixed_bytes) refl).1 (λ rest. λ e. absurd cc))
@@ -217,11 +218,11 @@ ends_same known C stream Full old now x y e h = subst (λ (event : Event). Ended
 
 -- a stream that could not be opened
 pub unopened : (s n : InputsState) (flash : Option (List ℕ)) (stream : List ℕ) (Full : Type 0) (old : Option (List ℕ)) (event : Event) → Unopened s stream n event → AsksForName stream n
-    → Ended (with_inputs s.contents flash) (CameIn (step_over (stream ∷ []) s n)) stream Full old old (Err event)
+    → Ended (with_inputs n.contents flash) (CameIn (step_over (stream ∷ []) s n)) stream Full old old (Err event)
 unopened s n flash stream Full old event (inl h, none) a =
-    ends_same (with_inputs s.contents flash) (CameIn (step_over (stream ∷ []) s n)) stream Full old old event (missing stream) h.0 (absent s n flash stream a none h.1, refl)
+    ends_same (with_inputs n.contents flash) (CameIn (step_over (stream ∷ []) s n)) stream Full old old event (missing stream) h.0 (absent s n flash stream a none h.1, refl)
 unopened s n flash stream Full old event (inr h, none) a =
-    ends_same (with_inputs s.contents flash) (CameIn (step_over (stream ∷ []) s n)) stream Full old old event (reading_failed stream) h.0
+    ends_same (with_inputs n.contents flash) (CameIn (step_over (stream ∷ []) s n)) stream Full old old event (reading_failed stream) h.0
     (faulted s n flash stream (record { among = inl refl; deselected = record { asked = a.asked; selected = none }; risen = h.1 }) (omega (arith, a.given)), inl refl)
 
 -- an error by two of its clauses
@@ -236,15 +237,15 @@ nothing_taken contents stream (Some rest) s = s
 
 -- a stream whose beginning was not read
 pub without_prefix : (s m n : InputsState) (flash : Option (List ℕ)) (stream : List ℕ) (Full : Type 0) (old : Option (List ℕ)) (event : Event)
-    → InputsStay s m → RestIsWhole s.contents stream m.rest → AsksForName stream m → UnreadBeginning m stream n event
-    → Ended (with_inputs s.contents flash) (CameIn (step_over (stream ∷ []) s n)) stream Full old old (Err event)
-without_prefix s m n flash stream Full old event f sel a (inl h) =
-    ends_same (with_inputs s.contents flash) (CameIn (step_over (stream ∷ []) s n)) stream Full old old event no_memory h
-    (out_of_memory_before (with_inputs s.contents flash) (CameIn (step_over (stream ∷ []) s n)) stream Full old old refl)
-without_prefix s m n flash stream Full old event f sel a (inr (inl h)) =
+    → InputsStay s m → InputsStay m n → RestIsWhole m.contents stream m.rest → AsksForName stream m → UnreadBeginning m stream n event
+    → Ended (with_inputs n.contents flash) (CameIn (step_over (stream ∷ []) s n)) stream Full old old (Err event)
+without_prefix s m n flash stream Full old event f later sel a (inl h) =
+    ends_same (with_inputs n.contents flash) (CameIn (step_over (stream ∷ []) s n)) stream Full old old event no_memory h
+    (out_of_memory_before (with_inputs n.contents flash) (CameIn (step_over (stream ∷ []) s n)) stream Full old old refl)
+without_prefix s m n flash stream Full old event f later sel a (inr (inl h)) =
     let fault = at_fault s m n stream [] stream_limit f (at_open stream m a) h.1 h.2 in
-    ends_same (with_inputs s.contents flash) (CameIn (step_over (stream ∷ []) s n)) stream Full old old event (reading_failed stream) h.0
+    ends_same (with_inputs n.contents flash) (CameIn (step_over (stream ∷ []) s n)) stream Full old old event (reading_failed stream) h.0
     (faulted s n flash stream fault.0 (omega (arith, fault.1)), inl refl)
-without_prefix s m n flash stream Full old event f sel a (inr (inr h)) =
-    ends_same (with_inputs s.contents flash) (CameIn (step_over (stream ∷ []) s n)) stream Full old old event (bad_input stream (input.Byte h.place)) h.reports
-    (refused s.contents flash (CameIn (step_over (stream ∷ []) s n)) stream h.bytes n.rest h.last h.place Full old (subst (λ r. RestIsWhole s.contents stream r) h.taken sel) h.end h.refused)
+without_prefix s m n flash stream Full old event f later sel a (inr (inr h)) =
+    ends_same (with_inputs n.contents flash) (CameIn (step_over (stream ∷ []) s n)) stream Full old old event (bad_input stream (input.Byte h.place)) h.reports
+    (refused n.contents flash (CameIn (step_over (stream ∷ []) s n)) stream h.bytes n.rest h.last h.place Full old (rest_on m.contents n.contents stream h.bytes m.rest n.rest later.map h.taken sel) h.end h.refused)

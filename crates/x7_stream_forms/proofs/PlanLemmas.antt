@@ -81,19 +81,19 @@ module _ (part frames : List ℕ) (old mid new : InputsState) (Next : Result Par
       answers_kept PartAndText Answer (part ∷ frames ∷ []) old new (λ t. part_and_text t part frames) Next event keeps
       (answers_stop PartData PartAndText (part ∷ []) (part ∷ frames ∷ []) old new (λ t. part_known t part) (λ t p. and_so (whole_known t text_limit frames) (λ bytes. Ok (record { part = p; text = bytes }))) event (first_of part (frames ∷ [])) h)
 
-  pub planned_end : (p : PartData) (text : List ℕ) (got : Result Answer Event) → InputsStay old mid → AnswersAs {A = PartData} (step_over (part ∷ []) old mid) (λ t. part_known t part) (Ok p) → ReadsWhole mid new text_limit frames (Ok text)
+  pub planned_end : (p : PartData) (text : List ℕ) (got : Result Answer Event) → InputsStay old mid → InputsStay mid new → AnswersAs {A = PartData} (step_over (part ∷ []) old mid) (λ t. part_known t part) (Ok p) → ReadsWhole mid new text_limit frames (Ok text)
       → (got ≡ Err no_memory) ⊎ (IsPossible got × IsDecided got × Next (Ok (record { part = p; text = text })) got) → AnswersBy {A = Answer} (step_over (part ∷ frames ∷ []) old new) (λ t end. Next (part_and_text t part frames) end) got
-  planned_end p text got stays h r q =
-      answers_by PartAndText Answer (part ∷ frames ∷ []) old new (λ t. part_and_text t part frames) (record { part = p; text = text }) Next got (texts_read part frames old mid new p text stays h r) q
+  planned_end p text got stays later h r q =
+      answers_by PartAndText Answer (part ∷ frames ∷ []) old new (λ t. part_and_text t part frames) (record { part = p; text = text }) Next got (texts_read part frames old mid new p text stays later h r) q
 
-  pub plan_refused : (p : PartData) (event : Event) → InputsStay old mid → AnswersAs {A = PartData} (step_over (part ∷ []) old mid) (λ t. part_known t part) (Ok p)
+  pub plan_refused : (p : PartData) (event : Event) → InputsStay old mid → InputsStay mid new → AnswersAs {A = PartData} (step_over (part ∷ []) old mid) (λ t. part_known t part) (Ok p)
       → ((text : List ℕ) → HasNoPlan frames p text event → Next (Ok (record { part = p; text = text })) (Err event)) → ReadsPlan mid new p frames (Err event)
       → AnswersBy {A = Answer} (step_over (part ∷ frames ∷ []) old new) (λ t end. Next (part_and_text t part frames) end) (Err event)
-  plan_refused p event stays h faulty (inl unread) =
-      answers_kept PartAndText Answer (part ∷ frames ∷ []) old new (λ t. part_and_text t part frames) Next event keeps (texts_unread part frames old mid new p event stays h unread)
-  plan_refused p event stays h faulty (inr (text, whole, why)) =
+  plan_refused p event stays later h faulty (inl unread) =
+      answers_kept PartAndText Answer (part ∷ frames ∷ []) old new (λ t. part_and_text t part frames) Next event keeps (texts_unread part frames old mid new p event stays later h unread)
+  plan_refused p event stays later h faulty (inr (text, whole, why)) =
       let can = no_plan frames p text event why in
-      planned_end p text (Err event) stays h whole (inr (can.0, can.1, faulty text why))
+      planned_end p text (Err event) stays later h whole (inr (can.0, can.1, faulty text why))
 
 pub full_ended : (name : List ℕ) (part : PartData) (text : List ℕ) (plan : PlanData) (r : Result PlanFor Refusal) → IsPlanOf part text (Ok plan) → IfOk r (λ t. t.part ≡ part) → IfOk r (λ t. t.plan ≡ plan) → IfErr r (λ x. event_of x ≡ no_memory)
     → (result_by full_answer r ≡ Err no_memory) ⊎ (IsPossible (result_by full_answer r) × IsDecided (result_by full_answer r) × PlannedFull name (Ok (record { part = part; text = text })) (result_by full_answer r))

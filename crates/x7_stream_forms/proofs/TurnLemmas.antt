@@ -1,6 +1,6 @@
 -- A listing that is written turn by turn.
-use Rattle.std.proofs.Common.{length-append, arith, inl, inr, ◌≡◌, ℕ, ◌+◌, ◌<◌, Bool, true, List, [], ◌∷◌, ◌++◌, false, Option, None, Some, Ok, Err, length, refl, ap, sym, subst, ◌∙◌, append_assoc, append-nil, Result}
-use Rattle.x7_words.specs.Sink.{appended, PutsPrefix}
+use Rattle.std.proofs.Common.{length-append, arith, inl, inr, ◌≡◌, ℕ, ◌+◌, ◌<◌, Bool, true, List, [], ◌∷◌, ◌++◌, false, IfErr, OnOk, Option, None, Some, Ok, Err, length, refl, ap, sym, subst, ◌∙◌, append_assoc, append-nil, Result}
+use Rattle.x7_words.specs.Sink.{SinkState, appended, PutsPrefix}
 use Rattle.x7_words.specs.Word.{AreBytes}
 use Rattle.x7_words.proofs.SinkLemmas.{appended_appended, appended_nil, prefix_more}
 use Rattle.x7_packets.specs.ByHand.{reading_of}
@@ -11,14 +11,15 @@ use Rattle.x7_listing.specs.Lister.{HasFinished, ListerStandsFor, ListerState}
 use Rattle.x7_listing.proofs.PrefixLemmas.{listed_prefix}
 use Rattle.x7_words.specs.Input.{InputsState, AtEnd, RestIsWhole, InputsStay, preceded}
 use Rattle.x7_words.proofs.ListLemmas.{all_append, all_back}
-use Rattle.x7_forms.specs.Step.{CameIn, step_over}
-use Rattle.x7_forms.specs.Event.{Event, reading_failed, too_large, writing_failed}
+use Rattle.x7_forms.specs.Step.{CameIn, result_by, step_over}
+use Rattle.x7_forms.specs.declared.refusal.Refusal.{Refusal}
+use Rattle.x7_forms.specs.Event.{Event, event_of, reading_failed, too_large, writing_failed}
 use Rattle.x7_forms.specs.Known.{Mishap, input_found, stream_limit, with_inputs}
-use Rattle.x7_outcome.specs.Ending.{ListsSoFar}
-use Rattle.x7_stream_forms.specs.Between.{ListsInTurns, ListsStream}
+use Rattle.x7_outcome.specs.Ending.{FailsOutLast, ListsSoFar}
+use Rattle.x7_stream_forms.specs.Between.{IsUnlisted, ListsInTurns, ListsStream}
 use Rattle.x7_forms.specs.Turn.{FollowsUnlessLast, UnreadToEnd}
 use Rattle.x7_stream_forms.proofs.Causes.{Ended, PutsListed, broken, ends_same, faulted, oversized, unwritten}
-use Rattle.x7_forms.proofs.ReadLemmas.{IsAt, at_fault, known_all}
+use Rattle.x7_forms.proofs.ReadLemmas.{IsAt, at_fault, known_all, whole_later}
 use Rattle.x7_outcome.proofs.FeedLemmas.{taken_more}
 
 -- the listing is the one that is found
@@ -175,15 +176,29 @@ end_failed (Some inputs) flash C stream taken rest Full old now s e f p =
 
 -- a turn that could not be read
 pub unread_end : (s m n : InputsState) (flash : Option (List ℕ)) (stream taken : List ℕ) (l : ListerState) (left : ℕ) (Full : Type 0) (old now : Option (List ℕ)) (event : Event)
-    → InputsStay s m → RestIsWhole s.contents stream (preceded taken m.rest) → IsAt stream taken m → ListsStream l old now taken → length taken + left ≡ stream_limit → UnreadToEnd m stream n left event → n.asked ≡ m.asked
-    → Ended (with_inputs s.contents flash) (CameIn (step_over (stream ∷ []) s n)) stream Full old now (Err event)
-unread_end s m n flash stream taken l left Full old now event f sel a t k (inl h) q =
+    → InputsStay s m → InputsStay m n → RestIsWhole m.contents stream (preceded taken m.rest) → IsAt stream taken m → ListsStream l old now taken → length taken + left ≡ stream_limit → UnreadToEnd m stream n left event → n.asked ≡ m.asked
+    → Ended (with_inputs n.contents flash) (CameIn (step_over (stream ∷ []) s n)) stream Full old now (Err event)
+unread_end s m n flash stream taken l left Full old now event f later sel a t k (inl h) q =
+    let here = whole_later m.contents n.contents stream (preceded taken m.rest) later.map sel in
     let fault = at_fault s m n stream taken left f a h.1 q in
-    ends_same (with_inputs s.contents flash) (CameIn (step_over (stream ∷ []) s n)) stream Full old now event (reading_failed stream) h.0
-    (broken s.contents flash (CameIn (step_over (stream ∷ []) s n)) stream taken m.rest Full old now sel (faulted s n flash stream fault.0 (omega (arith, fault.1, k))) (stream_so_far l old now taken t))
-unread_end s m n flash stream taken l left Full old now event f sel a t k (inr h) q =
+    ends_same (with_inputs n.contents flash) (CameIn (step_over (stream ∷ []) s n)) stream Full old now event (reading_failed stream) h.0
+    (broken n.contents flash (CameIn (step_over (stream ∷ []) s n)) stream taken m.rest Full old now here (faulted s n flash stream fault.0 (omega (arith, fault.1, k))) (stream_so_far l old now taken t))
+unread_end s m n flash stream taken l left Full old now event f later sel a t k (inr h) q =
+    let here = whole_later m.contents n.contents stream (preceded taken m.rest) later.map sel in
     let piece = h.1.0 in
     let over : stream_limit < length (taken ++ piece) = omega (arith, length-append taken piece, h.1.1.1, k) in
-    ends_same (with_inputs s.contents flash) (CameIn (step_over (stream ∷ []) s n)) stream Full old now event (too_large stream) h.0
-    (oversized s.contents flash (CameIn (step_over (stream ∷ []) s n)) stream (taken ++ piece) taken n.rest m.rest Full old now (taken_more s.contents stream taken piece m.rest n.rest sel h.1.1.0) sel
+    ends_same (with_inputs n.contents flash) (CameIn (step_over (stream ∷ []) s n)) stream Full old now event (too_large stream) h.0
+    (oversized n.contents flash (CameIn (step_over (stream ∷ []) s n)) stream (taken ++ piece) taken n.rest m.rest Full old now (taken_more m n stream taken piece later sel h.1.1.0) here
     (λ more. (t.line ++ listing_of ((t.content ++ piece) ++ more), goes_on taken piece t.line t.content t.listing more)) over (stream_so_far l old now taken t))
+
+-- ---- the output fails last
+
+-- where nothing more was listed, memory was wanting, or the output failed
+pub unlisted_last : (first mid new : SinkState) (event : Event) → IsUnlisted mid new event → FailsOutLast {A = Bool} first new (Err event)
+unlisted_last first mid new event (inl h) = inl h.0
+unlisted_last first mid new event (inr h) = inr (inl h.0)
+
+-- a call that ended the listing
+pub fails_last : {A : Type 0} (first mid new : SinkState) (r : Result A Refusal) → IfErr r (λ x. IsUnlisted mid new (event_of x)) → OnOk r (new.faults ≡ first.faults) → FailsOutLast first new (result_by (λ _. false) r)
+fails_last first mid new (Ok a) err ok = ok
+fails_last first mid new (Err x) err ok = unlisted_last first mid new (event_of x) err

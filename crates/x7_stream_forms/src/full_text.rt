@@ -74,6 +74,7 @@ fn write_stream<O: Sink>(
     ensures whole { OnOk result (PutsAll (O.state out.old) (full_stream stream.entry.part stream.entry.plan) (O.state out.new)) }
     ensures prefix { PutsSome (O.state out.old) (full_stream stream.entry.part stream.entry.plan) (O.state out.new) }
     ensures failed { OnErr result (SinkFails (O.state out.old) (O.state out.new)) }
+    ensures no_fault { OnOk result ((O.state out.new).faults ≡ (O.state out.old).faults) }
     ensures room { piece_limit ≤ vec_capacity piece.new }
 {
     let mut stream = stream;
@@ -103,6 +104,7 @@ fn write_full<O: Sink>(
     ensures whole { OnOk result (PutsAll (O.state out.old) (full_stream part.now plan.now) (O.state out.new)) }
     ensures prefix { PutsSome (O.state out.old) (full_stream part.now plan.now) (O.state out.new) }
     ensures failed { OnErr result (SinkFails (O.state out.old) (O.state out.new)) }
+    ensures no_fault { OnOk result ((O.state out.new).faults ≡ (O.state out.old).faults) }
     ensures room { piece_limit ≤ vec_capacity piece.new }
 {
     let Ok(stream) = FullStream::new(part, plan) else {

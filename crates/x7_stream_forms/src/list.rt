@@ -7,7 +7,7 @@ ghost use Rattle.x7_outcome.specs.Ahead.{ExtendsOutput};
 ghost use Rattle.x7_forms.specs.Event.{event_of, no_memory, writing_failed};
 ghost use Rattle.x7_listing.specs.Lister.{ListerStandsFor};
 ghost use Rattle.x7_outcome.specs.Outside.{transfer};
-ghost use Rattle.x7_outcome.specs.Ending.{AnsweredListing};
+ghost use Rattle.x7_outcome.specs.Ending.{AnsweredListing, FailsOutLast};
 ghost use Rattle.x7_forms.specs.Step.{result_by};
 ghost use Rattle.x7_stream_forms.specs.Between.{IsUnlisted, ListsInTurns, StopsIn};
 
@@ -22,6 +22,7 @@ fn put_turn<'w, O: Sink>(lister: &mut Lister, out: &mut O, piece: &[u8]) -> Resu
         → ListsInTurns lister.new first (O.state out.new).written (bytes ++ piece.now)) }
     ensures prefix { OnErr result (StopsIn lister.old (O.state out.old).written piece.now (O.state out.new).written) }
     ensures refused { IfErr result (λ r. IsUnlisted (O.state out.old) (O.state out.new) (event_of r)) }
+    ensures no_fault { OnOk result ((O.state out.new).faults ≡ (O.state out.old).faults) }
     ensures extends { ExtendsOutput (O.state out.old) (O.state out.new) }
     ensures counts { SinkFaultsNeverFall (O.state out.old) (O.state out.new) }
 {
@@ -47,6 +48,7 @@ fn put_short<'w, O: Sink>(
     ensures listed { OnOk result ((O.state out.new).written ≡ appended (O.state out.old).written (line.now ++ listing_of content.now)) }
     ensures prefix { IfErr result (λ r. PutsPrefix (O.state out.old).written (line.now ++ listing_of content.now) (O.state out.new).written) }
     ensures refused { IfErr result (λ r. IsUnlisted (O.state out.old) (O.state out.new) (event_of r)) }
+    ensures no_fault { OnOk result ((O.state out.new).faults ≡ (O.state out.old).faults) }
 {
     if lister.feed(content).is_err() {
         return Err(Refusal::unnamed(Why::NoMemory));
@@ -73,6 +75,7 @@ fn put_beginning<'w, O: Sink>(
     ensures prefix { IfErr result (λ r. (rest : List ℕ) → AreBytes (content.now ++ rest)
         → PutsPrefix (O.state out.old).written (line.now ++ listing_of (content.now ++ rest)) (O.state out.new).written) }
     ensures refused { IfErr result (λ r. (event_of r ≡ no_memory) ⊎ ((event_of r ≡ writing_failed) × SinkFails (O.state out.old) (O.state out.new))) }
+    ensures no_fault { OnOk result ((O.state out.new).faults ≡ (O.state out.old).faults) }
     ensures counts { SinkFaultsNeverFall (O.state out.old) (O.state out.new) }
 {
     if write_all(out, line).is_err() {
@@ -88,6 +91,7 @@ fn put_end<'w, O: Sink>(lister: &mut Lister, out: &mut O) -> Result<(), Refusal<
     ensures prefix { IfErr result (λ r. (first : Option (List ℕ)) (bytes : List ℕ) → ListsInTurns lister.old first (O.state out.old).written bytes
         → PutsPrefix first (listing_of bytes) (O.state out.new).written) }
     ensures refused { IfErr result (λ r. IsUnlisted (O.state out.old) (O.state out.new) (event_of r)) }
+    ensures no_fault { OnOk result ((O.state out.new).faults ≡ (O.state out.old).faults) }
     ensures extends { ExtendsOutput (O.state out.old) (O.state out.new) }
 {
     if lister.finish().is_err() {
@@ -107,7 +111,8 @@ pub fn list<'w, I: Inputs, O: Sink>(
     out: &mut O,
     stream_name: &'w str,
 ) -> Result<(), Refusal<'w>>
-    ensures { AnsweredListing stream_name.now (transfer (I.state inputs.old) (O.state out.old)) (transfer (I.state inputs.new) (O.state out.new)) (result_by (λ _. false) result) }
+    ensures answered { AnsweredListing stream_name.now (transfer (I.state inputs.old) (O.state out.old)) (transfer (I.state inputs.new) (O.state out.new)) (result_by (λ _. false) result) }
+    ensures failed_last { FailsOutLast (O.state out.old) (O.state out.new) (result_by (λ _. false) result) }
 {
     open(inputs, stream_name)?;
     let beginning = read_beginning(alloc, inputs, stream_name)?;

@@ -2,6 +2,7 @@
 //! x7_tool_tests comes.
 use std::alloc::Global;
 use std::fmt::Display;
+use x7_boot::{BootFault, ImageFault};
 use x7_forms::Status;
 use x7_listing::AsmFault;
 use x7_part::{PartFault, PartKey, Which};
@@ -47,6 +48,28 @@ fn assembly_faults_name_the_line(rt: HostRuntime) {
         (AsmFault::NoMemory, "no memory"),
     ];
     for (fault, text) in cases {
+        assert!(rt; is_printed(rt.alloc(), &fault, text));
+    }
+}
+
+#[test]
+fn image_and_boot_faults_say_what_was_wrong(rt: HostRuntime) {
+    let images = [
+        (
+            ImageFault::TooLong,
+            "the image would be larger than a flash may be",
+        ),
+        (ImageFault::NoMemory, "no memory"),
+    ];
+    for (fault, text) in images {
+        assert!(rt; is_printed(rt.alloc(), &fault, text));
+    }
+    let boots = [
+        (BootFault::Failed, "a read of the flash failed"),
+        (BootFault::TooLarge, "the flash is larger than one may be"),
+        (BootFault::NoMemory, "no memory"),
+    ];
+    for (fault, text) in boots {
         assert!(rt; is_printed(rt.alloc(), &fault, text));
     }
 }

@@ -1,5 +1,5 @@
 -- How a form is answered, and how its answer is carried out.
-use Rattle.std.proofs.Common.{◌≡◌, Bool, List, ℕ, Option, None, Some, Result, Ok, Err, refl, subst, sym}
+use Rattle.std.proofs.Common.{◌≡◌, ◌∙◌, Bool, List, ℕ, Option, None, Some, Result, Ok, Err, ap, inl, inr, refl, subst, sym}
 use Rattle.x7_words.specs.Flash.{FlashState}
 use Rattle.x7_words.specs.Input.{InputsState}
 use Rattle.x7_words.specs.Sink.{SinkState, PutsOrFails}
@@ -11,7 +11,8 @@ use Rattle.x7_forms.specs.Known.{Answer}
 use Rattle.x7_forms.specs.Status.{text_status}
 use Rattle.x7_outcome.specs.Leaving.{UsesFlash}
 use Rattle.x7_outcome.specs.Outside.{Outside, sources}
-use Rattle.x7_outcome.specs.Ending.{Answered, AnswersOver, JudgesFlash, MakesReady, MakesReadyFrom, PutsAnswer}
+use Rattle.x7_outcome.specs.Ending.{Answered, AnswersOver, FailsOutLast, JudgesFlash, MakesReady, MakesReadyFrom, PutsAnswer}
+use Rattle.x7_tool.specs.Runs.{OutputFailsLast}
 use Rattle.x7_tool.proofs.RunLemmas.{RanAs, ready_ends, streamed, text_ends}
 use Rattle.x7_tool.proofs.StopLemmas.{done_judges, puts_stop, refused_judges, unused_judges}
 
@@ -43,12 +44,23 @@ pub flash_answered : (form asks : AskedForm) (old new : Outside) (whole : Result
     → Answered form old new got
 flash_answered form asks old new whole got e l j r d p =
     as_asked form asks old new got e (record {
-      ends = text_ends asks old new whole got l r.measured r.fails_last d p;
+      ends = text_ends asks old new whole got l r.measured r.fails_last d r.as_read p;
       stops = puts_stop asks old.inputs new.inputs whole old.out new.out got r.stops p;
       judges = j;
       asks = r.asks;
       stays = r.stays;
     })
+
+-- an output that a form doesn't use
+pub unused_output : (s : SinkState) (got : Result Bool Event) → FailsOutLast s s got
+unused_output s (Ok stopped) = refl
+unused_output s (Err event) = inr (inr refl)
+
+-- how a form left its output, by the status of its end
+pub refused_last : (old new : SinkState) (event : Event) (s : Status) → s ≡ status_of_event event → FailsOutLast {A = Bool} old new (Err event) → OutputFailsLast old new s
+refused_last old new event s e (inl h) = inr (inl (e ∙ ap status_of_event h))
+refused_last old new event s e (inr (inl h)) = inl (e ∙ ap status_of_event h)
+refused_last old new event s e (inr (inr h)) = inr (inr h)
 
 -- what a form does with its flash, by another name of the form
 pub uses_as : (form : Option AskedForm) (asks : AskedForm) (inputs : InputsState) (old new : FlashState) (past since : ℕ → List ℕ → Type 0) → form ≡ Some asks → UsesFlash (Some asks) (sources inputs old) new past since → UsesFlash form (sources inputs old) new past since
@@ -94,7 +106,7 @@ ran_none form old err s e t w =
       end = Err usage;
       ends_as = t;
       said = w;
-      ends = record { cause = refl; wrote = refl; near = tt; measured = λ name a e. absurd a; fails_last = tt; updates = tt };
+      ends = record { cause = refl; wrote = refl; near = tt; measured = λ name a e. absurd a; fails_last = tt; updates = tt; called = tt; as_read = tt };
       stops = tt;
       judges = tt;
       asks = few_at old.inputs;

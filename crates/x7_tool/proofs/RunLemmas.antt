@@ -16,18 +16,19 @@ use Rattle.x7_mcs.proofs.SizeLemmas.{text_short}
 use Rattle.x7_forms.specs.declared.status.Status.{Status}
 use Rattle.x7_forms.specs.declared.status.Status.TheVariants as status
 use Rattle.x7_forms.specs.Event.{Event, ReasonCause, Wording, Want, Fault, Absence, Break, Contents, Difference, cause_of_event, no_memory, status_of_event, usage, writing_failed}
-use Rattle.x7_forms.specs.Form.{AskedForm, Assembling, FlashUse, FromMcs, Unused, flash_use, listed_by, names_of, names_used, updated_by}
+use Rattle.x7_forms.specs.Form.{AskedForm, Assembling, Booting, FlashUse, FromMcs, Unused, UpdatingFlash, flash_use, listed_by, names_of, names_used, updated_by}
 use Rattle.x7_forms.specs.Status.{final_status, text_status}
 use Rattle.x7_forms.specs.Known.{Answer, Failing, Known, Lacking, Mishap, and_so, input_found, known_of, taken_whole, whole_known, with_inputs, if_within, text_limit}
 use Rattle.x7_forms.specs.Step.{Among}
 use Rattle.x7_outcome.specs.Ahead.{StaysNear}
+use Rattle.x7_outcome.specs.Called.{UpdateCalled}
 use Rattle.x7_outcome.specs.Leaving.{UpdateLeaves}
 use Rattle.x7_outcome.specs.Outcome.{AssembledAs, FormGives, IsOutcome, mcs_image}
 use Rattle.x7_outcome.specs.Outside.{CameInRun, NothingFailed, UsesFlashAs, Outside, known_in, sources}
 use Rattle.x7_tool.specs.Promise.{Promise}
-use Rattle.x7_outcome.specs.Ending.{GivesIfKnown, AnswersForm, AnswersOver, CausedBy, EndIsCaused, CommandEnds, CommandEndsAs, FailsLast, GetsPrefixOfKnown, GetsPrefixOfText, IsMeasured, JudgesFlash, OutputAfterFailure, PutsAnswer}
+use Rattle.x7_outcome.specs.Ending.{GivesIfKnown, AnswersForm, AnswersOver, BootsAsRead, CausedBy, EndIsCaused, CommandEnds, CommandEndsAs, FailsLast, GetsPrefixOfKnown, GetsPrefixOfText, IsMeasured, JudgesFlash, OutputAfterFailure, PutsAnswer}
 use Rattle.x7_tool.specs.Runs.{SaysEnd}
-use Rattle.x7_tool.specs.Runs.{TextsLeadBack, Runs}
+use Rattle.x7_tool.specs.Runs.{PromisesAsRead, TextsLeadBack, Runs}
 use Rattle.x7_outcome.specs.Stopping.{StopsReading}
 use Rattle.x7_outcome.proofs.FlashLemmas.{answers_over, not_fault, not_large}
 use Rattle.x7_tool.proofs.PromiseLemmas.{promised}
@@ -47,7 +48,7 @@ never_came form old new (Failing name given) q h = q.0 name h.1
 never_came form old new (Lacking name) q h = q.1 name h
 
 -- an event of a form is want of memory or the outcome
-event_by : (known : Known) (form : AskedForm) (old new : Outside) (event : Event) (cause : ReasonCause) → known_in old ≡ Some known → NothingFailed (Some form) old new
+event_by : (known : Known) (form : AskedForm) (old new : Outside) (event : Event) (cause : ReasonCause) → known_in old new ≡ Some known → NothingFailed (Some form) old new
     → CausedBy cause form old new event → (event ≡ no_memory) ⊎ FormGives known form (Err event)
 event_by known form old new event Wording k q h = absurd h
 event_by known form old new event Want k q h = inl h
@@ -55,12 +56,12 @@ event_by known form old new event Fault k q h = absurd (never_came form old new 
 event_by known form old new event Absence k q (inl h) = absurd (never_came form old new h.mishap q h.came)
 event_by known form old new event Absence k q (inr h) = inr (rw k at h)
 event_by known form old new event Break k q h = elim h.1 [ inl fails ↦ absurd (q.2 fails) | inr fails ↦ absurd (q.3 fails.0) ]
-event_by known form old new event Difference k q h = let agrees : GivesIfKnown (known_in old) form (Err event) = h.1 in inr (rw k at agrees)
+event_by known form old new event Difference k q h = let agrees : GivesIfKnown (known_in old new) form (Err event) = h.1 in inr (rw k at agrees)
 event_by known form old new event Contents k q h = inr (rw k at h)
 
 -- the end is the outcome or want of memory
 outcome_is : (form : Option AskedForm) (old new : Outside) (s : Status) (end : Result Answer Event) → s ≡ final_status end → EndIsCaused form old new end
-    → (known : Known) → known_in old ≡ Some known → NothingFailed form old new → (s ≡ status.NoMemory) ⊎ IsOutcome known form end
+    → (known : Known) → known_in old new ≡ Some known → NothingFailed form old new → (s ≡ status.NoMemory) ⊎ IsOutcome known form end
 outcome_is None old new s end e h known k q = inr (sym h)
 outcome_is (Some form) old new s (Ok answer) e h known k q = inr (rw k at h)
 outcome_is (Some form) old new s (Err event) e h known k q = by (event_by known form old new event (cause_of_event event) k q h)
@@ -96,22 +97,22 @@ leads_back : (s : Status) (form : AskedForm) (known : Known) (end goal_end : Res
 leads_back s form known end goal_end (inl n) back = inl n
 leads_back s form known end goal_end (inr h) back = inr (back h)
 
-form_back : (form : AskedForm) (old new : Outside) (s : Status) (end : Result Answer Event) → ((known : Known) → known_in old ≡ Some known → NothingFailed (Some form) old new → (s ≡ status.NoMemory) ⊎ IsOutcome known (Some form) end) → TextsLeadBack (Some form) old new s end
+form_back : (form : AskedForm) (old new : Outside) (s : Status) (end : Result Answer Event) → ((known : Known) → known_in old new ≡ Some known → NothingFailed (Some form) old new → (s ≡ status.NoMemory) ⊎ IsOutcome known (Some form) end) → TextsLeadBack (Some form) old new s end
 form_back (Assembling name) old new s end outcome = λ bytes text fits short listed has quiet.
     let known : Known = known_of has.0 old.flash.bytes in
-    let is : known_in old ≡ Some known = ap (λ (i : Option (List ℕ → Option (List ℕ))). with_inputs i old.flash.bytes) has.1.0 in
+    let is : known_in old new ≡ Some known = ap (λ (i : Option (List ℕ → Option (List ℕ))). with_inputs i old.flash.bytes) has.1.0 in
     let whole : whole_known known text_limit name ≡ Ok text = ap (λ (i : Option (List ℕ)). taken_whole name text_limit (input_found i)) has.1.1 ∙ within_limit name text text_limit (omega (arith, short, stream_short bytes text fits listed)) in
     leads_back s (Assembling name) known end (Ok (record { stopped = false; text = bytes })) (outcome known is quiet)
     (λ h. asm_back name text bytes end (stream_back bytes text fits short listed) (subst (λ (r : Result (List ℕ) Event). AssembledAs name r end) whole h))
 form_back (FromMcs name) old new s end outcome = λ bytes fits short has quiet.
     let known : Known = known_of has.0 old.flash.bytes in
-    let is : known_in old ≡ Some known = ap (λ (i : Option (List ℕ → Option (List ℕ))). with_inputs i old.flash.bytes) has.1.0 in
+    let is : known_in old new ≡ Some known = ap (λ (i : Option (List ℕ → Option (List ℕ))). with_inputs i old.flash.bytes) has.1.0 in
     let whole : whole_known known text_limit name ≡ Ok (mcs_text bytes) = ap (λ (i : Option (List ℕ)). taken_whole name text_limit (input_found i)) has.1.1 ∙ within_limit name (mcs_text bytes) text_limit (omega (arith, short, text_short bytes)) in
     leads_back s (FromMcs name) known end (Ok (record { stopped = false; text = bytes })) (outcome known is quiet)
     (λ h. mcs_back name (mcs_text bytes) bytes end (text_gives bytes fits short) (sym (ap (λ (r : Result (List ℕ) Event). and_so r (λ text. mcs_image name (mcs_of text))) whole) ∙ h))
 form_back form old new s end outcome = tt
 
-back_is : (form : Option AskedForm) (old new : Outside) (s : Status) (end : Result Answer Event) → ((known : Known) → known_in old ≡ Some known → NothingFailed form old new → (s ≡ status.NoMemory) ⊎ IsOutcome known form end) → TextsLeadBack form old new s end
+back_is : (form : Option AskedForm) (old new : Outside) (s : Status) (end : Result Answer Event) → ((known : Known) → known_in old new ≡ Some known → NothingFailed form old new → (s ≡ status.NoMemory) ⊎ IsOutcome known form end) → TextsLeadBack form old new s end
 back_is None old new s end outcome = tt
 back_is (Some form) old new s end outcome = form_back form old new s end outcome
 
@@ -130,10 +131,16 @@ no_form_promise : (known : Option Known) (end : Result Answer Event) → Promise
 no_form_promise None end = tt
 no_form_promise (Some known) end = tt
 
-promise_is : (form : Option AskedForm) (old new : Outside) (end : Result Answer Event) → EndIsCaused form old new end → Promise (known_in old) form end
-promise_is None old new end h = no_form_promise (known_in old) end
-promise_is (Some form) old new (Ok answer) h = promise_by (known_in old) form answer h
-promise_is (Some form) old new (Err event) h = no_promise (known_in old) (Some form) event
+promise_is : (form : Option AskedForm) (old new : Outside) (end : Result Answer Event) → EndIsCaused form old new end → Promise (known_in old new) form end
+promise_is None old new end h = no_form_promise (known_in old new) end
+promise_is (Some form) old new (Ok answer) h = promise_by (known_in old new) form answer h
+promise_is (Some form) old new (Err event) h = no_promise (known_in old new) (Some form) event
+
+-- a boot keeps its promise over every flash that gives what was read
+promise_read : (form : Option AskedForm) (old new : Outside) (end : Result Answer Event) → BootsAsRead form (sources old.inputs old.flash) (sources new.inputs new.flash) end → PromisesAsRead form old new end
+promise_read None old new end h = tt
+promise_read (Some (Booting part flash)) old new (Ok answer) h = λ all agrees. promise_by (with_inputs new.inputs.contents (Some all)) (Booting part flash) answer (h all agrees)
+promise_read (Some form) old new end h = tt
 
 -- ---- a run
 
@@ -152,7 +159,7 @@ pub record RanAs (form : Option AskedForm) (old new : Outside) (s : Status) : Ty
 -- how a command ended is what its run comes to
 pub runs : (form : Option AskedForm) (old new : Outside) (s : Status) → RanAs form old new s → UsesFlashAs (flash_use form) old.flash new.flash → Runs form old new s
 runs form old new s r f =
-    let outcome : (known : Known) → known_in old ≡ Some known → NothingFailed form old new → (s ≡ status.NoMemory) ⊎ IsOutcome known form r.end = outcome_is form old new s r.end r.ends_as r.ends.cause in
+    let outcome : (known : Known) → known_in old new ≡ Some known → NothingFailed form old new → (s ≡ status.NoMemory) ⊎ IsOutcome known form r.end = outcome_is form old new s r.end r.ends_as r.ends.cause in
     record {
       end = r.end;
       ends_as = r.ends_as;
@@ -172,6 +179,9 @@ runs form old new s r f =
       stays = r.stays;
       flash = f;
       updates = r.ends.updates;
+      called = r.ends.called;
+      as_read = r.ends.as_read;
+      promise_as_read = promise_read form old new r.end r.ends.as_read;
     }
 
 -- ---- a text that is whole before it is written
@@ -207,6 +217,21 @@ none_updated (Some listed) updated e = absurd (cc)
 updates_none : (form : AskedForm) (old new : Outside) (end : Result Answer Event) → updated_by (Some form) ≡ None → UpdateLeaves (updated_by (Some form)) old new end
 updates_none form old new end u = subst (λ (x : Option (List ℕ)). UpdateLeaves x old new end) (sym u) tt
 
+-- a form without a stream for a flash calls no flash for an update
+called_none : (form : AskedForm) (old new : Outside) (end : Result Answer Event) → updated_by (Some form) ≡ None → UpdateCalled (Some form) old new end
+called_none (UpdatingFlash flash stream) old new end u = absurd (cc)
+called_none form old new end u = tt
+
+-- an event is no text of a boot
+no_text_read : (form : AskedForm) (old new : Outside) (event : Event) → BootsAsRead (Some form) (sources old.inputs old.flash) (sources new.inputs new.flash) (Err event)
+no_text_read (Booting part flash) old new event = tt
+no_text_read form old new event = tt
+
+-- a form that uses no flash has no text of a boot
+unread : (form : AskedForm) (old new : Outside) (end : Result Answer Event) → flash_use (Some form) ≡ Unused → BootsAsRead (Some form) (sources old.inputs old.flash) (sources new.inputs new.flash) end
+unread (Booting part flash) old new end u = absurd (cc)
+unread form old new end u = tt
+
 -- a form that uses no flash
 unmeasured : (form : AskedForm) (new : FlashState) (end : Result Answer Event) → flash_use (Some form) ≡ Unused → IsMeasured (Some form) new end
 unmeasured form new (Ok answer) u = λ name a. absurd (subst (λ (x : FlashUse). Among (names_used x) name) u a)
@@ -218,9 +243,9 @@ unfailed form old new (Err event) u = λ name a e at. absurd (subst (λ (x : Fla
 
 -- a form whose text is ready before any of it is written ends as it should where its text has its cause and was put
 puts_end : (form : AskedForm) (old new : Outside) (whole : Result Answer Event) (got : Result Bool Event) → listed_by (Some form) ≡ None → updated_by (Some form) ≡ None
-    → IsMeasured (Some form) new.flash whole → FailsLast (Some form) old.inputs new.flash whole → AnswersOver form old new whole → PutsAnswer whole old.out new.out got
+    → IsMeasured (Some form) new.flash whole → FailsLast (Some form) new.inputs new.flash whole → AnswersOver form old new whole → BootsAsRead (Some form) (sources old.inputs old.flash) (sources new.inputs new.flash) whole → PutsAnswer whole old.out new.out got
     → CommandEndsAs (Some form) old new got
-puts_end form old new (Ok answer) (Ok stopped) l u m f c p = (
+puts_end form old new (Ok answer) (Ok stopped) l u m f c b p = (
   answer.text,
   record {
     cause = subst (λ (s : Bool). EndIsCaused (Some form) old new (Ok (record { stopped = s; text = answer.text }))) (sym p.0) (has_cause form old new (Ok answer) c);
@@ -229,36 +254,42 @@ puts_end form old new (Ok answer) (Ok stopped) l u m f c p = (
     measured = m;
     fails_last = tt;
     updates = updates_none form old new (Ok (record { stopped = stopped; text = answer.text })) u;
+    called = called_none form old new (Ok (record { stopped = stopped; text = answer.text })) u;
+    as_read = subst (λ (s : Bool). BootsAsRead (Some form) (sources old.inputs old.flash) (sources new.inputs new.flash) (Ok (record { stopped = s; text = answer.text }))) (sym p.0) b;
   },
 )
-puts_end form old new (Ok answer) (Err event) l u m f c p =
+puts_end form old new (Ok answer) (Err event) l u m f c b p =
     subst (λ (e : Event). CommandEnds (Some form) old new (Err e)) (sym p.0)
     (record {
       cause = (refl, inl p.1);
-      wrote = subst (λ (x : Option (List ℕ)). OutputAfterFailure x form old new) (sym u) (gets_by (known_in old) form answer old.out new.out l (has_cause form old new (Ok answer) c) p.2);
+      wrote = subst (λ (x : Option (List ℕ)). OutputAfterFailure x form old new) (sym u) (gets_by (known_in old new) form answer old.out new.out l (has_cause form old new (Ok answer) c) p.2);
       near = near_all form status.WriteFault old new l;
       measured = not_large (Some form) new.flash writing_failed (λ r. absurd (cc));
-      fails_last = not_fault (Some form) old.inputs new.flash writing_failed (λ r. absurd (cc));
+      fails_last = not_fault (Some form) new.inputs new.flash writing_failed (λ r. absurd (cc));
       updates = updates_none form old new (Err writing_failed) u;
+      called = called_none form old new (Err writing_failed) u;
+      as_read = no_text_read form old new writing_failed;
     })
-puts_end form old new (Err event) (Ok stopped) l u m f c p = let e : true ≡ false = ap is_ok p.0 in absurd (cc)
-puts_end form old new (Err event) (Err other) l u m f c p =
+puts_end form old new (Err event) (Ok stopped) l u m f c b p = let e : true ≡ false = ap is_ok p.0 in absurd (cc)
+puts_end form old new (Err event) (Err other) l u m f c b p =
     subst (λ (e : Event). CommandEnds (Some form) old new (Err e)) (sym (ap event_in p.0))
     (record {
       cause = has_cause form old new (Err event) c;
-      wrote = leaves_all form (cause_of_event event) old new event l (no_break (known_in old) (CameInRun (Some form) old new) (λ t end. FormGives t form end) event c) p.1;
+      wrote = leaves_all form (cause_of_event event) old new event l (no_break (known_in old new) (CameInRun (Some form) old new) (λ t end. FormGives t form end) event c) p.1;
       near = near_all form (status_of_event event) old new l;
       measured = m;
       fails_last = f;
       updates = updates_none form old new (Err event) u;
+      called = called_none form old new (Err event) u;
+      as_read = b;
     })
 
 pub text_ends : (form : AskedForm) (old new : Outside) (whole : Result Answer Event) (got : Result Bool Event)
-    → streamed (listed_by (Some form)) (updated_by (Some form)) ≡ None → IsMeasured (Some form) new.flash whole → FailsLast (Some form) old.inputs new.flash whole → AnswersOver form old new whole → PutsAnswer whole old.out new.out got → CommandEndsAs (Some form) old new got
-text_ends form old new whole got n m f c p =
-    puts_end form old new whole got (none_listed (listed_by (Some form)) (updated_by (Some form)) n) (none_updated (listed_by (Some form)) (updated_by (Some form)) n) m f c p
+    → streamed (listed_by (Some form)) (updated_by (Some form)) ≡ None → IsMeasured (Some form) new.flash whole → FailsLast (Some form) new.inputs new.flash whole → AnswersOver form old new whole → BootsAsRead (Some form) (sources old.inputs old.flash) (sources new.inputs new.flash) whole → PutsAnswer whole old.out new.out got → CommandEndsAs (Some form) old new got
+text_ends form old new whole got n m f c b p =
+    puts_end form old new whole got (none_listed (listed_by (Some form)) (updated_by (Some form)) n) (none_updated (listed_by (Some form)) (updated_by (Some form)) n) m f c b p
 
 -- a form that reads inputs alone ends as it should where its text has its cause and was put
 pub ready_ends : (form : AskedForm) (old new : Outside) (whole : Result Answer Event) (got : Result Bool Event)
     → streamed (listed_by (Some form)) (updated_by (Some form)) ≡ None → flash_use (Some form) ≡ Unused → AnswersForm form old.inputs new.inputs whole → PutsAnswer whole old.out new.out got → CommandEndsAs (Some form) old new got
-ready_ends form old new whole got l u c p = text_ends form old new whole got l (unmeasured form new.flash whole u) (unfailed form old.inputs new.flash whole u) (answers_over form old new whole (c old.flash.bytes)) p
+ready_ends form old new whole got l u c p = text_ends form old new whole got l (unmeasured form new.flash whole u) (unfailed form new.inputs new.flash whole u) (answers_over form old new whole (c old.flash.bytes)) (unread form old new whole u) p

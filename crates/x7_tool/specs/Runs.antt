@@ -6,25 +6,32 @@ use Rattle.x7_words.specs.Word.{AreBytes}
 use Rattle.x7_listing.specs.StreamListing.{stream_listing}
 use Rattle.x7_mcs.specs.Text.{mcs_text}
 use Rattle.x7_boot.specs.Image.{flash_limit}
+use Rattle.x7_boot.specs.Reads.{IfAgrees, answers_since}
 use Rattle.x7_forms.specs.declared.refusal.Refusal.{Refusal}
 use Rattle.x7_forms.specs.declared.status.Status.{Status}
 use Rattle.x7_forms.specs.declared.status.Status.TheVariants as status
 use Rattle.x7_forms.specs.Event.{Event, event_line}
-use Rattle.x7_forms.specs.Form.{AskedForm, Assembling, FromMcs, flash_use, names_of, updated_by}
+use Rattle.x7_forms.specs.Form.{AskedForm, Assembling, Booting, FromMcs, flash_use, names_of, updated_by}
 use Rattle.x7_forms.specs.Status.{final_status}
-use Rattle.x7_forms.specs.Known.{Answer, Known, stream_limit}
+use Rattle.x7_forms.specs.Known.{Answer, Known, stream_limit, with_inputs}
 use Rattle.x7_forms.specs.Step.{result_by}
 use Rattle.x7_outcome.specs.Ahead.{StaysNear}
+use Rattle.x7_outcome.specs.Called.{UpdateCalled}
 use Rattle.x7_outcome.specs.Leaving.{UpdateLeaves}
 use Rattle.x7_outcome.specs.Outcome.{IsOutcome}
 use Rattle.x7_outcome.specs.Outside.{NothingFailed, UsesFlashAs, Outside, known_in, sources}
 use Rattle.x7_tool.specs.Promise.{Promise}
 use Rattle.x7_outcome.specs.Stopping.{StopsReading}
-use Rattle.x7_outcome.specs.Ending.{EndIsCaused, FailsLast, IsMeasured, JudgesFlash, OutputGets}
+use Rattle.x7_outcome.specs.Ending.{BootsAsRead, EndIsCaused, FailsLast, IsMeasured, JudgesFlash, OutputGets}
 
 -- what a call that writes a text came to: whether what the text reports stopped, or the event of the refusal
 abbrev pub stopped_or_event : Result Bool Refusal → Result Bool Event
 stopped_or_event result = result_by (λ stopped. stopped) result
+
+-- The output failed in no call, by its count of faults; save where the status is that of a write fault, or of want of
+-- memory. So a write that failed is the last one, and no other reason is told after it.
+abbrev pub OutputFailsLast : SinkState → SinkState → Status → Type 0
+OutputFailsLast old new s = (s ≡ status.WriteFault) ⊎ ((s ≡ status.NoMemory) ⊎ (new.faults ≡ old.faults))
 
 -- what the sink of messages got: nothing after a whole text, and else the event's
 -- line, or a prefix of it where the sink failed
@@ -45,14 +52,14 @@ LeadsBack s end bytes = (s ≡ status.NoMemory) ⊎ (end ≡ Ok (record { stoppe
 abbrev pub ListingAssembles : List ℕ → Outside → Outside → Status → Result Answer Event → Type 0
 ListingAssembles name old new s end =
     (bytes text : List ℕ) → AreBytes bytes → length bytes ≤ stream_limit → stream_listing bytes ≡ Ok text
-    → HasText old name text → NothingFailed (Some (Assembling name)) old new → LeadsBack s end bytes
+    → HasText new name text → NothingFailed (Some (Assembling name)) old new → LeadsBack s end bytes
 
 -- where nothing failed, the Intel HEX text of an image of at most `flash_limit` bytes gives the image, or memory was
 -- wanting
 abbrev pub GivesImage : List ℕ → Outside → Outside → Status → Result Answer Event → Type 0
 GivesImage name old new s end =
     (bytes : List ℕ) → AreBytes bytes → length bytes ≤ flash_limit
-    → HasText old name (mcs_text bytes) → NothingFailed (Some (FromMcs name)) old new → LeadsBack s end bytes
+    → HasText new name (mcs_text bytes) → NothingFailed (Some (FromMcs name)) old new → LeadsBack s end bytes
 
 -- `asm` of a listing gives the stream, and `unmcs` of an Intel HEX text the image, as `ListingAssembles` and
 -- `GivesImage` say; of other forms nothing is said
@@ -60,6 +67,12 @@ abbrev pub TextsLeadBack : Option AskedForm → Outside → Outside → Status �
 TextsLeadBack (Some (Assembling name)) old new s end = ListingAssembles name old new s end
 TextsLeadBack (Some (FromMcs name)) old new s end = GivesImage name old new s end
 TextsLeadBack form old new s end = Unit {0}
+
+-- the text of a boot keeps the promise of a boot over every flash of this size that gives what was read
+abbrev pub PromisesAsRead : Option AskedForm → Outside → Outside → Result Answer Event → Type 0
+PromisesAsRead (Some (Booting part flash)) old new (Ok answer) =
+    IfAgrees (answers_since old.flash new.flash) (λ all. Promise (with_inputs new.inputs.contents (Some all)) (Some (Booting part flash)) (Ok answer))
+PromisesAsRead form old new end = Unit {0}
 
 -- What a run of the command came to: `form` is what its words ask for, `old` and `new` the outside before and after it,
 -- and `s` its status.
@@ -77,10 +90,10 @@ pub record Runs (form : Option AskedForm) (old new : Outside) (s : Status) : Typ
   pub no_form : form ≡ None → s ≡ status.Usage
   -- where the bytes of the inputs are known, and nothing failed or was missing, the end is what the words come to, or
   -- memory was wanting
-  pub outcome : (known : Known) → known_in old ≡ Some known → NothingFailed form old new → (s ≡ status.NoMemory) ⊎ IsOutcome known form end
+  pub outcome : (known : Known) → known_in old new ≡ Some known → NothingFailed form old new → (s ≡ status.NoMemory) ⊎ IsOutcome known form end
   -- a whole text over known inputs keeps the promise of its form: a planned stream does on a device at rest what was
   -- planned, a report shows no startup without its checks, and a device boots from an image or a flash as is said
-  pub promise : Promise (known_in old) form end
+  pub promise : Promise (known_in old new) form end
   -- where the inputs are known, nothing failed and the bytes are within their limit, `asm` of the listing of a stream
   -- gives the stream, and `unmcs` of the Intel HEX text of an image the image; or memory was wanting
   pub back : TextsLeadBack form old new s end
@@ -103,6 +116,13 @@ pub record Runs (form : Option AskedForm) (old new : Outside) (s : Status) : Typ
   -- inputs aren't known; one that isn't leaves the flash's bytes, unless a write or a read of the flash failed, or a
   -- byte differs
   pub updates : UpdateLeaves (updated_by form) old new end
+  -- of every flash, a file of the system too: an update that is done called it for the calls of an update with the
+  -- stream's data, and for no others; one that isn't for the attach, or for these up to one that shows why not
+  pub called : UpdateCalled form old new end
+  -- the text of a boot is that of every flash of this size that gives what was read, a file of the system too, and keeps
+  -- its promise over each
+  pub as_read : BootsAsRead form (sources old.inputs old.flash) (sources new.inputs new.flash) end
+  pub promise_as_read : PromisesAsRead form old new end
   -- the flash of the form is within the limit after a whole text, and over it where the event is that it is too large,
   -- whether its bytes are known or not; the event may be that of an input of the same name
   pub measured : IsMeasured form new.flash end
@@ -111,4 +131,4 @@ pub record Runs (form : Option AskedForm) (old new : Outside) (s : Status) : Typ
   pub judges : JudgesFlash form (sources old.inputs old.flash) (sources new.inputs new.flash) end
   -- a fault of a flash that is attached comes last: the flash is within the limit, and the form would have a whole text
   -- of its inputs; unless an input has its name
-  pub fails_last : FailsLast form old.inputs new.flash end
+  pub fails_last : FailsLast form new.inputs new.flash end

@@ -2,11 +2,12 @@
 ghost use Rattle.std.specs.Prelude.{◌≡◌, ℕ, List, Some, false};
 ghost use Rattle.x7_forms.specs.Form.{asked_by, form_of_strings};
 ghost use Rattle.x7_forms.specs.Step.{result_by};
-ghost use Rattle.x7_tool.specs.PowerLoss.{EachBoots, PowerLossMayLeave};
+ghost use Rattle.x7_tool.specs.PowerLoss.{EachBoots, EachBootsOfAny, PowerLossMayLeave};
 ghost use Rattle.x7_outcome.specs.Leaving.{CallUsesFlash};
 ghost use Rattle.x7_outcome.specs.Outside.{sources};
 ghost use Rattle.x7_tool.specs.Calls.{CallAnswers, CallRuns};
-ghost use Rattle.x7_tool.specs.Runs.{stopped_or_event};
+ghost use Rattle.x7_outcome.specs.Ending.{FailsOutLast};
+ghost use Rattle.x7_tool.specs.Runs.{OutputFailsLast, stopped_or_event};
 
 use std::alloc::Global;
 use x7_device_forms::boot::boot;
@@ -45,7 +46,8 @@ fn answer<'w, I: Inputs, O: Sink, F: Flash>(
 ) -> Result<bool, Refusal<'w>>
     ensures answered { CallAnswers (I.state, F.state, O.state) (asked_by form.entry)
         (inputs.old, flash.old, out.old) (inputs.new, flash.new, out.new) (stopped_or_event result) }
-    ensures flash { CallUsesFlash F.Flash (Some (asked_by form.entry)) (I.state inputs.old) flash.old flash.new }
+    ensures flash { CallUsesFlash F.Flash (Some (asked_by form.entry)) (I.state inputs.new) flash.old flash.new }
+    ensures failed_last { FailsOutLast (O.state out.old) (O.state out.new) (stopped_or_event result) }
 {
     match form {
         Form::List { stream } => unstopped(list(alloc, inputs, out, stream)),
@@ -92,7 +94,8 @@ fn carry_out<I: Inputs, O: Sink, E: Sink, F: Flash>(
 ) -> Status
     ensures ran { CallRuns (I.state, F.state, O.state, E.state) (form_of_strings words.now.items)
         (inputs.old, flash.old, out.old, err.old) (inputs.new, flash.new, out.new, err.new) result }
-    ensures flash { CallUsesFlash F.Flash (form_of_strings words.now.items) (I.state inputs.old) flash.old flash.new }
+    ensures flash { CallUsesFlash F.Flash (form_of_strings words.now.items) (I.state inputs.new) flash.old flash.new }
+    ensures failed_last { OutputFailsLast (O.state out.old) (O.state out.new) result }
 {
     let form = match words_of(words) {
         Some(form) => form,
@@ -125,11 +128,13 @@ pub fn run<I: Inputs, O: Sink, E: Sink, F: Flash>(
 ) -> Status
     ensures ran { CallRuns (I.state, F.state, O.state, E.state) (form_of_strings words.now.items)
         (inputs.old, flash.old, out.old, err.old) (inputs.new, flash.new, out.new, err.new) result }
-    ensures flash { CallUsesFlash F.Flash (form_of_strings words.now.items) (I.state inputs.old) flash.old flash.new }
+    ensures flash { CallUsesFlash F.Flash (form_of_strings words.now.items) (I.state inputs.new) flash.old flash.new }
     ensures found { (found : List ℕ) → F.found_since flash.new (F.state flash.old).moments found
-        → PowerLossMayLeave (form_of_strings words.now.items) (sources (I.state inputs.old) (F.state flash.old)) found }
+        → PowerLossMayLeave (form_of_strings words.now.items) (sources (I.state inputs.new) (F.state flash.old)) found }
     ensures boots { (found : List ℕ) → F.found_since flash.new (F.state flash.old).moments found
-        → EachBoots (form_of_strings words.now.items) (sources (I.state inputs.old) (F.state flash.old)) found }
+        → EachBoots (form_of_strings words.now.items) (sources (I.state inputs.new) (F.state flash.old)) found }
+    ensures failed_last { OutputFailsLast (O.state out.old) (O.state out.new) result }
+    ensures boots_of_any { EachBootsOfAny (form_of_strings words.now.items) (sources (I.state inputs.new) (F.state flash.old)) (F.state flash.new) }
 {
     carry_out(alloc, words, inputs, flash, out, err)
 }

@@ -4,7 +4,8 @@ use std::alloc::Global;
 use std::os::unix::fs::symlink;
 use std::path::PathBuf;
 use std::{env, fs, process};
-use x7_files::{FileFlash, KnownSink};
+use x7_files::{FileFlash, StdSink};
+use x7_ghost::FlashCalls;
 use x7_in_memory::{MemoryFlash, MemoryInputs};
 use x7_tool::run;
 use x7_update::{UpdateFault, update};
@@ -85,8 +86,8 @@ type Answer = (u8, bool);
 fn updated<F: Flash>(alloc: Global, flash: &mut F, name: &str, message: &[u8]) -> Option<Answer> {
     let words = words_of(alloc, name)?;
     let mut inputs = inputs_of(alloc)?;
-    let mut out = KnownSink::new(Vec::new(alloc));
-    let mut err = KnownSink::new(Vec::new(alloc));
+    let mut out = StdSink::new(Vec::new(alloc));
+    let mut err = StdSink::new(Vec::new(alloc));
     let status = run(alloc, &words, &mut inputs, flash, &mut out, &mut err).number();
     let text = out.into_writer();
     let told = err.into_writer();
@@ -107,6 +108,7 @@ fn flash_of(alloc: Global) -> Option<MemoryFlash> {
 fn updated_in_vain(alloc: Global, message: &[u8]) -> Option<(Answer, bool)> {
     let mut flash = Forgetful {
         flash: flash_of(alloc)?,
+        calls: FlashCalls::new(),
     };
     let answer = updated(alloc, &mut flash, "i", message)?;
     let is_safe = have_all(flash.flash.bytes(), &[(0, &SPENT), (32, &FREE)]);

@@ -2,6 +2,7 @@
 //! verified, and the next slot is opened.
 #![tactic(auto)]
 
+mod call_laws;
 mod fault;
 mod laws;
 mod layout;
@@ -11,6 +12,7 @@ mod switch;
 mod verify;
 mod write;
 
+pub use call_laws::{honest_flashes_are_updated, update_calls_leave, update_calls_of_three_sectors, update_calls_write_once};
 pub use fault::UpdateFault;
 pub use laws::{
     flashes_between_slots_hold_no_sync_word, left_flashes_are_updatable,

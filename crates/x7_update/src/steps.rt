@@ -1,13 +1,16 @@
 //! The steps of an update, in their order: look, spend the open slot, write, verify, open the next.
-ghost use Rattle.std.specs.Prelude.{◌≡◌, ◌+◌, ◌*◌, ◌<◌, ◌≤◌, ◌⊎◌, ℕ, List, true, length, IfErr, OnOk, OnErr, option_map};
+ghost use Rattle.std.specs.Prelude.{◌≡◌, ◌+◌, ◌*◌, ◌<◌, ◌≤◌, ◌⊎◌, ◌++◌, ℕ, List, true, length, IfErr, OnOk, OnErr, option_map};
 ghost use Rattle.x7_words.specs.Flash.{IfKnown, SeesBytes, WriteFails};
 ghost use Rattle.x7_words.specs.FlashCalls.{CallOnlyReads};
+ghost use Rattle.x7_words.specs.FlashHistory.{history_of, with_calls};
 ghost use Rattle.x7_packets.specs.FlashSlot.{flash_slot_size, flash_slot_count};
 ghost use Rattle.x7_update.specs.After.{SpendsOpenSlot, IsAfterUpdate, MayBeLeft, with_switch_word};
 ghost use Rattle.x7_update.specs.Layout.{IsUpdatable, HasNoOpenSlot, IsFree, open_switch};
 ghost use Rattle.x7_update.specs.Verified.{AllVerified, OpensVerified, WasReady};
 ghost use Rattle.x7_update.specs.Fault.{HasNoCause, HasCause, IsEarly, UntouchedForWant, UntouchedUnlessSized};
-ghost use Rattle.x7_update.specs.Slots.{HasTarget};
+ghost use Rattle.x7_update.specs.Slots.{HasTarget, TargetFits};
+ghost use Rattle.x7_update.specs.UpdateCalls.{opening, replacing, spending, verifying};
+ghost use Rattle.x7_update.specs.Made.{HasUpdated, IsRefused, LeavesAny, Stops, write_failed};
 ghost use Rattle.x7_update.specs.Writing.{Becomes, CanVerify, HasLateCause, OnlyUses, OpeningSlot, UpdateReplaced, ReplacingUpdate, StaysBytes, CallWrites, CallAtAnyMoment};
 ghost use Rattle.x7_update.specs.declared.fault.UpdateFault.TheVariants.{NoMemory};
 
@@ -23,6 +26,8 @@ use x7_words::{Failed, Flash, SECTOR_SIZE};
 fn spend_open_slot<F: Flash>(flash: &mut F, target: UpdateTarget) -> Result<(), Failed>
     requires { HasTarget (F.state flash.old) target }
     ensures spent { OnOk result (Becomes (F.state flash.old) (F.state flash.new) SpendsOpenSlot) }
+    ensures spent_calls { OnOk result (history_of (F.state flash.new) ≡ with_calls (history_of (F.state flash.old)) (spending target.slots.open_slot)) }
+    ensures failed_calls { OnErr result (Stops (spending target.slots.open_slot) (history_of (F.state flash.old)) (history_of (F.state flash.new)) write_failed) }
     ensures writes { CallWrites F.Flash flash.old flash.new ReplacingUpdate }
     ensures failed { OnErr result (WriteFails (F.state flash.old) (F.state flash.new)) }
 {
@@ -37,6 +42,8 @@ fn replace<F: Flash>(flash: &mut F, target: UpdateTarget, stream: &[u8]) -> Resu
     requires found { HasTarget (F.state flash.old) target }
     requires stream { target.place + length stream.now ≤ (F.state flash.old).extent }
     ensures replaced { OnOk result (Becomes (F.state flash.old) (F.state flash.new) (UpdateReplaced target.place stream.now)) }
+    ensures replaced_calls { OnOk result (history_of (F.state flash.new) ≡ with_calls (history_of (F.state flash.old)) (replacing (F.state flash.old).extent stream.now target)) }
+    ensures failed_calls { OnErr result (Stops (replacing (F.state flash.old).extent stream.now target) (history_of (F.state flash.old)) (history_of (F.state flash.new)) write_failed) }
     ensures writes { CallWrites F.Flash flash.old flash.new ReplacingUpdate }
     ensures failed { OnErr result (WriteFails (F.state flash.old) (F.state flash.new)) }
 {
@@ -52,12 +59,16 @@ fn verify_and_open<F: Flash>(
     buffer: &mut [u8],
 ) -> Result<(), UpdateFault>
     requires written { CanVerify (F.state flash.old) target.place stream.now buffer.old }
+    requires target { TargetFits (F.state flash.old).extent target }
     requires next { target.slots.next < flash_slot_count }
     requires free { IfKnown (F.state flash.old).bytes (λ all. IsFree all target.slots.next) }
     requires none_open { IfKnown (F.state flash.old).bytes HasNoOpenSlot }
     ensures opened { OnOk result ((F.state flash.new).bytes ≡ option_map (with_switch_word target.slots.next open_switch) (F.state flash.old).bytes) }
     ensures any_moment { CallAtAnyMoment F.Flash flash.old flash.new (OpeningSlot target.slots.next) }
     ensures stays_bytes { CallAtAnyMoment F.Flash flash.old flash.new StaysBytes }
+    ensures opened_calls { OnOk result (history_of (F.state flash.new) ≡ with_calls (history_of (F.state flash.old))
+        (verifying (F.state flash.old).extent stream.now target ++ opening target.slots.next)) }
+    ensures fault_calls { IfErr result (Stops (verifying (F.state flash.old).extent stream.now target ++ opening target.slots.next) (history_of (F.state flash.old)) (history_of (F.state flash.new))) }
     ensures was_ready { OnOk result (WasReady F.state target.place stream.now (F.state flash.new)) }
     ensures seen { OnOk result (SeesBytes (F.state flash.new) (flash_slot_size * target.slots.next) open_switch) }
     ensures opens { CallAtAnyMoment F.Flash flash.old flash.new (λ all found. (found ≡ all) ⊎ WasReady F.state target.place stream.now (F.state flash.new)) }
@@ -79,6 +90,9 @@ fn verify_and_open<F: Flash>(
 /// golden stream stands, or the updated flash. `HasCause` tells why an update is refused.
 pub fn update<F: Flash>(alloc: Global, flash: &mut F, stream: &[u8]) -> Result<(), UpdateFault>
     requires { (F.state flash.old).attached ≡ true }
+    ensures updated_calls { OnOk result (HasUpdated stream.now (history_of (F.state flash.old)) (history_of (F.state flash.new))) }
+    ensures refused_calls { IfErr result (IsRefused stream.now (history_of (F.state flash.old)) (history_of (F.state flash.new))) }
+    ensures left { LeavesAny stream.now (history_of (F.state flash.old)) (history_of (F.state flash.new)) }
     ensures updated { OnOk result (Becomes (F.state flash.old) (F.state flash.new) (IsAfterUpdate stream.now)) }
     ensures updatable { OnOk result (IfKnown (F.state flash.old).bytes IsUpdatable) }
     ensures found { (found : List ℕ) → F.found_since flash.new (F.state flash.old).moments found →

@@ -1,9 +1,13 @@
 //! What an update has written is verified: read again and compared.
-ghost use Rattle.std.specs.Prelude.{◌≡◌, ◌+◌, ◌*◌, ◌<◌, ◌≤◌, ◌^◌, ℕ, List, true, length, IfErr, OnOk};
+ghost use Rattle.std.specs.Prelude.{◌≡◌, ◌+◌, ◌*◌, ◌/◌, ◌<◌, ◌≤◌, ◌^◌, ℕ, List, [], ◌∷◌, true, length, IfErr, OnOk};
 ghost use Rattle.x7_words.specs.Flash.{IfKnown, SeesBytes};
 ghost use Rattle.x7_words.specs.FlashCalls.{CallOnlyReads};
 ghost use Rattle.x7_packets.specs.FlashSlot.{sector_size, flash_slot_size, flash_slot_count};
 ghost use Rattle.x7_update.specs.Layout.{IsUpdatableSize, IsOpen, open_switch};
+ghost use Rattle.x7_words.specs.FlashHistory.{CallsFor, history_of, with_calls};
+ghost use Rattle.x7_words.specs.declared.flash_call.FlashCall.TheVariants.{Read};
+ghost use Rattle.x7_update.specs.UpdateCalls.{reading, sectors_from};
+ghost use Rattle.x7_update.specs.Made.{Stops};
 ghost use Rattle.x7_update.specs.Writing.{CanVerify, HasLateCause, IsWrong, ReadsWanted, SeesWanted, wanted_at};
 
 use crate::fault::UpdateFault;
@@ -53,6 +57,10 @@ pub(crate) fn verify_stream<F: Flash>(
 ) -> Result<(), UpdateFault>
     requires { CanVerify (F.state flash.old) stream_place stream.now buffer.old }
     ensures seen { OnOk result (SeesWanted stream_place stream.now stream_place (F.state flash.old).extent (F.state flash.new)) }
+    ensures verified_calls { OnOk result (history_of (F.state flash.new) ≡ with_calls (history_of (F.state flash.old))
+        (reading (F.state flash.old).extent stream.now stream_place (stream_place / sector_size) (sectors_from stream_place (F.state flash.old).extent))) }
+    ensures fault_calls { IfErr result (Stops (reading (F.state flash.old).extent stream.now stream_place (stream_place / sector_size) (sectors_from stream_place (F.state flash.old).extent))
+        (history_of (F.state flash.old)) (history_of (F.state flash.new))) }
     ensures fault { IfErr result (HasLateCause stream.now (F.state flash.old) (F.state flash.new)) }
     ensures only_reads { CallOnlyReads F.Flash flash.old flash.new }
 {
@@ -76,6 +84,8 @@ fn verify_sector<F: Flash>(
     requires after { stream_place ≤ sector * sector_size }
     requires before { SeesWanted stream_place stream.now stream_place (sector * sector_size) (F.state flash.old) }
     ensures seen { OnOk result (SeesWanted stream_place stream.now stream_place (sector * sector_size + sector_size) (F.state flash.new)) }
+    ensures verified_calls { OnOk result (history_of (F.state flash.new) ≡ with_calls (history_of (F.state flash.old)) (reading (F.state flash.old).extent stream.now stream_place sector 1)) }
+    ensures fault_calls { IfErr result (Stops (reading (F.state flash.old).extent stream.now stream_place sector 1) (history_of (F.state flash.old)) (history_of (F.state flash.new))) }
     ensures fault { IfErr result (HasLateCause stream.now (F.state flash.old) (F.state flash.new)) }
     ensures only_reads { CallOnlyReads F.Flash flash.old flash.new }
     ensures length { length buffer.new ≡ sector_size }
@@ -99,6 +109,8 @@ pub(crate) fn verify_switch<F: Flash>(flash: &mut F, slot: u64) -> Result<(), Up
     requires slot { slot < flash_slot_count }
     requires opened { IfKnown (F.state flash.old).bytes (λ all. IsOpen all slot) }
     ensures seen { OnOk result (SeesBytes (F.state flash.new) (flash_slot_size * slot) open_switch) }
+    ensures verified_calls { OnOk result (CallsFor (Read (flash_slot_size * slot) open_switch) (F.state flash.old) (F.state flash.new)) }
+    ensures fault_calls { IfErr result (Stops (Read (flash_slot_size * slot) open_switch ∷ []) (history_of (F.state flash.old)) (history_of (F.state flash.new))) }
     ensures fault { (stream : List ℕ) → IfErr result (HasLateCause stream (F.state flash.old) (F.state flash.new)) }
     ensures only_reads { CallOnlyReads F.Flash flash.old flash.new }
 {

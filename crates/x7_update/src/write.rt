@@ -1,13 +1,23 @@
 //! The stream of an update is written: all from its place on is erased, then it is programmed there.
-ghost use Rattle.std.specs.Prelude.{◌+◌, ◌≤◌, length, OnOk, OnErr};
+ghost use Rattle.std.specs.Prelude.{◌≡◌, ◌+◌, ◌/◌, ◌≤◌, [], ◌∷◌, ◌++◌, length, OnOk, OnErr};
 ghost use Rattle.x7_words.specs.Flash.{WriteFails};
+ghost use Rattle.x7_words.specs.FlashHistory.{history_of, with_calls};
+ghost use Rattle.x7_words.specs.declared.flash_call.FlashCall.TheVariants.{Programmed};
+ghost use Rattle.x7_packets.specs.FlashSlot.{sector_size};
+ghost use Rattle.x7_update.specs.Layout.{CanStandAt, IsUpdatableSize};
+ghost use Rattle.x7_update.specs.UpdateCalls.{erasing, sectors_from};
+ghost use Rattle.x7_update.specs.Made.{Stops, write_failed};
 ghost use Rattle.x7_update.specs.Writing.{Becomes, CanEraseFrom, ErasedTo, KeepsBelow, StreamStands, CallWrites};
 
 use x7_words::{Failed, Flash, SECTOR_SIZE};
 
 /// Makes all from the place on FF, sector by sector. Nothing below the place changes, at any moment.
 fn erase_from<F: Flash>(flash: &mut F, place: u64) -> Result<(), Failed>
-    requires { CanEraseFrom (F.state flash.old) place }
+    requires from { CanEraseFrom (F.state flash.old) place }
+    requires size { IsUpdatableSize (F.state flash.old).extent }
+    requires place { CanStandAt (F.state flash.old).extent place }
+    ensures erased_calls { OnOk result (history_of (F.state flash.new) ≡ with_calls (history_of (F.state flash.old)) (erasing (place / sector_size) (sectors_from place (F.state flash.old).extent))) }
+    ensures failed_calls { OnErr result (Stops (erasing (place / sector_size) (sectors_from place (F.state flash.old).extent)) (history_of (F.state flash.old)) (history_of (F.state flash.new)) write_failed) }
     ensures erased { OnOk result (Becomes (F.state flash.old) (F.state flash.new) (ErasedTo place (F.state flash.old).extent)) }
     ensures writes { CallWrites F.Flash flash.old flash.new (KeepsBelow place) }
     ensures failed { OnErr result (WriteFails (F.state flash.old) (F.state flash.new)) }
@@ -20,8 +30,14 @@ fn erase_from<F: Flash>(flash: &mut F, place: u64) -> Result<(), Failed>
 
 /// Writes the stream at its place, with FF after it to the flash's end. Nothing below the place changes, at any moment.
 pub(crate) fn write_stream<F: Flash>(flash: &mut F, place: u64, stream: &[u8]) -> Result<(), Failed>
-    requires place { CanEraseFrom (F.state flash.old) place }
+    requires from { CanEraseFrom (F.state flash.old) place }
+    requires size { IsUpdatableSize (F.state flash.old).extent }
+    requires place { CanStandAt (F.state flash.old).extent place }
     requires within { place + length stream.now ≤ (F.state flash.old).extent }
+    ensures written_calls { OnOk result (history_of (F.state flash.new) ≡ with_calls (history_of (F.state flash.old))
+        (erasing (place / sector_size) (sectors_from place (F.state flash.old).extent) ++ Programmed place stream.now ∷ [])) }
+    ensures failed_calls { OnErr result (Stops (erasing (place / sector_size) (sectors_from place (F.state flash.old).extent) ++ Programmed place stream.now ∷ [])
+        (history_of (F.state flash.old)) (history_of (F.state flash.new)) write_failed) }
     ensures written { OnOk result (Becomes (F.state flash.old) (F.state flash.new) (StreamStands place stream.now)) }
     ensures writes { CallWrites F.Flash flash.old flash.new (KeepsBelow place) }
     ensures failed { OnErr result (WriteFails (F.state flash.old) (F.state flash.new)) }

@@ -5,6 +5,7 @@ use Rattle.std.specs.Int.{bit_at}
 use Rattle.std.specs.List.{splice}
 use Rattle.x7_words.specs.Count.{HasRisen}
 use Rattle.x7_words.specs.Word.{AreBytes}
+use Rattle.x7_words.specs.declared.flash_call.FlashCall.{FlashCall}
 use Rattle.x7_words.specs.declared.input.SelectFault.{SelectFault}
 use Rattle.x7_words.specs.declared.input.SelectFault.TheVariants.{Missing, Failed}
 
@@ -48,6 +49,8 @@ pub record FlashState : Type 0 where
   pub write_faults : ℕ
   -- how many moments have passed: the number of the present one, which doesn't fall
   pub moments : ℕ
+  -- the calls so far with their answers, the newest last
+  pub calls : List FlashCall
 
 -- `P` holds of the bytes, where they are known
 abbrev pub IfKnown : Option (List ℕ) → (List ℕ → Type 0) → Type 0

@@ -11,7 +11,8 @@ taken_bytes_limit = 2 ^ 63
 
 -- what inputs have come to
 pub record InputsState : Type 0 where
-  -- the map from names to bytes, where it is known; `None` for a name without an input
+  -- the map from names to bytes, as long as it is known: in memory always, and for files while all that selects and
+  -- reads gave agrees with it; `None` for a name without an input
   pub contents : Option (List ℕ → Option (List ℕ))
   -- whether an input is selected
   pub selected : Bool
@@ -40,19 +41,29 @@ abbrev pub MapLacks : Option (List ℕ → Option (List ℕ)) → List ℕ → T
 MapLacks None name = ⊥
 MapLacks (Some map) name = map name ≡ None
 
+-- a map that is known is the one that was known before
+abbrev pub StillKnown : Option (List ℕ → Option (List ℕ)) → Option (List ℕ → Option (List ℕ)) → Type 0
+StillKnown old None = Unit {0}
+StillKnown old (Some map) = old ≡ Some map
+
 -- bytes before the known ones; where none are known the result isn't known either
 abbrev pub preceded : List ℕ → Option (List ℕ) → Option (List ℕ)
 preceded bytes None = None
 preceded bytes (Some rest) = Some (bytes ++ rest)
+
+-- while the map is known, the rest before was these bytes and then the rest after
+abbrev pub TakenBy : Option (List ℕ → Option (List ℕ)) → Option (List ℕ) → List ℕ → Option (List ℕ) → Type 0
+TakenBy None old bytes new = Unit {0}
+TakenBy (Some map) old bytes new = old ≡ preceded bytes new
 
 -- a rest that is known is empty
 abbrev pub AtEnd : Option (List ℕ) → Type 0
 AtEnd None = Unit {0}
 AtEnd (Some rest) = rest ≡ []
 
--- every name keeps its bytes, and the counts of faults and of absences don't fall
+-- every name keeps its bytes, as long as they are known, and the counts of faults and of absences don't fall
 pub record InputsStay (old new : InputsState) : Type 0 where
-  pub map : new.contents ≡ old.contents
+  pub map : StillKnown old.contents new.contents
   pub faults : old.faults ≤ new.faults
   pub absences : old.absences ≤ new.absences
 
@@ -64,14 +75,19 @@ InputCountsFit state = (state.faults < 2 ^ 64) × (state.absences < 2 ^ 64)
 abbrev pub InputsFail : InputsState → InputsState → Type 0
 InputsFail old new = HasRisen old.faults new.faults
 
+-- no fault and no absence was counted
+pub record NoInputFault (old new : InputsState) : Type 0 where
+  pub faults : new.faults ≡ old.faults
+  pub absences : new.absences ≡ old.absences
+
 -- the name is missing: the map is known and lacks it, or the count of absences has risen
 abbrev pub MissesInput : InputsState → List ℕ → InputsState → Type 0
-MissesInput old name new = MapLacks old.contents name ⊎ HasRisen old.absences new.absences
+MissesInput old name new = MapLacks new.contents name ⊎ HasRisen old.absences new.absences
 
 -- the input of this name is selected, at its first byte
 pub record OpensInput (old : InputsState) (name : List ℕ) (new : InputsState) : Type 0 where
   pub selected : new.selected ≡ true
-  pub found : RestIsWhole old.contents name new.rest
+  pub found : RestIsWhole new.contents name new.rest
 
 -- the name is that of the last select, where that is kept, and no byte was given since
 pub record AsksForName (name : List ℕ) (new : InputsState) : Type 0 where
@@ -98,7 +114,7 @@ pub record AsksAtMost (old : InputsState) (count : ℕ) (new : InputsState) : Ty
 -- was not asked for again
 pub record TakesInput (old : InputsState) (bytes : List ℕ) (new : InputsState) : Type 0 where
   pub selected : new.selected ≡ true
-  pub taken : old.rest ≡ preceded bytes new.rest
+  pub taken : TakenBy new.contents old.rest bytes new.rest
   pub given : new.given ≤ old.given + length bytes
   pub selects : new.selects ≡ old.selects
 

@@ -5,3 +5,4 @@ pub mod Input
 pub mod Sink
 pub mod Flash
 pub mod FlashCalls
+pub mod FlashHistory

@@ -1,6 +1,8 @@
 //! A flash that is read, erased and programmed at places.
-ghost use Rattle.std.specs.Prelude.{◌≡◌, ℕ, List, ◌+◌, ◌<◌, ◌≤◌, ◌^◌, length, Some, true, false, IfErr, OnOk, OnErr, slice_range, option_map};
+ghost use Rattle.std.specs.Prelude.{◌≡◌, ℕ, List, [], ◌∷◌, ◌++◌, ◌+◌, ◌<◌, ◌≤◌, ◌^◌, length, Some, true, false, IfErr, OnOk, OnErr, slice_range, option_map};
 ghost use Rattle.x7_words.specs.Flash.{FlashIsAskedFor, TimeElapses, FlashFails, FlashCountsFit, FlashState, KeepsBytes, ExtentIsLength, KnownAreBytes, OnlyReads, OnlyWrites, SeesBytes, TornFrom, FlashRefuses, IfKnown, WithinWrite, WriteFails, cleared, erased, erased_sector, programmed, sector_size, sector_place};
+ghost use Rattle.x7_words.specs.FlashHistory.{CallsFor, NoFlashFault, attach_call};
+ghost use Rattle.x7_words.specs.declared.flash_call.FlashCall.TheVariants.{Read, ReadFailed, Erased, EraseFailed, Programmed, ProgramFailed};
 
 use crate::input::{Failed, SelectFault};
 
@@ -37,6 +39,8 @@ pub trait Flash {
         ensures attached { OnOk result ((state self.new).attached ≡ true) }
         ensures refused { IfErr result (FlashRefuses (state self.old) (state self.new)) }
         ensures not_attached { OnErr result ((state self.new).attached ≡ false) }
+        ensures no_fault { OnOk result (NoFlashFault (state self.old) (state self.new)) }
+        ensures called { (state self.new).calls ≡ (state self.old).calls ++ attach_call name.now (state self.new).extent result ∷ [] }
         ensures asks { FlashIsAskedFor (state self.old) name.now (state self.new) }
         ensures stays { KeepsBytes (state self.old) (state self.new) (found_since self.old) (found_since self.new) }
         ensures known_length { ExtentIsLength (state self.new) }
@@ -61,6 +65,8 @@ pub trait Flash {
         ensures seen { OnOk result (SeesBytes (state self.new) place buf.new) }
         ensures no_fault { OnOk result ((state self.new).faults ≡ (state self.old).faults) }
         ensures failed { OnErr result (FlashFails (state self.old) (state self.new)) }
+        ensures read_call { OnOk result (CallsFor (Read place buf.new) (state self.old) (state self.new)) }
+        ensures failed_call { OnErr result (CallsFor (ReadFailed place (length buf.old)) (state self.old) (state self.new)) }
         ensures only { OnlyReads (state self.old) (state self.new) (found_since self.old) (found_since self.new) }
         ensures known_length { ExtentIsLength (state self.new) }
         ensures fits { (state self.new).faults < 2 ^ 64 };
@@ -77,6 +83,9 @@ pub trait Flash {
             (WithinWrite (sector_place sector) (λ _. erased_sector) (state self.old).bytes) }
         ensures moment { (state self.new).moments ≤ (state self.old).moments + 1 }
         ensures failed { OnErr result (WriteFails (state self.old) (state self.new)) }
+        ensures no_fault { OnOk result ((state self.new).write_faults ≡ (state self.old).write_faults) }
+        ensures erase_call { OnOk result (CallsFor (Erased sector) (state self.old) (state self.new)) }
+        ensures failed_call { OnErr result (CallsFor (EraseFailed sector) (state self.old) (state self.new)) }
         ensures only { OnlyWrites (state self.old) (state self.new) }
         ensures known_length { ExtentIsLength (state self.new) }
         ensures fits { (state self.new).write_faults < 2 ^ 64 };
@@ -94,6 +103,9 @@ pub trait Flash {
             (WithinWrite place (cleared place given.now) (state self.old).bytes) }
         ensures moment { (state self.new).moments ≤ (state self.old).moments + 1 }
         ensures failed { OnErr result (WriteFails (state self.old) (state self.new)) }
+        ensures no_fault { OnOk result ((state self.new).write_faults ≡ (state self.old).write_faults) }
+        ensures program_call { OnOk result (CallsFor (Programmed place given.now) (state self.old) (state self.new)) }
+        ensures failed_call { OnErr result (CallsFor (ProgramFailed place given.now) (state self.old) (state self.new)) }
         ensures only { OnlyWrites (state self.old) (state self.new) }
         ensures known_length { ExtentIsLength (state self.new) }
         ensures fits { (state self.new).write_faults < 2 ^ 64 };

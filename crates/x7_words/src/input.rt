@@ -1,6 +1,6 @@
 //! Inputs that are read by name, and what can go wrong with the outside.
 ghost use Rattle.std.specs.Prelude.{◌≡◌, ◌<◌, ◌≤◌, length, take, true, false, IfErr, IfOk, OnOk, OnErr};
-ghost use Rattle.x7_words.specs.Input.{InputsState, AsksForName, AsksForNoInput, AsksOnce, AtEnd, InputCountsFit, OpensInput, ReadFails, InputsRefuse, InputsStay, TakesInput};
+ghost use Rattle.x7_words.specs.Input.{InputsState, AsksForName, AsksForNoInput, AsksOnce, AtEnd, InputCountsFit, NoInputFault, OpensInput, ReadFails, InputsRefuse, InputsStay, TakesInput};
 
 use std::alloc::{AllocError, AllocFailed};
 
@@ -48,6 +48,7 @@ pub trait Inputs {
         ensures opened { OnOk result (OpensInput (state self.old) name.now (state self.new)) }
         ensures refused { IfErr result (InputsRefuse (state self.old) name.now (state self.new)) }
         ensures not_selected { OnErr result ((state self.new).selected ≡ false) }
+        ensures no_fault { OnOk result (NoInputFault (state self.old) (state self.new)) }
         ensures asks { AsksForName name.now (state self.new) }
         ensures at_most_one_more { AsksOnce (state self.old) (state self.new) }
         ensures stays { InputsStay (state self.old) (state self.new) }
@@ -64,6 +65,7 @@ pub trait Inputs {
         ensures no_end { IfOk result (λ n. 0 < n → (state self.new).ends ≤ (state self.old).ends) }
         ensures length { length buf.new ≡ length buf.old }
         ensures failed { OnErr result (ReadFails (state self.old) (state self.new)) }
+        ensures no_fault { OnOk result (NoInputFault (state self.old) (state self.new)) }
         ensures asks { AsksForNoInput (state self.old) (state self.new) }
         ensures stays { InputsStay (state self.old) (state self.new) }
         ensures fits { InputCountsFit (state self.new) };

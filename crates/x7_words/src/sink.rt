@@ -20,6 +20,7 @@ pub trait Sink {
         ensures appends { IfOk result (λ n. PutsAll (state self.old) (take n piece.now) (state self.new)) }
         ensures nothing_written { OnErr result ((state self.new).written ≡ (state self.old).written) }
         ensures failed { OnErr result (SinkFails (state self.old) (state self.new)) }
+        ensures no_fault { OnOk result ((state self.new).faults ≡ (state self.old).faults) }
         ensures counts { SinkFaultsNeverFall (state self.old) (state self.new) }
         ensures fits { (state self.new).faults < 2 ^ 64 };
 }
@@ -30,6 +31,7 @@ pub fn write_all<S: Sink>(sink: &mut S, text: &[u8]) -> Result<(), Failed>
     ensures appends { OnOk result (PutsAll (S.state sink.old) text.now (S.state sink.new)) }
     ensures prefix { PutsSome (S.state sink.old) text.now (S.state sink.new) }
     ensures failed { OnErr result (SinkFails (S.state sink.old) (S.state sink.new)) }
+    ensures no_fault { OnOk result ((S.state sink.new).faults ≡ (S.state sink.old).faults) }
     ensures counts { SinkFaultsNeverFall (S.state sink.old) (S.state sink.new) }
 {
     let mut at = 0;
@@ -45,6 +47,7 @@ pub fn write_pieces<S: Sink>(sink: &mut S, pieces: &[&[u8]]) -> Result<(), Faile
     ensures appends { OnOk result (PutsAll (S.state sink.old) (flat_map (λ p. p.now) pieces.now) (S.state sink.new)) }
     ensures prefix { PutsSome (S.state sink.old) (flat_map (λ p. p.now) pieces.now) (S.state sink.new) }
     ensures failed { OnErr result (SinkFails (S.state sink.old) (S.state sink.new)) }
+    ensures no_fault { OnOk result ((S.state sink.new).faults ≡ (S.state sink.old).faults) }
     ensures counts { SinkFaultsNeverFall (S.state sink.old) (S.state sink.new) }
 {
     for piece in pieces {

@@ -21,7 +21,7 @@ returns-in_err-stream-clause-caused g c = rw (handed_on c.from_residual-in_err-s
     let event = event_of c.in_err-stream.field-0.0 in
     answers_go PartData DebugInputs (part ∷ []) (stream ∷ []) (part ∷ stream ∷ script ∷ []) (i.state c.args.inputs.now) (i.state c.read_part.new.inputs) (i.state c.read_data.new.inputs) (λ t. part_known t part)
     (λ t p. and_so (stream_data t stream) (λ bytes. and_so (whole_known t script_limit script) (λ text. Ok (record { part = p; stream = bytes; script = text })))) c.in_ok-part.part (Err event)
-    (part_steady part) c.read_part.ensures.asks.stays (λ n h. inr (first_of stream (script ∷ []) n h)) c.in_ok-part.ensures.caused
+    (part_steady part) c.read_part.ensures.asks.stays c.read_data.ensures.asks.stays (λ n h. inr (first_of stream (script ∷ []) n h)) c.in_ok-part.ensures.caused
     (answers_stop (List ℕ) DebugInputs (stream ∷ []) (stream ∷ []) (i.state c.read_part.new.inputs) (i.state c.read_data.new.inputs) (λ t. stream_data t stream)
     (λ t bytes. and_so (whole_known t script_limit script) (λ text. Ok (record { part = c.in_ok-part.part; stream = bytes; script = text }))) event (λ n h. h) c.in_err-stream.ensures.caused))
 
@@ -35,10 +35,10 @@ returns-in_err-script-clause-caused g c = rw (handed_on c.from_residual-in_err-s
     let last = i.state c.read_whole.new.inputs in
     let event = event_of c.in_err-script.field-0.0 in
     answers_go PartData DebugInputs (part ∷ []) (stream ∷ script ∷ []) (part ∷ stream ∷ script ∷ []) (i.state c.args.inputs.now) first last (λ t. part_known t part)
-    (λ t p. and_so (stream_data t stream) (λ bytes. and_so (whole_known t script_limit script) (λ text. Ok (record { part = p; stream = bytes; script = text })))) c.in_ok-part.part (Err event) (part_steady part) c.read_part.ensures.asks.stays (λ n h. inr h) c.in_ok-part.ensures.caused
+    (λ t p. and_so (stream_data t stream) (λ bytes. and_so (whole_known t script_limit script) (λ text. Ok (record { part = p; stream = bytes; script = text })))) c.in_ok-part.part (Err event) (part_steady part) c.read_part.ensures.asks.stays (stays_on _ _ _ c.read_data.ensures.asks.stays c.read_whole.ensures.asks.stays) (λ n h. inr h) c.in_ok-part.ensures.caused
     (answers_go (List ℕ) DebugInputs (stream ∷ []) (script ∷ []) (stream ∷ script ∷ []) first second last (λ t. stream_data t stream)
     (λ t bytes. and_so (whole_known t script_limit script) (λ text. Ok (record { part = c.in_ok-part.part; stream = bytes; script = text }))) c.in_ok-stream.stream.items (Err event)
-    (stream_steady stream) c.read_data.ensures.asks.stays (λ n h. inr h) c.in_ok-stream.ensures.caused
+    (stream_steady stream) c.read_data.ensures.asks.stays c.read_whole.ensures.asks.stays (λ n h. inr h) c.in_ok-stream.ensures.caused
     (answers_stop (List ℕ) DebugInputs (script ∷ []) (script ∷ []) second last (λ t. whole_known t script_limit script) (λ t text. Ok (record { part = c.in_ok-part.part; stream = c.in_ok-stream.stream.items; script = text })) event (λ n h. h) c.in_err-script.ensures.caused)))
 
 pub returns-in_err-part-clause-caused : goal.returns-in_err-part-clause-caused
@@ -85,9 +85,9 @@ returns-clause-caused g c =
     let text = c.in_ok-script.script.items in
     let got : Result DebugInputs Event = Ok (record { part = c.in_ok-part.part; stream = content; script = text }) in
     answers_go PartData DebugInputs (part ∷ []) (stream ∷ script ∷ []) (part ∷ stream ∷ script ∷ []) (i.state c.args.inputs.now) first last (λ t. part_known t part)
-    (λ t p. and_so (stream_data t stream) (λ bytes. and_so (whole_known t script_limit script) (λ text. Ok (record { part = p; stream = bytes; script = text })))) c.in_ok-part.part got (part_steady part) c.read_part.ensures.asks.stays (λ n h. inr h) c.in_ok-part.ensures.caused
+    (λ t p. and_so (stream_data t stream) (λ bytes. and_so (whole_known t script_limit script) (λ text. Ok (record { part = p; stream = bytes; script = text })))) c.in_ok-part.part got (part_steady part) c.read_part.ensures.asks.stays (stays_on _ _ _ c.read_data.ensures.asks.stays c.read_whole.ensures.asks.stays) (λ n h. inr h) c.in_ok-part.ensures.caused
     (answers_go (List ℕ) DebugInputs (stream ∷ []) (script ∷ []) (stream ∷ script ∷ []) first second last (λ t. stream_data t stream) (λ t bytes. and_so (whole_known t script_limit script) (λ text. Ok (record { part = c.in_ok-part.part; stream = bytes; script = text }))) content got
-    (stream_steady stream) c.read_data.ensures.asks.stays (λ n h. inr h) c.in_ok-stream.ensures.caused
+    (stream_steady stream) c.read_data.ensures.asks.stays c.read_whole.ensures.asks.stays (λ n h. inr h) c.in_ok-stream.ensures.caused
     (answers_end (List ℕ) DebugInputs (script ∷ []) second last (λ t. whole_known t script_limit script) (λ text. Ok (record { part = c.in_ok-part.part; stream = content; script = text })) text got (whole_steady script_limit script) c.in_ok-script.ensures.caused (inr (tt, tt, refl))))
 
 pub returns-in_err-part-clause-asks : goal.returns-in_err-part-clause-asks

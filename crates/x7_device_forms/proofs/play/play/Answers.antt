@@ -23,7 +23,7 @@ returns-in_err-part g c = rw (handed_on c.from_residual.result c.in_err-part.fie
       caused = answers_stop PartData Answer (part ∷ []) (part ∷ streams) (i.state c.args.inputs.now) (i.state c.read_part.new.inputs) (λ t. part_known t part) (λ t p. and_so (streams_known t stream_limit streams) (reported p)) (event_of c.in_err-part.field-0.0)
           (first_of part streams) c.in_err-part.ensures.caused;
       stops = first_stops (Playing c.args.part_name.now (map string_bytes c.args.streams.now)) (limited part_limit c.args.part_name.now)
-          (limited_together (g.I.Inputs.state c.args.inputs.now).contents stream_limit (map string_bytes c.args.streams.now)) (g.I.Inputs.state c.args.inputs.now)
+          (limited_together (g.I.Inputs.state c.read_part.new.inputs).contents stream_limit (map string_bytes c.args.streams.now)) (g.I.Inputs.state c.args.inputs.now)
           (g.I.Inputs.state c.read_part.new.inputs) (event_of c.in_err-part.field-0.0) refl c.read_part.ensures.asks.last c.read_part.ensures.asks.once
           (no_part_about c.args.part_name.now (event_of c.in_err-part.field-0.0) c.in_err-part.ensures.named);
       asks = first_asked c.args.part_name.now (map string_bytes c.args.streams.now) (g.I.Inputs.state c.args.inputs.now) (g.I.Inputs.state c.read_part.new.inputs) c.read_part.ensures.asks.once;
@@ -37,10 +37,10 @@ returns-in_err-player g c = rw (handed_on c.from_residual-in_err-player.result c
     let event = event_of c.in_err-player.field-0.0 in
     record {
       caused = answers_go PartData Answer (part ∷ []) streams (part ∷ streams) (i.state c.args.inputs.now) (i.state c.read_part.new.inputs) (i.state c.play_streams.new.inputs) (λ t. part_known t part) (λ t p. and_so (streams_known t stream_limit streams) (reported p)) c.in_ok-part.part (Err event)
-          (part_steady part) c.read_part.ensures.asks.stays (λ n h. inr h) c.in_ok-part.ensures.caused
+          (part_steady part) c.read_part.ensures.asks.stays c.play_streams.ensures.inputs (λ n h. inr h) c.in_ok-part.ensures.caused
           (answers_stop (List ℕ) Answer streams streams (i.state c.read_part.new.inputs) (i.state c.play_streams.new.inputs) (λ t. streams_known t stream_limit streams) (λ t. reported c.in_ok-part.part) event (λ n h. h) c.in_err-player.ensures.refused);
       stops = streams_stop c.args.part_name.now (map string_bytes c.args.streams.now) (g.I.Inputs.state c.args.inputs.now) (g.I.Inputs.state c.read_part.new.inputs)
-          (g.I.Inputs.state c.play_streams.new.inputs) (event_of c.in_err-player.field-0.0) c.read_part.ensures.asks.stays.map c.read_part.ensures.asks.once c.in_err-player.ensures.stops;
+          (g.I.Inputs.state c.play_streams.new.inputs) (event_of c.in_err-player.field-0.0) c.read_part.ensures.asks.once c.in_err-player.ensures.stops;
       asks = streams_asked string_bytes c.args.part_name.now c.args.streams.now (g.I.Inputs.state c.args.inputs.now) (g.I.Inputs.state c.read_part.new.inputs) (g.I.Inputs.state c.play_streams.new.inputs) c.read_part.ensures.asks.once c.play_streams.ensures.asks;
       stays = stays_on _ _ _ c.read_part.ensures.asks.stays c.play_streams.ensures.inputs;
     })
@@ -54,7 +54,7 @@ returns g c =
     record {
       caused = answers_go PartData Answer (part ∷ []) streams (part ∷ streams) (i.state c.args.inputs.now) (i.state c.read_part.new.inputs) (i.state c.play_streams.new.inputs)
           (λ t. part_known t part) (λ t p. and_so (streams_known t stream_limit streams) (reported p)) c.in_ok-part.part (result_by play_answer c.text_of.result)
-          (part_steady part) c.read_part.ensures.asks.stays (λ n h. inr h) c.in_ok-part.ensures.caused
+          (part_steady part) c.read_part.ensures.asks.stays c.play_streams.ensures.inputs (λ n h. inr h) c.in_ok-part.ensures.caused
           (answers_end (List ℕ) Answer streams (i.state c.read_part.new.inputs) (i.state c.play_streams.new.inputs) (λ t. streams_known t stream_limit streams) (reported c.in_ok-part.part) p.0 (result_by play_answer c.text_of.result) (data_steady streams stream_limit) p.2
           (text_ends c.in_ok-part.part p.0 c.in_ok-player.player c.text_of.result p.1 c.text_of.ensures.text c.text_of.ensures.refused));
       stops = reads_only play_answer (Playing c.args.part_name.now (map string_bytes c.args.streams.now)) (g.I.Inputs.state c.args.inputs.now)

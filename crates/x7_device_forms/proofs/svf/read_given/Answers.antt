@@ -14,12 +14,12 @@ use Rattle.x7_device_forms.proofs.svf.read_given.Goals as goal
 
 pub returns-in_err-text-clause-caused : goal.returns-in_err-text-clause-caused
 returns-in_err-text-clause-caused g c = rw (handed_on c.from_residual-in_err-text.result c.in_err-text.field-0.0 c.from_residual-in_err-text.ensures) (let i = g.I.Inputs in
-    texts_unread c.args.part_name.now c.args.text_name.now (i.state c.args.inputs.now) (i.state c.read_part.new.inputs) (i.state c.read_whole.new.inputs) c.in_ok-part.part (event_of c.in_err-text.field-0.0) c.read_part.ensures.asks.stays c.in_ok-part.ensures.caused c.in_err-text.ensures.caused)
+    texts_unread c.args.part_name.now c.args.text_name.now (i.state c.args.inputs.now) (i.state c.read_part.new.inputs) (i.state c.read_whole.new.inputs) c.in_ok-part.part (event_of c.in_err-text.field-0.0) c.read_part.ensures.asks.stays c.read_whole.ensures.asks.stays c.in_ok-part.ensures.caused c.in_err-text.ensures.caused)
 
 pub returns-clause-caused : goal.returns-clause-caused
 returns-clause-caused g c =
     let i = g.I.Inputs in
-    texts_read c.args.part_name.now c.args.text_name.now (i.state c.args.inputs.now) (i.state c.read_part.new.inputs) (i.state c.read_whole.new.inputs) c.in_ok-part.part c.in_ok-text.text.items c.read_part.ensures.asks.stays c.in_ok-part.ensures.caused c.in_ok-text.ensures.caused
+    texts_read c.args.part_name.now c.args.text_name.now (i.state c.args.inputs.now) (i.state c.read_part.new.inputs) (i.state c.read_whole.new.inputs) c.in_ok-part.part c.in_ok-text.text.items c.read_part.ensures.asks.stays c.read_whole.ensures.asks.stays c.in_ok-part.ensures.caused c.in_ok-text.ensures.caused
 
 pub returns-in_err-part-clause-caused : goal.returns-in_err-part-clause-caused
 returns-in_err-part-clause-caused g c = rw (handed_on c.from_residual.result c.in_err-part.field-0.0 c.from_residual.ensures) (let i = g.I.Inputs in

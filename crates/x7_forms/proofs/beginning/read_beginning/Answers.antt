@@ -58,7 +58,7 @@ returns-in_err-judged-clause-refused g c = rw (handed_on c.from_residual-in_err-
         bytes = bytes;
         last = c.in_ok-turn.turn.last;
         reports = h.1;
-        taken = joined_taken (i.state c.args.inputs.now).rest (i.state c.loop-bytes.inputs).rest (i.state c.next_turn.new.inputs).rest old piece mid bytes v.taken c.in_ok-turn.ensures.reads.takes.taken joined c.deref-in-loop-bytes.ensures.value;
+        taken = joined_taken (i.state c.args.inputs.now) (i.state c.loop-bytes.inputs) (i.state c.next_turn.new.inputs) old piece mid bytes c.next_turn.ensures.gives_few.stays v.taken c.in_ok-turn.ensures.reads.takes.taken joined c.deref-in-loop-bytes.ensures.value;
         end = c.in_ok-turn.ensures.reads.end;
         refused = h.2;
         no_byte_after = refused_soon old piece bytes c.wanted.result h.0 p h.3;
@@ -73,7 +73,7 @@ returns-in_err-turn-clause-refused g c = rw (handed_on c.from_residual.result c.
     (reads_by (i.state c.args.inputs.now) (i.state c.loop-bytes.inputs) old v.selected v.taken v.given v.asked v.inputs v.selects) (omega (arith, v.few, c.len-left.ensures)) c.next_turn.ensures.gives_few.asked
     (λ e. absurd (omega (arith, c.in_err-turn.ensures.refused.over e, v.few, c.len-left.ensures, v.piece, c.min-count.ensures, length-take-le c.min-count.result c.loop-bytes.piece (omega (arith, c.min-count.ensures, v.piece)))))
     (λ e. none_given (i.state c.args.inputs.now) (i.state c.loop-bytes.inputs) (i.state c.next_turn.new.inputs) old c.deref.result.now c.wanted.result (length (take c.min-count.result c.loop-bytes.piece)) c.wanted.ensures.not_zero
-    (omega (arith, c.min-count.ensures, length-take-le c.min-count.result c.loop-bytes.piece (omega (arith, c.min-count.ensures, v.piece)))) c.deref.ensures.value c.wanted.ensures.fixed c.wanted.ensures.waits v.waiting
+    (omega (arith, c.min-count.ensures, length-take-le c.min-count.result c.loop-bytes.piece (omega (arith, c.min-count.ensures, v.piece)))) c.deref.ensures.value c.wanted.ensures.fixed c.wanted.ensures.waits v.waiting c.next_turn.ensures.gives_few.stays
     (reads_by (i.state c.args.inputs.now) (i.state c.loop-bytes.inputs) old v.selected v.taken v.given v.asked v.inputs v.selects) (c.in_err-turn.ensures.refused.fails_early e)) c.in_err-turn.ensures.refused.unread)
 
 pub loop-bytes-preserved : goal.loop-bytes-preserved
@@ -100,7 +100,7 @@ loop-bytes-preserved g c =
       selects = c.in_ok-turn.ensures.reads.takes.selects ∙ v.selects;
       ends = omega (arith, v.ends, c.in_ok-turn.ensures.reads.no_end_read none.0);
       given = omega (arith, v.given, c.in_ok-turn.ensures.reads.takes.given, ap length joined, length-append old piece);
-      taken = joined_taken (i.state c.args.inputs.now).rest (i.state c.loop-bytes.inputs).rest (i.state c.next_turn.new.inputs).rest old piece mid mid v.taken c.in_ok-turn.ensures.reads.takes.taken joined refl;
+      taken = joined_taken (i.state c.args.inputs.now) (i.state c.loop-bytes.inputs) (i.state c.next_turn.new.inputs) old piece mid mid c.next_turn.ensures.gives_few.stays v.taken c.in_ok-turn.ensures.reads.takes.taken joined refl;
     }
 
 pub returns-in_err-turn-clause-gives_few : goal.returns-in_err-turn-clause-gives_few

@@ -1,6 +1,6 @@
 use Rattle.std.proofs.Common.{◌≡◌, ◌≤◌, ◌<◌, ◌+◌, ◌-◌, length, true}
 use Rattle.x7_header.specs.Header.{EndsInHeader, longest_header}
-use Rattle.x7_words.specs.Input.{InputsStay, preceded}
+use Rattle.x7_words.specs.Input.{InputsStay, TakenBy}
 use Rattle.x7_forms.specs.Known.{stream_limit}
 use Rattle.x7_forms.specs.Turn.{turn_size}
 use Rattle.x7_forms.proofs.beginning.read_beginning.Given as goal
@@ -18,7 +18,7 @@ invariant-loop-bytes g l =
       selects : (i.state l.inputs).selects ≡ (i.state l.fn.inputs).selects;
       ends : (i.state l.inputs).ends ≤ (i.state l.fn.inputs).ends;
       given : (i.state l.inputs).given ≤ (i.state l.fn.inputs).given + length l.bytes.items;
-      taken : (i.state l.fn.inputs).rest ≡ preceded l.bytes.items (i.state l.inputs).rest;
+      taken : TakenBy (i.state l.inputs).contents (i.state l.fn.inputs).rest l.bytes.items (i.state l.inputs).rest;
     }
 
 abbrev pub decreases-loop-bytes : goal.decreases-loop-bytes

@@ -11,7 +11,7 @@ use Rattle.x7_forms.proofs.part.read_part.Goals as goal
 pub returns-in-Ok-clause-caused : goal.returns-in-Ok-clause-caused
 returns-in-Ok-clause-caused g c = λ flash.
     let i = g.I.Inputs in
-    let known = with_inputs (i.state c.args.inputs.now).contents flash in
+    let known = with_inputs (i.state c.read_whole.new.inputs).contents flash in
     let name = c.args.name.now in
     let C = CameIn (step_over (name ∷ []) (i.state c.args.inputs.now) (i.state c.read_whole.new.inputs)) in
     let text = c.in_ok-text.text.items in
@@ -21,7 +21,7 @@ returns-in-Ok-clause-caused g c = λ flash.
 pub returns-clause-caused : goal.returns-clause-caused
 returns-clause-caused g c = λ flash.
     let i = g.I.Inputs in
-    let known = with_inputs (i.state c.args.inputs.now).contents flash in
+    let known = with_inputs (i.state c.read_whole.new.inputs).contents flash in
     let name = c.args.name.now in
     let C = CameIn (step_over (name ∷ []) (i.state c.args.inputs.now) (i.state c.read_whole.new.inputs)) in
     let text = c.in_ok-text.text.items in
@@ -34,7 +34,7 @@ pub returns-in_err-text-clause-caused : goal.returns-in_err-text-clause-caused
 returns-in_err-text-clause-caused g c = rw (handed_on c.from_residual.result c.in_err-text.field-0.0 c.from_residual.ensures) (λ flash.
     let i = g.I.Inputs in
     let name = c.args.name.now in
-    stops (with_inputs (i.state c.args.inputs.now).contents flash) (CameIn (step_over (name ∷ []) (i.state c.args.inputs.now) (i.state c.read_whole.new.inputs)))
+    stops (with_inputs (i.state c.read_whole.new.inputs).contents flash) (CameIn (step_over (name ∷ []) (i.state c.args.inputs.now) (i.state c.read_whole.new.inputs)))
     (λ t. whole_known t part_limit name) (λ t text. part_by name (part_in text)) (event_of c.in_err-text.field-0.0) (c.in_err-text.ensures.caused flash))
 
 pub returns-clause-named : goal.returns-clause-named

@@ -14,7 +14,7 @@ loop-at-preserved g c =
     record {
       within = grind (arith, overwrites, read.length, read.within);
       length = grind (arith, overwrites, read.length, i.length);
-      took = takes_as _ _ _ _ (filled c.loop-at.buffer c.read.new.buf _ at c.in-Ok.count i.within (omega (arith, read.length, read.within)) part) (takes_on _ _ _ _ _ i.took read.read);
+      took = takes_as _ _ _ _ (filled c.loop-at.buffer c.read.new.buf _ at c.in-Ok.count i.within (omega (arith, read.length, read.within)) part) (takes_on _ _ _ _ _ c.read.ensures.stays i.took read.read);
       asked = c.read.ensures.asks.asked ∙ i.asked;
       ends = omega (arith, i.ends, read.no_end (omega arith));
       inputs = stays_on _ _ _ i.inputs read.stays;

@@ -19,7 +19,7 @@ pub returns-in_err-turn-clause-refused : goal.returns-in_err-turn-clause-refused
 returns-in_err-turn-clause-refused g c = rw (handed_on c.from_residual.result c.in_err-turn.field-0.0 c.from_residual.ensures) (let i = g.I.Inputs in
     let v = c.loop-turn.invariant in
     inr (rest_unread (i.state c.args.inputs.now) (i.state c.loop-turn.inputs) (i.state c.next_turn.new.inputs) c.args.name.now v.known.0 c.args.limit c.loop-turn.left (event_of c.in_err-turn.field-0.0)
-    v.known.1.2 v.known.1.1 c.in_err-turn.ensures.refused.unread c.next_turn.ensures.gives_few.asked))
+    c.next_turn.ensures.gives_few.stays v.known.1.2 v.known.1.1 c.in_err-turn.ensures.refused.unread c.next_turn.ensures.gives_few.asked))
 
 pub returns-then-turn-clause-read : goal.returns-then-turn-clause-read
 returns-then-turn-clause-read g c =

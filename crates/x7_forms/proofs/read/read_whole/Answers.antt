@@ -1,5 +1,5 @@
 use Rattle.std.proofs.Common.{◌≡◌, [], ◌∷◌, ◌++◌, Ok, ap, subst, sym, ◌∙◌}
-use Rattle.x7_words.specs.Input.{RestIsWhole}
+use Rattle.x7_words.proofs.InputLemmas.{rest_on}
 use Rattle.x7_forms.specs.Event.{event_of}
 use Rattle.x7_forms.specs.Step.{CameIn, IsCaused, step_over}
 use Rattle.x7_forms.specs.Known.{whole_known, with_inputs}
@@ -17,9 +17,11 @@ pub returns-clause-caused : goal.returns-clause-caused
 returns-clause-caused g c = λ flash.
     let i = g.I.Inputs in
     let name = c.args.name.now in
-    let contents = (i.state c.args.inputs.now).contents in
+    let opened = i.state c.open.new.inputs in
+    let new = i.state c.read_rest.new.inputs in
+    let contents = new.contents in
     let p = c.in_ok-read_rest.ensures.read in
-    let sel : RestIsWhole contents name _ = subst (λ r. RestIsWhole contents name r) p.3.0 c.in_ok-open.ensures.opened.found in
+    let sel = rest_on opened.contents contents name p.0 opened.rest new.rest c.read_rest.ensures.gives_few.stays.map p.3.0 c.in_ok-open.ensures.opened.found in
     let C = CameIn (step_over (name ∷ []) (i.state c.args.inputs.now) (i.state c.read_rest.new.inputs)) in
     let is : c.read_rest.new.onto.items ≡ p.0 = p.1 ∙ ap (λ x. x ++ p.0) c.new-whole.ensures.items in
     subst (λ x. IsCaused (with_inputs contents flash) C (λ t. whole_known t c.args.limit name) (Ok x)) (sym is)
@@ -29,7 +31,7 @@ pub returns-in_err-read_rest-clause-caused : goal.returns-in_err-read_rest-claus
 returns-in_err-read_rest-clause-caused g c = rw (handed_on c.from_residual-in_err-read_rest.result c.in_err-read_rest.field-0.0 c.from_residual-in_err-read_rest.ensures) (λ flash.
     let i = g.I.Inputs in
     whole_refused (i.state c.args.inputs.now) (i.state c.open.new.inputs) (i.state c.read_rest.new.inputs) flash c.args.name.now c.args.limit (event_of c.in_err-read_rest.field-0.0)
-    c.open.ensures.asks.stays c.in_ok-open.ensures.opened.found c.open.ensures.asks.named c.in_err-read_rest.ensures.refused)
+    c.open.ensures.asks.stays c.read_rest.ensures.gives_few.stays c.in_ok-open.ensures.opened.found c.open.ensures.asks.named c.in_err-read_rest.ensures.refused)
 
 pub returns-in_err-open-clause-named : goal.returns-in_err-open-clause-named
 returns-in_err-open-clause-named g c = rw (handed_on c.from_residual.result c.in_err-open.field-0.0 c.from_residual.ensures) (let i = g.I.Inputs in

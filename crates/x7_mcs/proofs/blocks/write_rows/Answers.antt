@@ -25,4 +25,5 @@ loop-rest-preserved g c =
       begins = λ more. ap (λ n. (c.loop-rest.place + n) % block_size) (omega arith) ∙ begins_more c.loop-rest.place (length c.loop-rest.rest.now) c.min.result (length c.split_at.result.1.now) c.min.ensures (omega arith) (c.loop-rest.invariant.begins (omega arith)) more;
       room = omega arith;
       counts = counts_on _ _ _ c.loop-rest.invariant.counts c.in_ok-write_all.ensures.counts;
+      no_fault = c.in_ok-write_all.ensures.no_fault ∙ c.loop-rest.invariant.no_fault;
     }

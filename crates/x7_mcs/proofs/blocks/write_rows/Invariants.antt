@@ -13,6 +13,7 @@ invariant-loop-rest g l =
       begins : 0 < length l.rest → l.place % block_size ≡ 0;
       room : 262204 ≤ vec_capacity l.block;
       counts : SinkFaultsNeverFall (s.state l.fn.out) (s.state l.out);
+      no_fault : (s.state l.out).faults ≡ (s.state l.fn.out).faults;
     }
 
 abbrev pub decreases-loop-rest : goal.decreases-loop-rest

@@ -13,13 +13,13 @@ use Rattle.x7_outcome.proofs.feeding.feed_whole.Goals as goal
 pub returns-then-turn-clause-read : goal.returns-then-turn-clause-read
 returns-then-turn-clause-read g c =
     let i = g.I.Inputs in
-    let contents = (i.state c.args.inputs.now).contents in
+    let contents = (i.state c.next_turn.new.inputs).contents in
     let name = c.args.name.now in
     let v = c.loop-read.invariant in
     let taken = v.known.0 in
     let n = c.in_ok-turn.turn.count in
     let piece = take n c.next_turn.new.buffer in
-    let sel = taken_more contents name taken piece (i.state c.loop-read.inputs).rest (i.state c.next_turn.new.inputs).rest v.known.1.0 c.in_ok-turn.ensures.reads.takes.taken in
+    let sel = taken_more (i.state c.loop-read.inputs) (i.state c.next_turn.new.inputs) name taken piece c.next_turn.ensures.gives_few.stays v.known.1.0 c.in_ok-turn.ensures.reads.takes.taken in
     let size : length (taken ++ piece) ≡ length taken + n = length-append taken piece ∙ ap (λ k. length taken + k) (length-take-le n c.next_turn.new.buffer c.in_ok-turn.ensures.reads.within_buffer) in
     let short : length (taken ++ piece) ≤ text_limit = omega (arith, size, c.in_ok-turn.ensures.reads.within_limit, v.known.1.2) in
     let fits : length (taken ++ piece) < 2 ^ 63 = omega (arith, short) in (
@@ -32,13 +32,13 @@ returns-then-turn-clause-read g c =
 pub loop-read-preserved : goal.loop-read-preserved
 loop-read-preserved g c =
     let i = g.I.Inputs in
-    let contents = (i.state c.args.inputs.now).contents in
+    let contents = (i.state c.next_turn.new.inputs).contents in
     let name = c.args.name.now in
     let v = c.loop-read.invariant in
     let taken = v.known.0 in
     let n = c.in_ok-turn.turn.count in
     let piece = take n c.next_turn.new.buffer in
-    let sel = taken_more contents name taken piece (i.state c.loop-read.inputs).rest (i.state c.next_turn.new.inputs).rest v.known.1.0 c.in_ok-turn.ensures.reads.takes.taken in
+    let sel = taken_more (i.state c.loop-read.inputs) (i.state c.next_turn.new.inputs) name taken piece c.next_turn.ensures.gives_few.stays v.known.1.0 c.in_ok-turn.ensures.reads.takes.taken in
     let size : length (taken ++ piece) ≡ length taken + n = length-append taken piece ∙ ap (λ k. length taken + k) (length-take-le n c.next_turn.new.buffer c.in_ok-turn.ensures.reads.within_buffer) in
     let fits : length (taken ++ piece) < 2 ^ 63 = omega (arith, size, c.in_ok-turn.ensures.reads.within_limit, v.known.1.2) in
     record {
@@ -69,7 +69,7 @@ returns-in_err-turn-clause-refused g c = rw (handed_on c.from_residual-in_err-tu
     let i = g.I.Inputs in
     let v = c.loop-read.invariant in
     turn_refused (i.state c.args.inputs.now) (i.state c.loop-read.inputs) (i.state c.next_turn.new.inputs) flash c.args.name.now v.known.0 text_limit c.loop-read.left (event_of c.in_err-turn.field-0.0)
-    v.inputs v.known.1.0 v.known.1.3 v.known.1.2 c.in_err-turn.ensures.refused.unread c.next_turn.ensures.gives_few.asked)
+    v.inputs c.next_turn.ensures.gives_few.stays v.known.1.0 v.known.1.3 v.known.1.2 c.in_err-turn.ensures.refused.unread c.next_turn.ensures.gives_few.asked)
 
 pub returns-in_err-open-clause-named : goal.returns-in_err-open-clause-named
 returns-in_err-open-clause-named g c = rw (handed_on c.from_residual.result c.in_err-open.field-0.0 c.from_residual.ensures) (unopened_unread (g.I.Inputs.state c.args.inputs.now) (g.I.Inputs.state c.open.new.inputs) c.args.name.now (event_of c.in_err-open.field-0.0) c.in_err-open.ensures.refused)
@@ -96,7 +96,7 @@ loop-read-init g c =
     let i = g.I.Inputs in
     let name = c.args.name.now in
     let opened = i.state c.open.new.inputs in
-    let whole = subst (λ r. RestIsWhole (i.state c.args.inputs.now).contents name r) (sym (preceded_nil opened.rest)) c.in_ok-open.ensures.opened.found in
+    let whole = subst (λ r. RestIsWhole opened.contents name r) (sym (preceded_nil opened.rest)) c.in_ok-open.ensures.opened.found in
     record {
       selected = c.in_ok-open.ensures.opened.selected;
       inputs = c.open.ensures.asks.stays;

@@ -16,7 +16,7 @@ invariant-loop-read g l =
       once : AsksOnce (i.state l.fn.inputs) (i.state l.inputs);
       left : l.left ≤ text_limit;
       piece : length l.piece ≡ turn_size;
-      known : (taken : List ℕ) × (RestIsWhole (i.state l.fn.inputs).contents l.name (preceded taken (i.state l.inputs).rest) × IsFed (t.took l.fn.taker) (t.fails l.fn.taker) l.read taken × (length taken + l.left ≡ text_limit) × IsAt l.name taken (i.state l.inputs));
+      known : (taken : List ℕ) × (RestIsWhole (i.state l.inputs).contents l.name (preceded taken (i.state l.inputs).rest) × IsFed (t.took l.fn.taker) (t.fails l.fn.taker) l.read taken × (length taken + l.left ≡ text_limit) × IsAt l.name taken (i.state l.inputs));
     }
 
 abbrev pub decreases-loop-read : goal.decreases-loop-read

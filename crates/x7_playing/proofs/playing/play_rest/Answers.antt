@@ -1,5 +1,5 @@
 use Rattle.std.proofs.Common.{◌≡◌, [], ◌++◌, ◌-◌, length, take, length-append, length-take-le, arith, inr, sym, ◌∙◌, false, true}
-use Rattle.x7_words.proofs.InputLemmas.{stays_at, stays_on}
+use Rattle.x7_words.proofs.InputLemmas.{stays_at, stays_on, taken_none}
 use Rattle.x7_forms.specs.Event.{event_of}
 use Rattle.x7_playing.specs.Playing.{PlaysOn}
 use Rattle.x7_playing.proofs.PlayerLemmas.{may_less, may_on, on_none, on_on}
@@ -12,7 +12,12 @@ pub returns-in_err-turn-clause-refused : goal.returns-in_err-turn-clause-refused
 returns-in_err-turn-clause-refused g c = rw (handed_on c.from_residual.result c.in_err-turn.field-0.0 c.from_residual.ensures) (let i = g.I.Inputs in
     let v = c.loop-turn.invariant in
     inr (rest_unread (i.state c.args.inputs.now) (i.state c.loop-turn.inputs) (i.state c.next_turn.new.inputs) c.args.name.now v.known.0 c.args.limit c.loop-turn.left (event_of c.in_err-turn.field-0.0)
-    v.known.1.2 v.known.1.0 c.in_err-turn.ensures.refused.unread c.next_turn.ensures.gives_few.asked))
+    c.next_turn.ensures.gives_few.stays v.known.1.2 v.known.1.0 c.in_err-turn.ensures.refused.unread c.next_turn.ensures.gives_few.asked))
+
+pub returns-then-last-clause-played : goal.returns-then-last-clause-played
+returns-then-last-clause-played g c =
+    let now = g.I.Inputs.state c.args.inputs.now in
+    ([], omega arith, on_none c.args.player.now, (taken_none now.contents now.rest, c.requires.end c.if-last.true))
 
 pub play-requires : goal.play-requires
 play-requires g c =

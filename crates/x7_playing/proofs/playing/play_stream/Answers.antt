@@ -1,7 +1,8 @@
 use Rattle.std.proofs.Common.{◌≡◌, ℕ, List, [], ◌∷◌, ◌++◌, ◌-◌, ◌≤◌, false, Ok, drop, length, length-append, length-take-le, take, ap, arith, inl, inr, subst, sym, ◌∙◌}
 use Rattle.x7_header.specs.Header.{longest_header}
 use Rattle.std.proofs.lemmas.List.{length-take}
-use Rattle.x7_words.specs.Input.{RestIsWhole, preceded}
+use Rattle.x7_words.specs.Input.{preceded}
+use Rattle.x7_words.proofs.InputLemmas.{rest_on, stays_on}
 use Rattle.x7_words.specs.Word.{AreBytes}
 use Rattle.x7_forms.specs.Event.{event_of}
 use Rattle.x7_forms.specs.Known.{stream_known, with_inputs}
@@ -9,7 +10,7 @@ use Rattle.x7_playing.specs.Playing.{PlaysOn}
 use Rattle.x7_forms.specs.Step.{CameIn, IsCaused, step_over}
 use Rattle.x7_forms.proofs.ResultLemmas.{handed_on, err_weaker, ok_weaker, from_ok}
 use Rattle.x7_playing.proofs.PlayerLemmas.{may_less, may_on, on_on}
-use Rattle.x7_forms.proofs.ReadLemmas.{header_refused, reads_first, slice_of, stream_read, stream_refused, stream_unopened, stream_unread, turn_unread, unopened_unread, want_or_rest, want_unread}
+use Rattle.x7_forms.proofs.ReadLemmas.{header_refused, reads_first, slice_of, stream_read, stream_refused, stream_unopened, stream_unread, turn_unread, unopened_unread, want_or_rest, want_unread, whole_later}
 use Rattle.x7_forms.proofs.AskedLemmas.{asks_opened, asks_read, asks_rest}
 use Rattle.x7_playing.proofs.playing.play_stream.Goals as goal
 
@@ -31,7 +32,7 @@ play_rest-requires-clause-may_play g c =
 pub returns-else-is_err-clause-played : goal.returns-else-is_err-clause-played
 returns-else-is_err-clause-played g c =
     let i = g.I.Inputs in
-    let contents = (i.state c.args.inputs.now).contents in
+    let contents = (i.state c.play_rest.new.inputs).contents in
     let name = c.args.name.now in
     let count = c.in_ok-first.first.count in
     let buf = c.next_turn.new.buffer in
@@ -40,7 +41,10 @@ returns-else-is_err-clause-played g c =
     let fits : AreBytes first = c.are_bytes.ensures in
     let within : length first ≤ c.args.limit = omega (arith, size, c.in_ok-first.ensures.reads.within_limit) in
     let long : c.in_ok-first.first.last ≡ false → longest_header ≤ length first = λ e. omega (arith, size, c.in_ok-first.ensures.reads.fills e, c.next_turn.ensures.length, c.requires.buffer) in
-    let select : RestIsWhole contents name (preceded first (i.state c.next_turn.new.inputs).rest) = subst (λ r. RestIsWhole contents name r) c.in_ok-first.ensures.reads.takes.taken c.in_ok-open.ensures.opened.found in
+    let opened = i.state c.open.new.inputs in
+    let turned = i.state c.next_turn.new.inputs in
+    let begins = rest_on opened.contents turned.contents name first opened.rest turned.rest c.next_turn.ensures.gives_few.stays.map c.in_ok-first.ensures.reads.takes.taken c.in_ok-open.ensures.opened.found in
+    let select = whole_later turned.contents contents name (preceded first turned.rest) c.play_rest.ensures.gives_few.stays.map begins in
     let start = c.in-Ok.start in
     let slice = take (count - start) (drop start buf) in
     let same : drop start first ≡ slice = slice_of start count buf (omega (arith, size, c.in-Ok.ensures.within)) in
@@ -66,7 +70,7 @@ pub returns-in_err-first-clause-refused : goal.returns-in_err-first-clause-refus
 returns-in_err-first-clause-refused g c = rw (handed_on c.from_residual-in_err-first.result c.in_err-first.field-0.0 c.from_residual-in_err-first.ensures) (λ flash.
     let i = g.I.Inputs in
     stream_unread (i.state c.args.inputs.now) (i.state c.open.new.inputs) (i.state c.next_turn.new.inputs) flash c.args.name.now c.args.limit (event_of c.in_err-first.field-0.0)
-    c.open.ensures.asks.stays c.in_ok-open.ensures.opened.found c.open.ensures.asks.named (inr (c.in_err-first.ensures.refused.unread, c.next_turn.ensures.gives_few.asked)))
+    c.open.ensures.asks.stays c.next_turn.ensures.gives_few.stays c.in_ok-open.ensures.opened.found c.open.ensures.asks.named (inr (c.in_err-first.ensures.refused.unread, c.next_turn.ensures.gives_few.asked)))
 
 pub returns-else-is_err-clause-refused : goal.returns-else-is_err-clause-refused
 returns-else-is_err-clause-refused g c =
@@ -77,8 +81,8 @@ returns-else-is_err-clause-refused g c =
     let reads = reads_first (i.state c.open.new.inputs) (i.state c.next_turn.new.inputs) first c.in_ok-first.ensures.reads.takes c.next_turn.ensures.gives_few.asked c.next_turn.ensures.gives_few.stays in
     err_weaker c.play_rest.result (λ r h. λ flash.
     stream_unread (i.state c.args.inputs.now) (i.state c.open.new.inputs) (i.state c.play_rest.new.inputs) flash c.args.name.now c.args.limit (event_of r)
-    c.open.ensures.asks.stays c.in_ok-open.ensures.opened.found c.open.ensures.asks.named
-    (want_or_rest (i.state c.open.new.inputs) (i.state c.next_turn.new.inputs) (i.state c.play_rest.new.inputs) c.args.name.now first c.args.limit (c.args.limit - count) (event_of r) reads (omega (arith, size, c.in_ok-first.ensures.reads.within_limit)) h)) c.play_rest.ensures.refused
+    c.open.ensures.asks.stays (stays_on _ _ _ c.next_turn.ensures.gives_few.stays c.play_rest.ensures.gives_few.stays) c.in_ok-open.ensures.opened.found c.open.ensures.asks.named
+    (want_or_rest (i.state c.open.new.inputs) (i.state c.next_turn.new.inputs) (i.state c.play_rest.new.inputs) c.args.name.now first c.args.limit (c.args.limit - count) (event_of r) c.play_rest.ensures.gives_few.stays reads (omega (arith, size, c.in_ok-first.ensures.reads.within_limit)) h)) c.play_rest.ensures.refused
 
 pub returns-in_err-skip_rest-in-Err-clause-refused : goal.returns-in_err-skip_rest-in-Err-clause-refused
 returns-in_err-skip_rest-in-Err-clause-refused g c = rw (handed_on c.from_residual-in_err-skip_rest-in-Err.result c.in_err-skip_rest-in-Err.field-0.0 c.from_residual-in_err-skip_rest-in-Err.ensures) (λ flash.
@@ -88,14 +92,14 @@ returns-in_err-skip_rest-in-Err-clause-refused g c = rw (handed_on c.from_residu
     let size : length first ≡ count = length-take-le count c.next_turn.new.buffer c.in_ok-first.ensures.reads.within_buffer in
     let reads = reads_first (i.state c.open.new.inputs) (i.state c.next_turn.new.inputs) first c.in_ok-first.ensures.reads.takes c.next_turn.ensures.gives_few.asked c.next_turn.ensures.gives_few.stays in
     stream_unread (i.state c.args.inputs.now) (i.state c.open.new.inputs) (i.state c.skip_rest.new.inputs) flash c.args.name.now c.args.limit (event_of c.in_err-skip_rest-in-Err.field-0.0)
-    c.open.ensures.asks.stays c.in_ok-open.ensures.opened.found c.open.ensures.asks.named
+    c.open.ensures.asks.stays (stays_on _ _ _ c.next_turn.ensures.gives_few.stays c.skip_rest.ensures.gives_few.stays) c.in_ok-open.ensures.opened.found c.open.ensures.asks.named
     (want_or_rest (i.state c.open.new.inputs) (i.state c.next_turn.new.inputs) (i.state c.skip_rest.new.inputs)
-    c.args.name.now first c.args.limit (c.args.limit - count) (event_of c.in_err-skip_rest-in-Err.field-0.0) reads (omega (arith, size, c.in_ok-first.ensures.reads.within_limit)) (inr c.in_err-skip_rest-in-Err.ensures.refused)))
+    c.args.name.now first c.args.limit (c.args.limit - count) (event_of c.in_err-skip_rest-in-Err.field-0.0) c.skip_rest.ensures.gives_few.stays reads (omega (arith, size, c.in_ok-first.ensures.reads.within_limit)) (inr c.in_err-skip_rest-in-Err.ensures.refused)))
 
 pub returns-in_ok-skip_rest-in-Err-clause-refused : goal.returns-in_ok-skip_rest-in-Err-clause-refused
 returns-in_ok-skip_rest-in-Err-clause-refused g c = λ flash.
     let i = g.I.Inputs in
-    let contents = (i.state c.args.inputs.now).contents in
+    let contents = (i.state c.skip_rest.new.inputs).contents in
     let name = c.args.name.now in
     let count = c.in_ok-first.first.count in
     let buf = c.next_turn.new.buffer in
@@ -104,7 +108,10 @@ returns-in_ok-skip_rest-in-Err-clause-refused g c = λ flash.
     let fits : AreBytes first = c.are_bytes.ensures in
     let within : length first ≤ c.args.limit = omega (arith, size, c.in_ok-first.ensures.reads.within_limit) in
     let long : c.in_ok-first.first.last ≡ false → longest_header ≤ length first = λ e. omega (arith, size, c.in_ok-first.ensures.reads.fills e, c.next_turn.ensures.length, c.requires.buffer) in
-    let select : RestIsWhole contents name (preceded first (i.state c.next_turn.new.inputs).rest) = subst (λ r. RestIsWhole contents name r) c.in_ok-first.ensures.reads.takes.taken c.in_ok-open.ensures.opened.found in
+    let opened = i.state c.open.new.inputs in
+    let turned = i.state c.next_turn.new.inputs in
+    let begins = rest_on opened.contents turned.contents name first opened.rest turned.rest c.next_turn.ensures.gives_few.stays.map c.in_ok-first.ensures.reads.takes.taken c.in_ok-open.ensures.opened.found in
+    let select = whole_later turned.contents contents name (preceded first turned.rest) c.skip_rest.ensures.gives_few.stays.map begins in
     let C = CameIn (step_over (name ∷ []) (i.state c.args.inputs.now) (i.state c.skip_rest.new.inputs)) in
     let p = c.in_ok-skip_rest-in-Err.ensures.read in
     stream_refused contents flash C name first p.0 (i.state c.next_turn.new.inputs).rest (i.state c.skip_rest.new.inputs).rest

@@ -5,7 +5,7 @@ use Rattle.x7_forms.specs.Known.{StreamRead, stream_limit}
 use Rattle.x7_forms.specs.Step.{CameIn, step_over}
 use Rattle.x7_forms.proofs.ReadLemmas.{one_unplayed, rests_all, rests_none, stream_err, stream_next}
 use Rattle.x7_forms.specs.ReadingStops.{limited_together}
-use Rattle.x7_forms.proofs.AskedLemmas.{limits_first, limits_next, limits_stop, room_left}
+use Rattle.x7_forms.proofs.AskedLemmas.{limits_first, limits_later, limits_next, limits_stop, room_left}
 use Rattle.x7_forms.proofs.ResultLemmas.{handed_on}
 use Rattle.x7_playing.proofs.playing.play_streams.Goals as goal
 
@@ -31,7 +31,7 @@ returns-in_err-left-clause-refused g c = rw (handed_on c.from_residual.result c.
     let i = g.I.Inputs in
     let v = c.loop-name.invariant in
     stream_err string_bytes (i.state c.args.inputs.now) (i.state c.loop-name.inputs) (i.state c.play_stream.new.inputs) flash c.args.streams.now c.loop-name.name-index stream_limit c.loop-name.left c.name-item.result c.as_str.result.now v.played.0
-    (event_of c.in_err-left.field-0.0) v.inputs c.loop-name-test.true c.name-item.is c.as_str.ensures.value v.played.1.2 (c.in_err-left.ensures.refused flash))
+    (event_of c.in_err-left.field-0.0) v.inputs c.play_stream.ensures.asks.stays c.loop-name-test.true c.name-item.is c.as_str.ensures.value v.played.1.2 (c.in_err-left.ensures.refused flash))
 
 pub loop-name-preserved : goal.loop-name-preserved
 loop-name-preserved g c =
@@ -41,14 +41,16 @@ loop-name-preserved g c =
     let C = CameIn (step_over (name ∷ []) (i.state c.loop-name.inputs) (i.state c.play_stream.new.inputs)) in
     let p = c.in_ok-left.ensures.played in
     let read : StreamRead = record { bytes = p.bytes; room = c.in_ok-left.left } in
-    let next = stream_next string_bytes (i.state c.args.inputs.now).contents (i.state c.loop-name.inputs).contents C c.args.streams.now c.loop-name.name-index stream_limit c.loop-name.left c.name-item.result name v.played.0 read
-    v.inputs.map c.loop-name-test.true c.name-item.is c.as_str.ensures.value v.played.1.2 p.reads in
+    let now = (i.state c.play_stream.new.inputs).contents in
+    let later = limits_later string_bytes (i.state c.loop-name.inputs).contents now c.args.streams.now stream_limit c.loop-name.name-index c.loop-name.left c.play_stream.ensures.asks.stays.map v.within (omega (arith, v.played.1.1)) v.limits in
+    let next = stream_next string_bytes (i.state c.loop-name.inputs).contents now C c.args.streams.now c.loop-name.name-index stream_limit c.loop-name.left c.name-item.result name v.played.0 read
+    c.play_stream.ensures.asks.stays.map c.loop-name-test.true c.name-item.is c.as_str.ensures.value v.played.1.2 p.reads in
     record {
       inputs = stays_on _ _ _ v.inputs c.play_stream.ensures.asks.stays;
       asks = few_on _ _ _ c.loop-name.name-index 1 v.asks c.play_stream.ensures.asks.once;
       within = omega (arith, c.loop-name-test.true);
-      limits = limits_next string_bytes (limited_together (i.state c.args.inputs.now).contents stream_limit (map string_bytes c.args.streams.now)) (i.state c.args.inputs.now).contents c.args.streams.now c.loop-name.name-index c.loop-name.left c.in_ok-left.left c.name-item.result name
-          c.loop-name-test.true c.name-item.is c.as_str.ensures.value v.limits (room_left (i.state c.args.inputs.now).contents (i.state c.loop-name.inputs).contents C name c.loop-name.left read v.inputs.map (omega (arith, p.within)) (p.reads None));
+      limits = limits_next string_bytes (limited_together now stream_limit (map string_bytes c.args.streams.now)) now c.args.streams.now c.loop-name.name-index c.loop-name.left c.in_ok-left.left c.name-item.result name
+          c.loop-name-test.true c.name-item.is c.as_str.ensures.value later (room_left now C name c.loop-name.left read (omega (arith, p.within)) (p.reads None));
       piece = c.play_stream.ensures.length ∙ v.piece;
       played = (v.played.0 ++ p.bytes, (p.plays c.args.part.now v.played.0 v.played.1.0, omega (arith, v.played.1.1, p.within, length-append v.played.0 p.bytes), next));
     }
@@ -59,7 +61,7 @@ returns-clause-played g c =
     let v = c.loop-name.invariant in (
       v.played.0,
       v.played.1.0,
-      λ flash. rests_all string_bytes (i.state c.args.inputs.now).contents flash (CameIn (step_over (map string_bytes c.args.streams.now) (i.state c.args.inputs.now) (i.state c.loop-name.inputs)))
+      λ flash. rests_all string_bytes (i.state c.loop-name.inputs).contents flash (CameIn (step_over (map string_bytes c.args.streams.now) (i.state c.args.inputs.now) (i.state c.loop-name.inputs)))
           c.args.streams.now c.loop-name.name-index stream_limit c.loop-name.left v.played.0 c.loop-name-test.false v.played.1.2,
     )
 
@@ -71,8 +73,9 @@ pub returns-in_err-left-clause-stops : goal.returns-in_err-left-clause-stops
 returns-in_err-left-clause-stops g c = rw (handed_on c.from_residual.result c.in_err-left.field-0.0 c.from_residual.ensures) (let i = g.I.Inputs in
     let v = c.loop-name.invariant in
     let old = i.state c.args.inputs.now in
-    limits_stop string_bytes (limited_together old.contents stream_limit (map string_bytes c.args.streams.now)) old.contents c.args.streams.now c.loop-name.name-index c.loop-name.left c.name-item.result c.as_str.result.now
-    old (i.state c.loop-name.inputs) (i.state c.play_stream.new.inputs) (event_of c.in_err-left.field-0.0) c.loop-name-test.true c.name-item.is c.as_str.ensures.value v.limits v.asks c.play_stream.ensures.asks.once c.play_stream.ensures.asks.last c.in_err-left.ensures.named)
+    let now = (i.state c.play_stream.new.inputs).contents in
+    limits_stop string_bytes (limited_together now stream_limit (map string_bytes c.args.streams.now)) now c.args.streams.now c.loop-name.name-index c.loop-name.left c.name-item.result c.as_str.result.now
+    old (i.state c.loop-name.inputs) (i.state c.play_stream.new.inputs) (event_of c.in_err-left.field-0.0) c.loop-name-test.true c.name-item.is c.as_str.ensures.value (limits_later string_bytes (i.state c.loop-name.inputs).contents now c.args.streams.now stream_limit c.loop-name.name-index c.loop-name.left c.play_stream.ensures.asks.stays.map v.within (omega (arith, v.played.1.1)) v.limits) v.asks c.play_stream.ensures.asks.once c.play_stream.ensures.asks.last c.in_err-left.ensures.named)
 
 pub returns-in_err-left-clause-asks : goal.returns-in_err-left-clause-asks
 returns-in_err-left-clause-asks g c =

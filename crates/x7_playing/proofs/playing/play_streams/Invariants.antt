@@ -15,7 +15,7 @@ invariant-loop-name g l =
       inputs : InputsStay (i.state l.fn.inputs) (i.state l.inputs);
       asks : AsksAtMost (i.state l.fn.inputs) l.name-index (i.state l.inputs);
       within : l.name-index ≤ length l.streams;
-      limits : LimitsFrom (limited_together (i.state l.fn.inputs).contents stream_limit (map string_bytes l.streams)) (i.state l.fn.inputs).contents l.name-index l.left (map string_bytes (drop l.name-index l.streams));
+      limits : LimitsFrom (limited_together (i.state l.inputs).contents stream_limit (map string_bytes l.streams)) (i.state l.inputs).contents l.name-index l.left (map string_bytes (drop l.name-index l.streams));
       piece : length l.piece ≡ play_turn_size;
-      played : (whole : List ℕ) × (HasPlayed l.part whole l.player × (length whole + l.left ≤ stream_limit) × Rests (i.state l.fn.inputs).contents (map string_bytes l.streams) stream_limit (map string_bytes (drop l.name-index l.streams)) l.left whole);
+      played : (whole : List ℕ) × (HasPlayed l.part whole l.player × (length whole + l.left ≤ stream_limit) × Rests (i.state l.inputs).contents (map string_bytes l.streams) stream_limit (map string_bytes (drop l.name-index l.streams)) l.left whole);
     }

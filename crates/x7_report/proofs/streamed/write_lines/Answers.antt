@@ -1,4 +1,4 @@
-use Rattle.std.proofs.Common.{◌≡◌, ◌++◌, List, ℕ, ap, arith, ◌∙◌}
+use Rattle.std.proofs.Common.{◌≡◌, ◌++◌, List, ℕ, refl, ap, arith, ◌∙◌}
 use Rattle.x7_words.proofs.SinkLemmas.{counts_at, counts_on}
 use Rattle.x7_memory.specs.PartFrames.{frame_at}
 use Rattle.x7_report.specs.Frames.{frame_lines_text}
@@ -8,7 +8,7 @@ use Rattle.x7_report.proofs.streamed.write_lines.Goals as goal
 pub loop-rest-init : goal.loop-rest-init
 loop-rest-init g c =
     let s = g.S.Sink in
-    record { sent = none_sent (s.state c.args.out.now).written (frame_at c.args.part.now c.args.memory.now) c.args.fars.now; room = c.requires.room; counts = counts_at _ }
+    record { sent = none_sent (s.state c.args.out.now).written (frame_at c.args.part.now c.args.memory.now) c.args.fars.now; room = c.requires.room; counts = counts_at _; no_fault = refl }
 
 pub returns-in_err-write_all-clause-prefix : goal.returns-in_err-write_all-clause-prefix
 returns-in_err-write_all-clause-prefix g c =
@@ -28,4 +28,5 @@ loop-rest-preserved g c =
           c.loop-rest.invariant.sent c.split_at.ensures.front c.split_at.ensures.back (s.state c.write_all.new.sink).written (rw (← block) c.in_ok-write_all.ensures.appends);
       room = omega (arith, c.put_lines.ensures.appends.room, c.loop-rest.invariant.room);
       counts = counts_on _ _ _ c.loop-rest.invariant.counts c.in_ok-write_all.ensures.counts;
+      no_fault = c.in_ok-write_all.ensures.no_fault ∙ c.loop-rest.invariant.no_fault;
     }

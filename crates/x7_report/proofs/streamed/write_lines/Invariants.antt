@@ -1,4 +1,4 @@
-use Rattle.std.proofs.Common.{◌≤◌, length, vec_capacity}
+use Rattle.std.proofs.Common.{◌≡◌, ◌≤◌, length, vec_capacity}
 use Rattle.x7_words.specs.Sink.{SinkFaultsNeverFall}
 use Rattle.x7_memory.specs.PartFrames.{frame_at}
 use Rattle.x7_report.specs.Frames.{room_at_once}
@@ -12,6 +12,7 @@ invariant-loop-rest g l =
       sent : Sent (s.state l.fn.out).written (s.state l.out).written (frame_at l.part l.memory) l.fars l.rest;
       room : room_at_once ≤ vec_capacity l.buffer;
       counts : SinkFaultsNeverFall (s.state l.fn.out) (s.state l.out);
+      no_fault : (s.state l.out).faults ≡ (s.state l.fn.out).faults;
     }
 
 abbrev pub decreases-loop-rest : goal.decreases-loop-rest

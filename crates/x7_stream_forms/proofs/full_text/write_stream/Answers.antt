@@ -1,4 +1,4 @@
-use Rattle.std.proofs.Common.{◌∙◌, List, ℕ, ap, subst, arith}
+use Rattle.std.proofs.Common.{◌∙◌, List, ℕ, refl, ap, subst, arith}
 use Rattle.x7_words.specs.Sink.{PutsPrefix, appended}
 use Rattle.x7_words.proofs.SinkLemmas.{counts_at, counts_on}
 use Rattle.x7_planner.specs.FullStreamPieces.{AppendsNext}
@@ -8,7 +8,7 @@ use Rattle.x7_stream_forms.proofs.full_text.write_stream.Goals as goal
 pub loop-more-init : goal.loop-more-init
 loop-more-init g c =
     let s = g.O.Sink in
-    record { sent = sent_none c.args.stream (s.state c.args.out.now).written c.requires.given; room = c.requires.room; counts = counts_at _ }
+    record { sent = sent_none c.args.stream (s.state c.args.out.now).written c.requires.given; room = c.requires.room; counts = counts_at _; no_fault = refl }
 
 pub returns-then-not-more-clause-whole : goal.returns-then-not-more-clause-whole
 returns-then-not-more-clause-whole g c =
@@ -43,4 +43,5 @@ loop-more-preserved g c =
           c.clear.ensures.items c.put_next.ensures.part c.put_next.ensures.plan (c.in_ok-write_all.ensures.appends ∙ ap (λ (x : List ℕ). appended (s.state c.loop-more.out).written x) c.deref.ensures.value);
       room = omega (arith, c.clear.ensures.capacity, c.put_next.ensures.room, v.room);
       counts = counts_on _ _ _ v.counts c.in_ok-write_all.ensures.counts;
+      no_fault = c.in_ok-write_all.ensures.no_fault ∙ v.no_fault;
     }

@@ -1,4 +1,4 @@
-use Rattle.std.proofs.Common.{◌≤◌, vec_capacity}
+use Rattle.std.proofs.Common.{◌≡◌, ◌≤◌, vec_capacity}
 use Rattle.x7_words.specs.Sink.{SinkFaultsNeverFall}
 use Rattle.x7_planner.specs.FullStreamPieces.{puts_left, piece_limit}
 use Rattle.x7_stream_forms.proofs.FullTextLemmas.{Sent}
@@ -11,6 +11,7 @@ invariant-loop-more g l =
       sent : Sent l.fn.stream.part l.fn.stream.plan l.stream (s.state l.fn.out).written (s.state l.out).written;
       room : piece_limit ≤ vec_capacity l.piece;
       counts : SinkFaultsNeverFall (s.state l.fn.out) (s.state l.out);
+      no_fault : (s.state l.out).faults ≡ (s.state l.fn.out).faults;
     }
 
 abbrev pub decreases-loop-more : goal.decreases-loop-more

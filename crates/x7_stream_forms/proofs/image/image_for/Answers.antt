@@ -44,7 +44,7 @@ returns g c =
     let asks = few_on old mid new 1 2 c.read_part.ensures.asks.once c.read_streams.ensures.asks in
     record {
       caused = answers_go PartData Answer (part ∷ []) (golden ∷ update ∷ []) (part ∷ golden ∷ update ∷ []) old mid new (λ t. part_known t part) (λ t p. and_so (image_streams t golden update) (image_by update p.start_unit)) known (result_by bytes_answer made)
-          (part_steady part) c.read_part.ensures.asks.stays (λ n h. inr h) c.in_ok-part.ensures.caused
+          (part_steady part) c.read_part.ensures.asks.stays c.read_streams.ensures.inputs (λ n h. inr h) c.in_ok-part.ensures.caused
           (answers_end ImageStreams Answer (golden ∷ update ∷ []) mid new (λ t. image_streams t golden update) (image_by update known.start_unit) streams (result_by bytes_answer made) (streams_steady golden update) c.in_ok-streams.ensures.caused
           (image_due update known.start_unit streams made c.image_by_part.ensures.text c.image_by_part.ensures.refused));
       stops = result_stops bytes_answer (ImagingFor part golden update) old new made (err_weaker made
@@ -64,7 +64,7 @@ returns-in_err-streams g c = rw (handed_on c.from_residual-in_err-streams.result
     let asks = few_on old mid new 1 2 c.read_part.ensures.asks.once c.read_streams.ensures.asks in
     record {
       caused = answers_go PartData Answer (part ∷ []) (golden ∷ update ∷ []) (part ∷ golden ∷ update ∷ []) old mid new (λ t. part_known t part) (λ t p. and_so (image_streams t golden update) (image_by update p.start_unit)) c.in_ok-part.part (Err event)
-          (part_steady part) c.read_part.ensures.asks.stays (λ n h. inr h) c.in_ok-part.ensures.caused
+          (part_steady part) c.read_part.ensures.asks.stays c.read_streams.ensures.inputs (λ n h. inr h) c.in_ok-part.ensures.caused
           (answers_stop ImageStreams Answer (golden ∷ update ∷ []) (golden ∷ update ∷ []) mid new (λ t. image_streams t golden update) (λ t. image_by update c.in_ok-part.part.start_unit) event (λ n h. h) c.in_err-streams.ensures.caused);
       stops = among_stops (ImagingFor part golden update) old new event
           (stops_after (limited part_limit part) (limited stream_limit golden ∷ limited stream_limit update ∷ []) old mid new event c.read_part.ensures.asks.once c.in_err-streams.ensures.stops);

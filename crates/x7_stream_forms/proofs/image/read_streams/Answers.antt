@@ -26,7 +26,7 @@ returns-in_err-update-clause-caused g c = rw (handed_on c.from_residual-in_err-u
     let event = event_of c.in_err-update.field-0.0 in
     let first = data_from c.in_ok-golden.golden in
     answers_go (List ℕ) ImageStreams (golden ∷ []) (update ∷ []) (golden ∷ update ∷ []) (i.state c.args.inputs.now) (i.state c.read_stream.new.inputs) (i.state c.read_stream-2.new.inputs) (λ t. stream_data t golden)
-    (λ t first. and_so (stream_data t update) (λ second. Ok (record { golden = first; update = second }))) first (Err event) (stream_steady golden) c.read_stream.ensures.asks.stays (λ n h. inr h) c.in_ok-golden.ensures.caused
+    (λ t first. and_so (stream_data t update) (λ second. Ok (record { golden = first; update = second }))) first (Err event) (stream_steady golden) c.read_stream.ensures.asks.stays c.read_stream-2.ensures.asks.stays (λ n h. inr h) c.in_ok-golden.ensures.caused
     (answers_stop (List ℕ) ImageStreams (update ∷ []) (update ∷ []) (i.state c.read_stream.new.inputs) (i.state c.read_stream-2.new.inputs) (λ t. stream_data t update) (λ t second. Ok (record { golden = first; update = second })) event (λ n h. h) c.in_err-update.ensures.caused))
 
 pub returns-in_err-golden-clause-stops : goal.returns-in_err-golden-clause-stops
@@ -51,7 +51,7 @@ returns-clause-caused g c =
     let second = data_from c.in_ok-update.update in
     let got : Result ImageStreams Event = Ok (record { golden = first; update = second }) in
     answers_go (List ℕ) ImageStreams (golden ∷ []) (update ∷ []) (golden ∷ update ∷ []) (i.state c.args.inputs.now) (i.state c.read_stream.new.inputs) (i.state c.read_stream-2.new.inputs) (λ t. stream_data t golden)
-    (λ t first. and_so (stream_data t update) (λ second. Ok (record { golden = first; update = second }))) first got (stream_steady golden) c.read_stream.ensures.asks.stays (λ n h. inr h) c.in_ok-golden.ensures.caused
+    (λ t first. and_so (stream_data t update) (λ second. Ok (record { golden = first; update = second }))) first got (stream_steady golden) c.read_stream.ensures.asks.stays c.read_stream-2.ensures.asks.stays (λ n h. inr h) c.in_ok-golden.ensures.caused
     (answers_end (List ℕ) ImageStreams (update ∷ []) (i.state c.read_stream.new.inputs) (i.state c.read_stream-2.new.inputs) (λ t. stream_data t update) (λ second. Ok (record { golden = first; update = second })) second got (stream_steady update) c.in_ok-update.ensures.caused (inr (tt, tt, refl)))
 
 pub returns-in_err-golden-clause-asks : goal.returns-in_err-golden-clause-asks

@@ -1,9 +1,9 @@
 use Rattle.std.proofs.Common.{◌≡◌, ℕ, ◌+◌, ◌-◌, ◌≤◌, ◌⊎◌, List, [], ◌∷◌, ◌++◌, Option, Some, Ok, Err, true, false, drop, subst, take, length, length-append, append-nil, length-drop, length-take-le, take_all, refl, sym, ap, ◌∙◌, inl, inr, arith}
 use Rattle.std.proofs.lemmas.Result.{on_ok_weaker}
 use Rattle.x7_words.specs.Sink.{SinkFails, appended, PutsPrefix}
-use Rattle.x7_words.specs.Input.{preceded, RestIsWhole}
+use Rattle.x7_words.specs.Input.{preceded}
 use Rattle.x7_words.specs.Word.{AreBytes}
-use Rattle.x7_words.proofs.InputLemmas.{once_on, stays_on}
+use Rattle.x7_words.proofs.InputLemmas.{once_on, rest_on, stays_on}
 use Rattle.x7_words.proofs.CountLemmas.{risen_from}
 use Rattle.x7_listing.specs.Listing.{listing_of}
 use Rattle.x7_listing.specs.StreamListing.{stream_listing}
@@ -18,9 +18,9 @@ use Rattle.x7_stream_forms.specs.Between.{ListsInTurns, ListsStream}
 use Rattle.x7_forms.specs.Turn.{FollowsUnlessLast, longest_beginning, turn_size}
 use Rattle.x7_stream_forms.proofs.AheadLemmas.{prefix_given, prefix_near, longer_prefix, longer_twice, same_now, stays_near, turn_given, turn_near, without_prefix_near, unopened_near, unread_near, unwritten_near, why_weaker}
 use Rattle.x7_stream_forms.proofs.Causes.{Ended, PutsListed, both_err, ends_same, list_ends, list_seen, listed_whole, out_of_memory, out_of_memory_before, without_prefix, unopened}
-use Rattle.x7_forms.proofs.ReadLemmas.{asked_on, at_on, turn_unread}
+use Rattle.x7_forms.proofs.ReadLemmas.{asked_on, at_on, turn_unread, whole_later}
 use Rattle.x7_forms.proofs.ResultLemmas.{handed_on, err_weaker}
-use Rattle.x7_stream_forms.proofs.TurnLemmas.{end_failed, prefix_failed, prefix_so_far, goes_on, line_prefix, line_then, stream_so_far, stream_whole, unread_end, write_failed}
+use Rattle.x7_stream_forms.proofs.TurnLemmas.{end_failed, fails_last, unlisted_last, prefix_failed, prefix_so_far, goes_on, line_prefix, line_then, stream_so_far, stream_whole, unread_end, write_failed}
 use Rattle.x7_outcome.proofs.FeedLemmas.{taken_more}
 use Rattle.x7_forms.proofs.AskedLemmas.{asks_opened, asks_read, asks_turn, without_prefix_about, unopened_about, unread_about}
 use Rattle.x7_stream_forms.proofs.StopLemmas.{prefix_stops, put_stops, written_stops}
@@ -28,8 +28,8 @@ use Rattle.x7_outcome.proofs.StopLemmas.{first_stops}
 use Rattle.x7_forms.specs.ReadingStops.{limited}
 use Rattle.x7_stream_forms.proofs.list.list.Goals as goal
 
-pub returns-in_err-open : goal.returns-in_err-open
-returns-in_err-open g c = rw (handed_on c.from_residual.result c.in_err-open.field-0.0 c.from_residual.ensures) (λ before after.
+pub returns-in_err-open-clause-answered : goal.returns-in_err-open-clause-answered
+returns-in_err-open-clause-answered g c = rw (handed_on c.from_residual.result c.in_err-open.field-0.0 c.from_residual.ensures) (λ before after.
     let i = g.I.Inputs in
     let o = g.O.Sink in
     let old = record before { inputs = i.state c.args.inputs.now; out = o.state c.args.out.now } in
@@ -39,7 +39,7 @@ returns-in_err-open g c = rw (handed_on c.from_residual.result c.in_err-open.fie
     let asks = asks_opened (i.state c.args.inputs.now) (i.state c.open.new.inputs) stream stream_limit c.open.ensures.asks in
     record {
       ends = list_ends stream old new (Err event) (unopened old.inputs new.inputs old.flash.bytes stream (SinkFails old.out new.out) old.out.written event c.in_err-open.ensures.refused c.open.ensures.asks.named)
-          (stays_near event stream old new (unopened_near old.inputs.contents stream new.inputs.rest old.out.written new.out.written old.inputs new.inputs stream event c.open.ensures.asks.named (same_now old.out) c.in_err-open.ensures.refused));
+          (stays_near event stream old new (unopened_near new.inputs.contents stream new.inputs.rest old.out.written new.out.written old.inputs new.inputs stream event c.open.ensures.asks.named (same_now old.out) c.in_err-open.ensures.refused));
       stops = first_stops (Listing c.args.stream_name.now) (limited stream_limit c.args.stream_name.now) [] (g.I.Inputs.state c.args.inputs.now) (g.I.Inputs.state c.open.new.inputs)
           (event_of c.in_err-open.field-0.0) refl asks.last asks.once
           (unopened_about (g.I.Inputs.state c.args.inputs.now) (g.I.Inputs.state c.open.new.inputs) c.args.stream_name.now (event_of c.in_err-open.field-0.0) c.in_err-open.ensures.refused);
@@ -48,8 +48,8 @@ returns-in_err-open g c = rw (handed_on c.from_residual.result c.in_err-open.fie
       stays = asks.stays;
     })
 
-pub returns-in_err-beginning : goal.returns-in_err-beginning
-returns-in_err-beginning g c = rw (handed_on c.from_residual-in_err-beginning.result c.in_err-beginning.field-0.0 c.from_residual-in_err-beginning.ensures) (λ before after.
+pub returns-in_err-beginning-clause-answered : goal.returns-in_err-beginning-clause-answered
+returns-in_err-beginning-clause-answered g c = rw (handed_on c.from_residual-in_err-beginning.result c.in_err-beginning.field-0.0 c.from_residual-in_err-beginning.ensures) (λ before after.
     let i = g.I.Inputs in
     let o = g.O.Sink in
     let old = record before { inputs = i.state c.args.inputs.now; out = o.state c.args.out.now } in
@@ -59,9 +59,9 @@ returns-in_err-beginning g c = rw (handed_on c.from_residual-in_err-beginning.re
     let asks = asks_read (i.state c.args.inputs.now) (i.state c.open.new.inputs) (i.state c.read_beginning.new.inputs) stream stream_limit c.open.ensures.asks c.read_beginning.ensures.gives_few in
     record {
       ends = list_ends stream old new (Err event)
-          (without_prefix old.inputs (i.state c.open.new.inputs) new.inputs old.flash.bytes stream (SinkFails old.out new.out) old.out.written event c.open.ensures.asks.stays c.in_ok-open.ensures.opened.found c.open.ensures.asks.named c.in_err-beginning.ensures.refused)
-          (stays_near event stream old new (without_prefix_near old.inputs.contents stream new.inputs.rest old.out.written new.out.written
-          (i.state c.open.new.inputs) new.inputs stream event refl c.in_ok-open.ensures.opened.found c.open.ensures.asks.named c.read_beginning.ensures.short
+          (without_prefix old.inputs (i.state c.open.new.inputs) new.inputs old.flash.bytes stream (SinkFails old.out new.out) old.out.written event c.open.ensures.asks.stays c.read_beginning.ensures.gives_few.stays c.in_ok-open.ensures.opened.found c.open.ensures.asks.named c.in_err-beginning.ensures.refused)
+          (stays_near event stream old new (without_prefix_near new.inputs.contents stream new.inputs.rest old.out.written new.out.written
+          (i.state c.open.new.inputs) new.inputs stream event refl refl c.read_beginning.ensures.gives_few.stays c.in_ok-open.ensures.opened.found c.open.ensures.asks.named c.read_beginning.ensures.short
           (same_now old.out) c.in_err-beginning.ensures.refused));
       stops = first_stops (Listing c.args.stream_name.now) (limited stream_limit c.args.stream_name.now) [] (g.I.Inputs.state c.args.inputs.now) (g.I.Inputs.state c.read_beginning.new.inputs)
           (event_of c.in_err-beginning.field-0.0) refl
@@ -72,11 +72,11 @@ returns-in_err-beginning g c = rw (handed_on c.from_residual-in_err-beginning.re
       stays = asks.stays;
     })
 
-pub returns-in_err-put_beginning : goal.returns-in_err-put_beginning
-returns-in_err-put_beginning g c = rw (handed_on c.from_residual-in_err-put_beginning.result c.in_err-put_beginning.field-0.0 c.from_residual-in_err-put_beginning.ensures) (λ before after.
+pub returns-in_err-put_beginning-clause-answered : goal.returns-in_err-put_beginning-clause-answered
+returns-in_err-put_beginning-clause-answered g c = rw (handed_on c.from_residual-in_err-put_beginning.result c.in_err-put_beginning.field-0.0 c.from_residual-in_err-put_beginning.ensures) (λ before after.
     let i = g.I.Inputs in
     let o = g.O.Sink in
-    let contents = (i.state c.args.inputs.now).contents in
+    let contents = (i.state c.read_beginning.new.inputs).contents in
     let old = (o.state c.args.out.now).written in
     let stream = c.args.stream_name.now in
     let C = CameIn (step_over (stream ∷ []) (i.state c.args.inputs.now) (i.state c.read_beginning.new.inputs)) in
@@ -90,7 +90,8 @@ returns-in_err-put_beginning g c = rw (handed_on c.from_residual-in_err-put_begi
     let content = take (length bytes - start) (drop start bytes) in
     let cut : content ≡ drop start taken = take_all (length bytes - start) (drop start bytes) (omega (arith, length-drop start bytes)) ∙ ap (drop start) c.deref.ensures.value in
     let rest = (i.state c.read_beginning.new.inputs).rest in
-    let sel : RestIsWhole contents stream (preceded taken rest) = subst (λ r. RestIsWhole contents stream r) f.reads.takes.taken c.in_ok-open.ensures.opened.found in
+    let opened = i.state c.open.new.inputs in
+    let sel = rest_on opened.contents contents stream taken opened.rest rest c.read_beginning.ensures.gives_few.stays.map f.reads.takes.taken c.in_ok-open.ensures.opened.found in
     let listing : (left : List ℕ) → FollowsUnlessLast last left
     → stream_listing (taken ++ left) ≡ Ok (line ++ listing_of (content ++ left)) = λ left m. f.begins left m
     ∙ ap (λ (l : List ℕ). Ok (l ++ listing_of (drop start taken ++ left))) (sym c.deref-line.ensures.value) ∙ ap (λ (s : List ℕ). Ok (line ++ listing_of (s ++ left))) (sym cut) in
@@ -120,11 +121,11 @@ returns-in_err-put_beginning g c = rw (handed_on c.from_residual-in_err-put_begi
       stays = asks.stays;
     })
 
-pub returns-then-beginning : goal.returns-then-beginning
-returns-then-beginning g c = λ before after.
+pub returns-then-beginning-clause-answered : goal.returns-then-beginning-clause-answered
+returns-then-beginning-clause-answered g c = λ before after.
     let i = g.I.Inputs in
     let o = g.O.Sink in
-    let contents = (i.state c.args.inputs.now).contents in
+    let contents = (i.state c.read_beginning.new.inputs).contents in
     let old = (o.state c.args.out.now).written in
     let stream = c.args.stream_name.now in
     let C = CameIn (step_over (stream ∷ []) (i.state c.args.inputs.now) (i.state c.read_beginning.new.inputs)) in
@@ -138,7 +139,8 @@ returns-then-beginning g c = λ before after.
     let content = take (length bytes - start) (drop start bytes) in
     let cut : content ≡ drop start taken = take_all (length bytes - start) (drop start bytes) (omega (arith, length-drop start bytes)) ∙ ap (drop start) c.deref.ensures.value in
     let rest = (i.state c.read_beginning.new.inputs).rest in
-    let sel : RestIsWhole contents stream (preceded taken rest) = subst (λ r. RestIsWhole contents stream r) f.reads.takes.taken c.in_ok-open.ensures.opened.found in
+    let opened = i.state c.open.new.inputs in
+    let sel = rest_on opened.contents contents stream taken opened.rest rest c.read_beginning.ensures.gives_few.stays.map f.reads.takes.taken c.in_ok-open.ensures.opened.found in
     let listing : (left : List ℕ) → FollowsUnlessLast last left
     → stream_listing (taken ++ left) ≡ Ok (line ++ listing_of (content ++ left)) = λ left m. f.begins left m
     ∙ ap (λ (l : List ℕ). Ok (l ++ listing_of (drop start taken ++ left))) (sym c.deref-line.ensures.value) ∙ ap (λ (s : List ℕ). Ok (line ++ listing_of (s ++ left))) (sym cut) in
@@ -176,8 +178,8 @@ returns-then-beginning g c = λ before after.
       stays = asks.stays;
     }
 
-pub returns-in_err-turn : goal.returns-in_err-turn
-returns-in_err-turn g c = rw (handed_on c.from_residual-in_err-turn.result c.in_err-turn.field-0.0 c.from_residual-in_err-turn.ensures) (λ before after.
+pub returns-in_err-turn-clause-answered : goal.returns-in_err-turn-clause-answered
+returns-in_err-turn-clause-answered g c = rw (handed_on c.from_residual-in_err-turn.result c.in_err-turn.field-0.0 c.from_residual-in_err-turn.ensures) (λ before after.
     let i = g.I.Inputs in
     let o = g.O.Sink in
     let v = c.loop-lister.invariant in
@@ -190,8 +192,8 @@ returns-in_err-turn g c = rw (handed_on c.from_residual-in_err-turn.result c.in_
     record {
       ends = list_ends stream old new (Err event)
           (unread_end old.inputs (i.state c.loop-lister.inputs) new.inputs old.flash.bytes stream v.known.0 c.loop-lister.lister c.loop-lister.left (SinkFails old.out new.out) old.out.written new.out.written event
-          v.inputs v.known.1.0 v.known.1.3 v.known.1.1 v.known.1.2 c.in_err-turn.ensures.refused.unread c.next_turn.ensures.gives_few.asked)
-          (stays_near event stream old new (unread_near old.inputs.contents stream new.inputs.rest old.out.written new.out.written (i.state c.loop-lister.inputs) new.inputs stream v.known.0 c.loop-lister.lister c.loop-lister.left event refl v.known.1.0 t
+          v.inputs c.next_turn.ensures.gives_few.stays v.known.1.0 v.known.1.3 v.known.1.1 v.known.1.2 c.in_err-turn.ensures.refused.unread c.next_turn.ensures.gives_few.asked)
+          (stays_near event stream old new (unread_near new.inputs.contents stream new.inputs.rest old.out.written new.out.written (i.state c.loop-lister.inputs) new.inputs stream v.known.0 c.loop-lister.lister c.loop-lister.left event refl refl c.next_turn.ensures.gives_few.stays v.known.1.0 t
           (omega (arith, v.known.1.3.given, c.next_turn.ensures.gives_a_turn.given, v.piece)) (λ e. omega (arith, c.in_err-turn.ensures.refused.over e, v.piece)) (same_now (o.state c.loop-lister.out)) c.in_err-turn.ensures.refused.unread));
       stops = let v = c.loop-lister.invariant in first_stops (Listing c.args.stream_name.now) (limited stream_limit c.args.stream_name.now) [] (g.I.Inputs.state c.args.inputs.now)
           (g.I.Inputs.state c.next_turn.new.inputs) (event_of c.in_err-turn.field-0.0) refl
@@ -204,11 +206,11 @@ returns-in_err-turn g c = rw (handed_on c.from_residual-in_err-turn.result c.in_
       stays = asks.stays;
     })
 
-pub returns-in_err-put_turn : goal.returns-in_err-put_turn
-returns-in_err-put_turn g c = rw (handed_on c.from_residual-in_err-put_turn.result c.in_err-put_turn.field-0.0 c.from_residual-in_err-put_turn.ensures) (λ before after.
+pub returns-in_err-put_turn-clause-answered : goal.returns-in_err-put_turn-clause-answered
+returns-in_err-put_turn-clause-answered g c = rw (handed_on c.from_residual-in_err-put_turn.result c.in_err-put_turn.field-0.0 c.from_residual-in_err-put_turn.ensures) (λ before after.
     let i = g.I.Inputs in
     let o = g.O.Sink in
-    let contents = (i.state c.args.inputs.now).contents in
+    let contents = (i.state c.next_turn.new.inputs).contents in
     let old = (o.state c.args.out.now).written in
     let stream = c.args.stream_name.now in
     let C = CameIn (step_over (stream ∷ []) (i.state c.args.inputs.now) (i.state c.next_turn.new.inputs)) in
@@ -217,7 +219,8 @@ returns-in_err-put_turn g c = rw (handed_on c.from_residual-in_err-put_turn.resu
     let taken = v.known.0 in
     let t = v.known.1.1 in
     let piece = take c.in_ok-turn.turn.count c.next_turn.new.buffer in
-    let sel = taken_more contents stream taken piece (i.state c.loop-lister.inputs).rest (i.state c.next_turn.new.inputs).rest v.known.1.0 c.in_ok-turn.ensures.reads.takes.taken in
+    let sel = taken_more (i.state c.loop-lister.inputs) (i.state c.next_turn.new.inputs) stream taken piece c.next_turn.ensures.gives_few.stays v.known.1.0 c.in_ok-turn.ensures.reads.takes.taken in
+    let here = whole_later (i.state c.loop-lister.inputs).contents contents stream (preceded taken (i.state c.loop-lister.inputs).rest) c.next_turn.ensures.gives_few.stays.map v.known.1.0 in
     let now = (o.state c.put_turn.new.out).written in
     let Full : Type 0 = SinkFails (o.state c.args.out.now) (o.state c.put_turn.new.out) in
     let r = event_of c.in_err-put_turn.field-0.0 in
@@ -226,9 +229,9 @@ returns-in_err-put_turn g c = rw (handed_on c.from_residual-in_err-put_turn.resu
     = elim [
       | inl h ↦
           let prefix_2 : ListsSoFar taken old now = subst (λ (w : Option (List ℕ)). ListsSoFar taken old w) (sym h.1) (stream_so_far c.loop-lister.lister old (o.state c.loop-lister.out).written taken t) in
-          ends_same (with_inputs contents flash) C stream Full old now r no_memory h.0 (out_of_memory contents flash C stream taken (i.state c.loop-lister.inputs).rest Full old now v.known.1.0 prefix_2)
+          ends_same (with_inputs contents flash) C stream Full old now r no_memory h.0 (out_of_memory contents flash C stream taken (i.state c.loop-lister.inputs).rest Full old now here prefix_2)
       | inr h ↦
-          let risen = risen_from (o.state c.args.out.now).faults (o.state c.loop-lister.out).faults (o.state c.put_turn.new.out).faults v.written h.1 in
+          let risen = risen_from (o.state c.args.out.now).faults (o.state c.loop-lister.out).faults (o.state c.put_turn.new.out).faults (omega (arith, v.written)) h.1 in
           let err : (left : List ℕ) → AreBytes (t.content ++ (piece ++ left)) → PutsPrefix (appended old t.line) (listing_of (t.content ++ (piece ++ left))) now
           = λ left fits. c.in_err-put_turn.ensures.prefix (appended old t.line) t.content left t.lists fits in
           ends_same (with_inputs contents flash) C stream Full old now r writing_failed h.0
@@ -239,7 +242,7 @@ returns-in_err-put_turn g c = rw (handed_on c.from_residual-in_err-put_turn.resu
     let few : length piece ≤ turn_size = omega (arith, length-take-le n c.next_turn.new.buffer c.in_ok-turn.ensures.reads.within_buffer, c.in_ok-turn.ensures.reads.within_buffer, c.next_turn.ensures.length, v.piece) in
     let known = stream_whole taken t.line t.content (t.listing []) in
     let near = turn_near contents stream taken piece t.line t.content c.loop-lister.lister rest old (o.state c.loop-lister.out).written now sel t.short_header few known t.lists c.put_turn.ensures.extends in
-    let gives = turn_given contents stream taken t.line t.content given c.loop-lister.lister (i.state c.loop-lister.inputs).rest old (o.state c.loop-lister.out).written now v.known.1.0
+    let gives = turn_given contents stream taken t.line t.content given c.loop-lister.lister (i.state c.loop-lister.inputs).rest old (o.state c.loop-lister.out).written now here
     (omega (arith, v.known.1.3.given, c.next_turn.ensures.gives_a_turn.given, v.piece)) known t.lists c.put_turn.ensures.extends in
     let asks = asks_turn (i.state c.args.inputs.now) (i.state c.loop-lister.inputs) (i.state c.next_turn.new.inputs) stream v.known.0 stream_limit c.loop-lister.left v.known.1.3 v.known.1.2 v.once v.inputs c.next_turn.ensures.gives_few in
     record {
@@ -253,11 +256,11 @@ returns-in_err-put_turn g c = rw (handed_on c.from_residual-in_err-put_turn.resu
       stays = asks.stays;
     })
 
-pub returns-then-turn : goal.returns-then-turn
-returns-then-turn g c = λ before after.
+pub returns-then-turn-clause-answered : goal.returns-then-turn-clause-answered
+returns-then-turn-clause-answered g c = λ before after.
     let i = g.I.Inputs in
     let o = g.O.Sink in
-    let contents = (i.state c.args.inputs.now).contents in
+    let contents = (i.state c.next_turn.new.inputs).contents in
     let old = (o.state c.args.out.now).written in
     let stream = c.args.stream_name.now in
     let C = CameIn (step_over (stream ∷ []) (i.state c.args.inputs.now) (i.state c.next_turn.new.inputs)) in
@@ -267,7 +270,8 @@ returns-then-turn g c = λ before after.
     let t = v.known.1.1 in
     let n = c.in_ok-turn.turn.count in
     let piece = take n c.next_turn.new.buffer in
-    let sel = taken_more contents stream taken piece (i.state c.loop-lister.inputs).rest (i.state c.next_turn.new.inputs).rest v.known.1.0 c.in_ok-turn.ensures.reads.takes.taken in
+    let sel = taken_more (i.state c.loop-lister.inputs) (i.state c.next_turn.new.inputs) stream taken piece c.next_turn.ensures.gives_few.stays v.known.1.0 c.in_ok-turn.ensures.reads.takes.taken in
+    let here = whole_later (i.state c.loop-lister.inputs).contents contents stream (preceded taken (i.state c.loop-lister.inputs).rest) c.next_turn.ensures.gives_few.stays.map v.known.1.0 in
     let lists : ListsInTurns c.put_turn.new.lister (appended old t.line) (o.state c.put_turn.new.out).written (t.content ++ piece) = c.in_ok-put_turn.ensures.listed (appended old t.line) t.content t.lists in
     let listing = goes_on taken piece t.line t.content t.listing in
     let now = (o.state c.put_end.new.out).written in
@@ -305,7 +309,7 @@ returns-then-turn g c = λ before after.
     let longer = longer_twice (o.state c.loop-lister.out).written (o.state c.put_turn.new.out).written now c.put_turn.ensures.extends c.put_end.ensures.extends in
     let whole = stream_whole taken t.line t.content (t.listing []) in
     let near = turn_near contents stream taken piece t.line t.content c.loop-lister.lister (i.state c.next_turn.new.inputs).rest old (o.state c.loop-lister.out).written now sel t.short_header few whole t.lists longer in
-    let gives = turn_given contents stream taken t.line t.content given c.loop-lister.lister (i.state c.loop-lister.inputs).rest old (o.state c.loop-lister.out).written now v.known.1.0 (omega (arith, v.known.1.3.given, c.next_turn.ensures.gives_a_turn.given, v.piece)) whole t.lists longer in
+    let gives = turn_given contents stream taken t.line t.content given c.loop-lister.lister (i.state c.loop-lister.inputs).rest old (o.state c.loop-lister.out).written now here (omega (arith, v.known.1.3.given, c.next_turn.ensures.gives_a_turn.given, v.piece)) whole t.lists longer in
     let close = err_weaker c.put_end.result (λ r w. stays_near (event_of r) stream (record before { inputs = i.state c.args.inputs.now; out = o.state c.args.out.now })
     (record after { inputs = i.state c.next_turn.new.inputs; out = o.state c.put_end.new.out })
     (unwritten_near contents stream (i.state c.next_turn.new.inputs).rest old now _ given (event_of r) gives near (why_weaker w))) c.put_end.ensures.refused in
@@ -322,7 +326,7 @@ pub loop-lister-preserved : goal.loop-lister-preserved
 loop-lister-preserved g c =
     let i = g.I.Inputs in
     let o = g.O.Sink in
-    let contents = (i.state c.args.inputs.now).contents in
+    let contents = (i.state c.next_turn.new.inputs).contents in
     let old = (o.state c.args.out.now).written in
     let stream = c.args.stream_name.now in
     let v = c.loop-lister.invariant in
@@ -330,7 +334,7 @@ loop-lister-preserved g c =
     let t = v.known.1.1 in
     let n = c.in_ok-turn.turn.count in
     let piece = take n c.next_turn.new.buffer in
-    let sel = taken_more contents stream taken piece (i.state c.loop-lister.inputs).rest (i.state c.next_turn.new.inputs).rest v.known.1.0 c.in_ok-turn.ensures.reads.takes.taken in
+    let sel = taken_more (i.state c.loop-lister.inputs) (i.state c.next_turn.new.inputs) stream taken piece c.next_turn.ensures.gives_few.stays v.known.1.0 c.in_ok-turn.ensures.reads.takes.taken in
     let lists : ListsInTurns c.put_turn.new.lister (appended old t.line) (o.state c.put_turn.new.out).written (t.content ++ piece) = c.in_ok-put_turn.ensures.listed (appended old t.line) t.content t.lists in
     let listing = goes_on taken piece t.line t.content t.listing in
     let size : length (taken ++ piece) ≡ length taken + n = length-append taken piece ∙ ap (λ k. length taken + k) (length-take-le n c.next_turn.new.buffer c.in_ok-turn.ensures.reads.within_buffer) in
@@ -339,7 +343,7 @@ loop-lister-preserved g c =
       selected = c.in_ok-turn.ensures.reads.takes.selected;
       inputs = stays_on _ _ _ v.inputs c.next_turn.ensures.gives_few.stays;
       once = once_on _ _ _ v.once c.in_ok-turn.ensures.reads.takes.selects (c.in_ok-turn.ensures.reads.no_end_read c.if-turn.false);
-      written = omega (arith, v.written, c.put_turn.ensures.counts.faults);
+      written = c.in_ok-put_turn.ensures.no_fault ∙ v.written;
       left = omega (arith, v.left);
       piece = omega (arith, c.next_turn.ensures.length, v.piece);
       known = (
@@ -358,7 +362,7 @@ pub loop-lister-init : goal.loop-lister-init
 loop-lister-init g c =
     let i = g.I.Inputs in
     let o = g.O.Sink in
-    let contents = (i.state c.args.inputs.now).contents in
+    let contents = (i.state c.read_beginning.new.inputs).contents in
     let old = (o.state c.args.out.now).written in
     let stream = c.args.stream_name.now in
     let now = i.state c.read_beginning.new.inputs in
@@ -370,14 +374,15 @@ loop-lister-init g c =
     let bytes = c.deref.result.now in
     let content = take (length bytes - start) (drop start bytes) in
     let cut : content ≡ drop start taken = take_all (length bytes - start) (drop start bytes) (omega (arith, length-drop start bytes)) ∙ ap (drop start) c.deref.ensures.value in
-    let sel : RestIsWhole contents stream (preceded taken now.rest) = subst (λ r. RestIsWhole contents stream r) f.reads.takes.taken c.in_ok-open.ensures.opened.found in
+    let opened = i.state c.open.new.inputs in
+    let sel = rest_on opened.contents contents stream taken opened.rest now.rest c.read_beginning.ensures.gives_few.stays.map f.reads.takes.taken c.in_ok-open.ensures.opened.found in
     let listing : (left : List ℕ) → stream_listing (taken ++ left) ≡ Ok (line ++ listing_of (content ++ left)) = λ left.
     f.begins left (λ l. let never : false ≡ true = sym c.if-beginning.false ∙ l in absurd cc)
     ∙ ap (λ (l : List ℕ). Ok (l ++ listing_of (drop start taken ++ left))) (sym c.deref-line.ensures.value) ∙ ap (λ (s : List ℕ). Ok (line ++ listing_of (s ++ left))) (sym cut) in
     record {
       selected = f.reads.takes.selected;
       inputs = stays_on _ _ _ c.open.ensures.asks.stays c.read_beginning.ensures.gives_few.stays;
-      written = c.put_beginning.ensures.counts.faults;
+      written = c.in_ok-put_beginning.ensures.no_fault;
       once = once_on _ _ _ c.open.ensures.asks.once c.read_beginning.ensures.gives_few.selects (f.no_end_read c.if-beginning.false);
       left = omega arith;
       piece = refl;
@@ -395,3 +400,33 @@ loop-lister-init g c =
         ),
       );
     }
+
+-- ---- the output fails last
+
+pub returns-in_err-open-clause-failed_last : goal.returns-in_err-open-clause-failed_last
+returns-in_err-open-clause-failed_last g c = rw (handed_on c.from_residual.result c.in_err-open.field-0.0 c.from_residual.ensures) (inr (inr refl))
+
+pub returns-in_err-beginning-clause-failed_last : goal.returns-in_err-beginning-clause-failed_last
+returns-in_err-beginning-clause-failed_last g c = rw (handed_on c.from_residual-in_err-beginning.result c.in_err-beginning.field-0.0 c.from_residual-in_err-beginning.ensures) (inr (inr refl))
+
+pub returns-in_err-put_beginning-clause-failed_last : goal.returns-in_err-put_beginning-clause-failed_last
+returns-in_err-put_beginning-clause-failed_last g c = rw (handed_on c.from_residual-in_err-put_beginning.result c.in_err-put_beginning.field-0.0 c.from_residual-in_err-put_beginning.ensures)
+    (elim c.in_err-put_beginning.ensures.refused [ inl h ↦ inl h | inr h ↦ inr (inl h.0) ])
+
+pub returns-then-beginning-clause-failed_last : goal.returns-then-beginning-clause-failed_last
+returns-then-beginning-clause-failed_last g c =
+    let o = g.O.Sink in
+    fails_last (o.state c.args.out.now) (o.state c.args.out.now) (o.state c.put_short.new.out) c.put_short.result c.put_short.ensures.refused c.put_short.ensures.no_fault
+
+pub returns-in_err-turn-clause-failed_last : goal.returns-in_err-turn-clause-failed_last
+returns-in_err-turn-clause-failed_last g c = rw (handed_on c.from_residual-in_err-turn.result c.in_err-turn.field-0.0 c.from_residual-in_err-turn.ensures) (inr (inr c.loop-lister.invariant.written))
+
+pub returns-in_err-put_turn-clause-failed_last : goal.returns-in_err-put_turn-clause-failed_last
+returns-in_err-put_turn-clause-failed_last g c = rw (handed_on c.from_residual-in_err-put_turn.result c.in_err-put_turn.field-0.0 c.from_residual-in_err-put_turn.ensures)
+    (let o = g.O.Sink in unlisted_last (o.state c.args.out.now) (o.state c.loop-lister.out) (o.state c.put_turn.new.out) (event_of c.in_err-put_turn.field-0.0) c.in_err-put_turn.ensures.refused)
+
+pub returns-then-turn-clause-failed_last : goal.returns-then-turn-clause-failed_last
+returns-then-turn-clause-failed_last g c =
+    let o = g.O.Sink in
+    fails_last (o.state c.args.out.now) (o.state c.put_turn.new.out) (o.state c.put_end.new.out) c.put_end.result c.put_end.ensures.refused
+    (on_ok_weaker c.put_end.result (λ same. same ∙ c.in_ok-put_turn.ensures.no_fault ∙ c.loop-lister.invariant.written) c.put_end.ensures.no_fault)

@@ -13,11 +13,11 @@ invariant-loop-lister g l =
     record {
       selected : (i.state l.inputs).selected ≡ true;
       inputs : InputsStay (i.state l.fn.inputs) (i.state l.inputs);
-      written : (o.state l.fn.out).faults ≤ (o.state l.out).faults;
+      written : (o.state l.out).faults ≡ (o.state l.fn.out).faults;
       once : AsksOnce (i.state l.fn.inputs) (i.state l.inputs);
       left : l.left ≤ stream_limit;
       piece : length l.piece ≡ turn_size;
-      known : (taken : List ℕ) × (RestIsWhole (i.state l.fn.inputs).contents l.stream_name (preceded taken (i.state l.inputs).rest) × ListsStream l.lister (o.state l.fn.out).written (o.state l.out).written taken × (length taken + l.left ≡ stream_limit) × IsAt l.stream_name taken (i.state l.inputs));
+      known : (taken : List ℕ) × (RestIsWhole (i.state l.inputs).contents l.stream_name (preceded taken (i.state l.inputs).rest) × ListsStream l.lister (o.state l.fn.out).written (o.state l.out).written taken × (length taken + l.left ≡ stream_limit) × IsAt l.stream_name taken (i.state l.inputs));
     }
 
 abbrev pub decreases-loop-lister : goal.decreases-loop-lister

@@ -23,3 +23,8 @@ returns-clause-prefix g c =
     let put = from_ok c.write_all.result (sym c.is_err.ensures.value ∙ c.if-is_err.false) c.write_all.ensures.appends in
     err_weaker c.put_turn.result (λ r p rest fits. line_prefix old (g.O.Sink.state c.put_turn.new.out).written c.args.line.now _
     (p (appended old c.args.line.now) [] rest (begins_after c.args.lister.now old mid c.args.line.now c.requires.nothing_listed c.requires.clear put) fits)) c.put_turn.ensures.prefix
+
+pub returns-clause-no_fault : goal.returns-clause-no_fault
+returns-clause-no_fault g c =
+    let put = from_ok c.write_all.result (sym c.is_err.ensures.value ∙ c.if-is_err.false) c.write_all.ensures.no_fault in
+    on_ok_weaker c.put_turn.result (λ same. same ∙ put) c.put_turn.ensures.no_fault

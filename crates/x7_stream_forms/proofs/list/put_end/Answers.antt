@@ -27,3 +27,6 @@ returns-clause-extends g c = longer_prefix (g.O.Sink.state c.args.out.now).writt
 
 pub returns-then-is_err-2-clause-extends : goal.returns-then-is_err-2-clause-extends
 returns-then-is_err-2-clause-extends g c = longer_prefix (g.O.Sink.state c.args.out.now).written (g.O.Sink.state c.write_all.new.sink).written _ c.write_all.ensures.prefix
+
+pub returns-clause-no_fault : goal.returns-clause-no_fault
+returns-clause-no_fault g c = from_ok c.write_all.result (sym c.is_err-2.ensures.value ∙ c.if-is_err-2.false) c.write_all.ensures.no_fault

@@ -21,3 +21,6 @@ returns-then-is_err-3-clause-prefix g c =
     let new = g.O.Sink.state c.write_pieces.new.sink in
     let put : PutsPrefix old.written (c.args.line.now ++ (c.text.result.now ++ [])) new.written = c.write_pieces.ensures.prefix in
     subst (λ (t : List ℕ). PutsPrefix old.written (c.args.line.now ++ t) new.written) (append-nil c.text.result.now ∙ text) put
+
+pub returns-clause-no_fault : goal.returns-clause-no_fault
+returns-clause-no_fault g c = from_ok c.write_pieces.result (sym c.is_err-3.ensures.value ∙ c.if-is_err-3.false) c.write_pieces.ensures.no_fault

@@ -28,7 +28,7 @@ pub returns-in_err-plan : goal.returns-in_err-plan
 returns-in_err-plan g c = rw (handed_on c.from_residual-in_err-plan.result c.in_err-plan.field-0.0 c.from_residual-in_err-plan.ensures) (let i = g.I.Inputs in
     record {
       caused = plan_refused c.args.part_name.now c.args.frames_name.now (i.state c.args.inputs.now) (i.state c.read_part.new.inputs) (i.state c.read_plan.new.inputs) (PlannedFull c.args.frames_name.now) (λ x. refl) c.in_ok-part.part (event_of c.in_err-plan.field-0.0)
-          c.read_part.ensures.asks.stays c.in_ok-part.ensures.caused (λ text h. h) c.in_err-plan.ensures.caused;
+          c.read_part.ensures.asks.stays c.read_plan.ensures.inputs c.in_ok-part.ensures.caused (λ text h. h) c.in_err-plan.ensures.caused;
       stops = among_stops (PlanningFull c.args.part_name.now c.args.frames_name.now) (g.I.Inputs.state c.args.inputs.now) (g.I.Inputs.state c.read_plan.new.inputs) (event_of c.in_err-plan.field-0.0)
           (stops_after (limited part_limit c.args.part_name.now) (limited text_limit c.args.frames_name.now ∷ []) (g.I.Inputs.state c.args.inputs.now) (g.I.Inputs.state c.read_part.new.inputs) (g.I.Inputs.state c.read_plan.new.inputs)
           (event_of c.in_err-plan.field-0.0) c.read_part.ensures.asks.once c.in_err-plan.ensures.stops);
@@ -42,7 +42,7 @@ returns g c =
     let t = c.in_ok-plan.ensures.caused in
     record {
       caused = planned_end c.args.part_name.now c.args.frames_name.now (i.state c.args.inputs.now) (i.state c.read_part.new.inputs) (i.state c.read_plan.new.inputs) (PlannedFull c.args.frames_name.now) (λ x. refl) c.in_ok-part.part t.0 (result_by full_answer c.new.result)
-          c.read_part.ensures.asks.stays c.in_ok-part.ensures.caused t.1 (full_ended c.args.frames_name.now c.in_ok-part.part t.0 c.in_ok-plan.plan c.new.result t.2 c.new.ensures.part c.new.ensures.plan c.new.ensures.refused);
+          c.read_part.ensures.asks.stays c.read_plan.ensures.inputs c.in_ok-part.ensures.caused t.1 (full_ended c.args.frames_name.now c.in_ok-part.part t.0 c.in_ok-plan.plan c.new.result t.2 c.new.ensures.part c.new.ensures.plan c.new.ensures.refused);
       stops = want_only full_answer (PlanningFull c.args.part_name.now c.args.frames_name.now) (g.I.Inputs.state c.args.inputs.now) (g.I.Inputs.state c.read_plan.new.inputs) c.new.result c.new.ensures.refused;
       asks = both_asked (g.I.Inputs.state c.args.inputs.now) (g.I.Inputs.state c.read_part.new.inputs) (g.I.Inputs.state c.read_plan.new.inputs) c.read_part.ensures.asks.once c.read_plan.ensures.asks;
       stays = stays_on _ _ _ c.read_part.ensures.asks.stays c.read_plan.ensures.inputs;

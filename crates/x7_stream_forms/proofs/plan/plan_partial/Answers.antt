@@ -28,7 +28,7 @@ pub returns-in_err-plan : goal.returns-in_err-plan
 returns-in_err-plan g c = rw (handed_on c.from_residual-in_err-plan.result c.in_err-plan.field-0.0 c.from_residual-in_err-plan.ensures) (let i = g.I.Inputs in
     record {
       caused = plan_refused c.args.part_name.now c.args.frames_name.now (i.state c.args.inputs.now) (i.state c.read_part.new.inputs) (i.state c.read_plan.new.inputs) (PlannedPartial c.args.frames_name.now) (λ x. refl) c.in_ok-part.part (event_of c.in_err-plan.field-0.0)
-          c.read_part.ensures.asks.stays c.in_ok-part.ensures.caused (λ text h. inl h) c.in_err-plan.ensures.caused;
+          c.read_part.ensures.asks.stays c.read_plan.ensures.inputs c.in_ok-part.ensures.caused (λ text h. inl h) c.in_err-plan.ensures.caused;
       stops = among_stops (PlanningPartial c.args.part_name.now c.args.frames_name.now) (g.I.Inputs.state c.args.inputs.now) (g.I.Inputs.state c.read_plan.new.inputs) (event_of c.in_err-plan.field-0.0)
           (stops_after (limited part_limit c.args.part_name.now) (limited text_limit c.args.frames_name.now ∷ []) (g.I.Inputs.state c.args.inputs.now) (g.I.Inputs.state c.read_part.new.inputs) (g.I.Inputs.state c.read_plan.new.inputs)
           (event_of c.in_err-plan.field-0.0) c.read_part.ensures.asks.once c.in_err-plan.ensures.stops);
@@ -42,7 +42,7 @@ returns g c =
     let t = c.in_ok-plan.ensures.caused in
     record {
       caused = planned_end c.args.part_name.now c.args.frames_name.now (i.state c.args.inputs.now) (i.state c.read_part.new.inputs) (i.state c.read_plan.new.inputs) (PlannedPartial c.args.frames_name.now) (λ x. refl) c.in_ok-part.part t.0 (result_by bytes_answer c.partial_text.result)
-          c.read_part.ensures.asks.stays c.in_ok-part.ensures.caused t.1 (partial_ended c.args.frames_name.now c.in_ok-part.part t.0 c.in_ok-plan.plan c.partial_text.result t.2 c.partial_text.ensures.text c.partial_text.ensures.refused);
+          c.read_part.ensures.asks.stays c.read_plan.ensures.inputs c.in_ok-part.ensures.caused t.1 (partial_ended c.args.frames_name.now c.in_ok-part.part t.0 c.in_ok-plan.plan c.partial_text.result t.2 c.partial_text.ensures.text c.partial_text.ensures.refused);
       stops = result_stops bytes_answer (PlanningPartial c.args.part_name.now c.args.frames_name.now) (g.I.Inputs.state c.args.inputs.now) (g.I.Inputs.state c.read_plan.new.inputs) c.partial_text.result
           (err_weaker c.partial_text.result (λ r a. second_stops (PlanningPartial c.args.part_name.now c.args.frames_name.now) (limited part_limit c.args.part_name.now) (limited text_limit c.args.frames_name.now) [] (g.I.Inputs.state c.args.inputs.now)
           (g.I.Inputs.state c.read_plan.new.inputs) (event_of r) refl c.in_ok-plan.ensures.last_asked

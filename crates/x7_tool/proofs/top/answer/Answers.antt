@@ -5,7 +5,7 @@ use Rattle.x7_stream_forms.specs.FullText.{full_answer}
 use Rattle.x7_outcome.specs.Outside.{outside, sources}
 use Rattle.x7_outcome.specs.Play.{play_answer}
 use Rattle.x7_outcome.specs.Ready.{bytes_answer, mcs_answer, text_answer}
-use Rattle.x7_tool.proofs.AnswerLemmas.{flash_answered, ready_answered, silent_answered, uses_as}
+use Rattle.x7_tool.proofs.AnswerLemmas.{unused_output, flash_answered, ready_answered, silent_answered, uses_as}
 use Rattle.x7_tool.proofs.FlashLemmas.{uses_read, uses_same}
 use Rattle.x7_tool.proofs.StopLemmas.{boot_judges}
 use Rattle.x7_tool.proofs.top.answer.Goals as goal
@@ -15,7 +15,7 @@ returns-in-List-clause-answered g c = λ e f.
     let flash = g.F.Flash.state c.args.flash.now in
     let old = outside (g.I.Inputs.state c.args.inputs.now) flash (g.O.Sink.state c.args.out.now) e in
     let new = outside (g.I.Inputs.state c.list.new.inputs) flash (g.O.Sink.state c.list.new.out) f in
-    silent_answered _ (Listing c.in-List.stream.now) old new _ _ (ap asked_by c.in-List.is) c.unstopped.ensures (c.list.ensures old new)
+    silent_answered _ (Listing c.in-List.stream.now) old new _ _ (ap asked_by c.in-List.is) c.unstopped.ensures (c.list.ensures.answered old new)
 
 pub returns-in-List-clause-flash : goal.returns-in-List-clause-flash
 returns-in-List-clause-flash g c = uses_same _ _ (g.F.Flash.state c.args.flash.now) _
@@ -24,7 +24,7 @@ pub returns-in-Asm-clause-answered : goal.returns-in-Asm-clause-answered
 returns-in-Asm-clause-answered g c = λ e f.
     let flash = g.F.Flash.state c.args.flash.now in
     ready_answered _ (Assembling c.in-Asm.text.now) (outside (g.I.Inputs.state c.args.inputs.now) flash (g.O.Sink.state c.args.out.now) e) (outside (g.I.Inputs.state c.asm.new.inputs) flash (g.O.Sink.state c.put_whole.new.out) f) (result_by bytes_answer c.asm.result) _
-    (ap asked_by c.in-Asm.is) refl refl c.asm.ensures c.put_whole.ensures
+    (ap asked_by c.in-Asm.is) refl refl c.asm.ensures c.put_whole.ensures.put
 
 pub returns-in-Asm-clause-flash : goal.returns-in-Asm-clause-flash
 returns-in-Asm-clause-flash g c = uses_same _ _ (g.F.Flash.state c.args.flash.now) _
@@ -34,7 +34,7 @@ returns-in-Play-clause-answered g c = λ e f.
     let flash = g.F.Flash.state c.args.flash.now in
     ready_answered _ (Playing c.in-Play.part.now (map string_bytes c.in-Play.streams.now)) (outside (g.I.Inputs.state c.args.inputs.now) flash (g.O.Sink.state c.args.out.now) e)
     (outside (g.I.Inputs.state c.play.new.inputs) flash (g.O.Sink.state c.put_whole-in-Play.new.out) f) (result_by play_answer c.play.result) _
-    (ap asked_by c.in-Play.is) refl refl c.play.ensures c.put_whole-in-Play.ensures
+    (ap asked_by c.in-Play.is) refl refl c.play.ensures c.put_whole-in-Play.ensures.put
 
 pub returns-in-Play-clause-flash : goal.returns-in-Play-clause-flash
 returns-in-Play-clause-flash g c = uses_same _ _ (g.F.Flash.state c.args.flash.now) _
@@ -44,7 +44,7 @@ returns-in-Debug-clause-answered g c = λ e f.
     let flash = g.F.Flash.state c.args.flash.now in
     ready_answered _ (Debugging c.in-Debug.part.now c.in-Debug.stream.now c.in-Debug.script.now) (outside (g.I.Inputs.state c.args.inputs.now) flash (g.O.Sink.state c.args.out.now) e)
     (outside (g.I.Inputs.state c.debug.new.inputs) flash (g.O.Sink.state c.put_whole-in-Debug.new.out) f) (result_by text_answer c.debug.result) _
-    (ap asked_by c.in-Debug.is) refl refl c.debug.ensures c.put_whole-in-Debug.ensures
+    (ap asked_by c.in-Debug.is) refl refl c.debug.ensures c.put_whole-in-Debug.ensures.put
 
 pub returns-in-Debug-clause-flash : goal.returns-in-Debug-clause-flash
 returns-in-Debug-clause-flash g c = uses_same _ _ (g.F.Flash.state c.args.flash.now) _
@@ -53,7 +53,7 @@ pub returns-in-Svf-clause-answered : goal.returns-in-Svf-clause-answered
 returns-in-Svf-clause-answered g c = λ e f.
     let flash = g.F.Flash.state c.args.flash.now in
     ready_answered _ (PlayingSvf c.in-Svf.part.now c.in-Svf.text.now) (outside (g.I.Inputs.state c.args.inputs.now) flash (g.O.Sink.state c.args.out.now) e) (outside (g.I.Inputs.state c.svf.new.inputs) flash (g.O.Sink.state c.put_whole-in-Svf.new.out) f) (result_by play_answer c.svf.result) _
-    (ap asked_by c.in-Svf.is) refl refl c.svf.ensures c.put_whole-in-Svf.ensures
+    (ap asked_by c.in-Svf.is) refl refl c.svf.ensures c.put_whole-in-Svf.ensures.put
 
 pub returns-in-Svf-clause-flash : goal.returns-in-Svf-clause-flash
 returns-in-Svf-clause-flash g c = uses_same _ _ (g.F.Flash.state c.args.flash.now) _
@@ -63,7 +63,7 @@ returns-in-PlanFull-clause-answered g c = λ e f.
     let flash = g.F.Flash.state c.args.flash.now in
     ready_answered _ (PlanningFull c.in-PlanFull.part.now c.in-PlanFull.frames.now) (outside (g.I.Inputs.state c.args.inputs.now) flash (g.O.Sink.state c.args.out.now) e)
     (outside (g.I.Inputs.state c.plan_full.new.inputs) flash (g.O.Sink.state c.put_whole-in-PlanFull.new.out) f) (result_by full_answer c.plan_full.result) _
-    (ap asked_by c.in-PlanFull.is) refl refl c.plan_full.ensures c.put_whole-in-PlanFull.ensures
+    (ap asked_by c.in-PlanFull.is) refl refl c.plan_full.ensures c.put_whole-in-PlanFull.ensures.put
 
 pub returns-in-PlanFull-clause-flash : goal.returns-in-PlanFull-clause-flash
 returns-in-PlanFull-clause-flash g c = uses_same _ _ (g.F.Flash.state c.args.flash.now) _
@@ -73,7 +73,7 @@ returns-in-PlanPartial-clause-answered g c = λ e f.
     let flash = g.F.Flash.state c.args.flash.now in
     ready_answered _ (PlanningPartial c.in-PlanPartial.part.now c.in-PlanPartial.frames.now) (outside (g.I.Inputs.state c.args.inputs.now) flash (g.O.Sink.state c.args.out.now) e)
     (outside (g.I.Inputs.state c.plan_partial.new.inputs) flash (g.O.Sink.state c.put_whole-in-PlanPartial.new.out) f) (result_by bytes_answer c.plan_partial.result) _
-    (ap asked_by c.in-PlanPartial.is) refl refl c.plan_partial.ensures c.put_whole-in-PlanPartial.ensures
+    (ap asked_by c.in-PlanPartial.is) refl refl c.plan_partial.ensures c.put_whole-in-PlanPartial.ensures.put
 
 pub returns-in-PlanPartial-clause-flash : goal.returns-in-PlanPartial-clause-flash
 returns-in-PlanPartial-clause-flash g c = uses_same _ _ (g.F.Flash.state c.args.flash.now) _
@@ -83,7 +83,7 @@ returns-in-PlanRead-clause-answered g c = λ e f.
     let flash = g.F.Flash.state c.args.flash.now in
     ready_answered _ (PlanningRead c.in-PlanRead.part.now c.in-PlanRead.far c.in-PlanRead.count) (outside (g.I.Inputs.state c.args.inputs.now) flash (g.O.Sink.state c.args.out.now) e)
     (outside (g.I.Inputs.state c.plan_read.new.inputs) flash (g.O.Sink.state c.put_whole-in-PlanRead.new.out) f) (result_by bytes_answer c.plan_read.result) _
-    (ap asked_by c.in-PlanRead.is) refl refl c.plan_read.ensures c.put_whole-in-PlanRead.ensures
+    (ap asked_by c.in-PlanRead.is) refl refl c.plan_read.ensures c.put_whole-in-PlanRead.ensures.put
 
 pub returns-in-PlanRead-clause-flash : goal.returns-in-PlanRead-clause-flash
 returns-in-PlanRead-clause-flash g c = uses_same _ _ (g.F.Flash.state c.args.flash.now) _
@@ -92,7 +92,7 @@ pub returns-in-Gen-clause-answered : goal.returns-in-Gen-clause-answered
 returns-in-Gen-clause-answered g c = λ e f.
     let flash = g.F.Flash.state c.args.flash.now in
     ready_answered _ (Generating c.in-Gen.part.now c.in-Gen.seed) (outside (g.I.Inputs.state c.args.inputs.now) flash (g.O.Sink.state c.args.out.now) e) (outside (g.I.Inputs.state c.generate.new.inputs) flash (g.O.Sink.state c.put_whole-in-Gen.new.out) f) (result_by bytes_answer c.generate.result) _
-    (ap asked_by c.in-Gen.is) refl refl c.generate.ensures c.put_whole-in-Gen.ensures
+    (ap asked_by c.in-Gen.is) refl refl c.generate.ensures c.put_whole-in-Gen.ensures.put
 
 pub returns-in-Gen-clause-flash : goal.returns-in-Gen-clause-flash
 returns-in-Gen-clause-flash g c = uses_same _ _ (g.F.Flash.state c.args.flash.now) _
@@ -101,7 +101,7 @@ pub returns-in-Image-clause-answered : goal.returns-in-Image-clause-answered
 returns-in-Image-clause-answered g c = λ e f.
     let flash = g.F.Flash.state c.args.flash.now in
     ready_answered _ (Imaging c.in-Image.golden.now c.in-Image.update.now) (outside (g.I.Inputs.state c.args.inputs.now) flash (g.O.Sink.state c.args.out.now) e) (outside (g.I.Inputs.state c.image.new.inputs) flash (g.O.Sink.state c.put_whole-in-Image.new.out) f) (result_by bytes_answer c.image.result) _
-    (ap asked_by c.in-Image.is) refl refl c.image.ensures c.put_whole-in-Image.ensures
+    (ap asked_by c.in-Image.is) refl refl c.image.ensures c.put_whole-in-Image.ensures.put
 
 pub returns-in-Image-clause-flash : goal.returns-in-Image-clause-flash
 returns-in-Image-clause-flash g c = uses_same _ _ (g.F.Flash.state c.args.flash.now) _
@@ -111,7 +111,7 @@ returns-in-ImageFor-clause-answered g c = λ e f.
     let flash = g.F.Flash.state c.args.flash.now in
     ready_answered _ (ImagingFor c.in-ImageFor.part.now c.in-ImageFor.golden.now c.in-ImageFor.update.now) (outside (g.I.Inputs.state c.args.inputs.now) flash (g.O.Sink.state c.args.out.now) e)
     (outside (g.I.Inputs.state c.image_for.new.inputs) flash (g.O.Sink.state c.put_whole-in-ImageFor.new.out) f) (result_by bytes_answer c.image_for.result) _
-    (ap asked_by c.in-ImageFor.is) refl refl c.image_for.ensures c.put_whole-in-ImageFor.ensures
+    (ap asked_by c.in-ImageFor.is) refl refl c.image_for.ensures c.put_whole-in-ImageFor.ensures.put
 
 pub returns-in-ImageFor-clause-flash : goal.returns-in-ImageFor-clause-flash
 returns-in-ImageFor-clause-flash g c = uses_same _ _ (g.F.Flash.state c.args.flash.now) _
@@ -121,12 +121,12 @@ returns-in-Boot-clause-answered g c = λ e f.
     let old = outside (g.I.Inputs.state c.args.inputs.now) (g.F.Flash.state c.args.flash.now) (g.O.Sink.state c.args.out.now) e in
     let new = outside (g.I.Inputs.state c.boot.new.inputs) (g.F.Flash.state c.boot.new.flash) (g.O.Sink.state c.put_whole-in-Boot.new.out) f in
     flash_answered _ (Booting c.in-Boot.part.now c.in-Boot.name.now) old new (result_by play_answer c.boot.result) _ (ap asked_by c.in-Boot.is) refl
-    (boot_judges c.in-Boot.part.now c.in-Boot.name.now (sources old.inputs old.flash) (sources new.inputs new.flash) (result_by play_answer c.boot.result) old.out new.out _ c.boot.ensures.ready.judges c.put_whole-in-Boot.ensures)
-    c.boot.ensures.ready (c.boot.ensures.ready.caused old new) c.put_whole-in-Boot.ensures
+    (boot_judges c.in-Boot.part.now c.in-Boot.name.now (sources old.inputs old.flash) (sources new.inputs new.flash) (result_by play_answer c.boot.result) old.out new.out _ c.boot.ensures.ready.judges c.put_whole-in-Boot.ensures.put)
+    c.boot.ensures.ready (c.boot.ensures.ready.caused old new) c.put_whole-in-Boot.ensures.put
 
 pub returns-in-Boot-clause-flash : goal.returns-in-Boot-clause-flash
 returns-in-Boot-clause-flash g c =
-    uses_read _ (Booting c.in-Boot.part.now c.in-Boot.name.now) c.in-Boot.name.now _ _ _ _ _ (ap (λ f. Some (asked_by f)) c.in-Boot.is) refl c.boot.ensures.reads c.boot.ensures.unwritten
+    uses_read _ (Booting c.in-Boot.part.now c.in-Boot.name.now) c.in-Boot.name.now _ _ _ _ _ (ap (λ f. Some (asked_by f)) c.in-Boot.is) refl c.boot.ensures.reads c.boot.ensures.unwritten c.boot.ensures.left
 
 pub returns-in-Update-clause-answered : goal.returns-in-Update-clause-answered
 returns-in-Update-clause-answered g c = λ e f.
@@ -142,7 +142,7 @@ pub returns-in-Mcs-clause-answered : goal.returns-in-Mcs-clause-answered
 returns-in-Mcs-clause-answered g c = λ e f.
     let flash = g.F.Flash.state c.args.flash.now in
     ready_answered _ (ToMcs c.in-Mcs.image.now) (outside (g.I.Inputs.state c.args.inputs.now) flash (g.O.Sink.state c.args.out.now) e) (outside (g.I.Inputs.state c.mcs.new.inputs) flash (g.O.Sink.state c.put_whole-in-Mcs.new.out) f) (result_by mcs_answer c.mcs.result) _
-    (ap asked_by c.in-Mcs.is) refl refl c.mcs.ensures c.put_whole-in-Mcs.ensures
+    (ap asked_by c.in-Mcs.is) refl refl c.mcs.ensures c.put_whole-in-Mcs.ensures.put
 
 pub returns-in-Mcs-clause-flash : goal.returns-in-Mcs-clause-flash
 returns-in-Mcs-clause-flash g c = uses_same _ _ (g.F.Flash.state c.args.flash.now) _
@@ -151,7 +151,15 @@ pub returns-in-Unmcs-clause-answered : goal.returns-in-Unmcs-clause-answered
 returns-in-Unmcs-clause-answered g c = λ e f.
     let flash = g.F.Flash.state c.args.flash.now in
     ready_answered _ (FromMcs c.in-Unmcs.text.now) (outside (g.I.Inputs.state c.args.inputs.now) flash (g.O.Sink.state c.args.out.now) e) (outside (g.I.Inputs.state c.unmcs.new.inputs) flash (g.O.Sink.state c.put_whole-in-Unmcs.new.out) f) (result_by bytes_answer c.unmcs.result) _
-    (ap asked_by c.in-Unmcs.is) refl refl c.unmcs.ensures c.put_whole-in-Unmcs.ensures
+    (ap asked_by c.in-Unmcs.is) refl refl c.unmcs.ensures c.put_whole-in-Unmcs.ensures.put
 
 pub returns-in-Unmcs-clause-flash : goal.returns-in-Unmcs-clause-flash
 returns-in-Unmcs-clause-flash g c = uses_same _ _ (g.F.Flash.state c.args.flash.now) _
+
+-- ---- the output fails last
+
+pub returns-in-List-clause-failed_last : goal.returns-in-List-clause-failed_last
+returns-in-List-clause-failed_last g c = rw c.unstopped.ensures c.list.ensures.failed_last
+
+pub returns-in-Update-clause-failed_last : goal.returns-in-Update-clause-failed_last
+returns-in-Update-clause-failed_last g c = unused_output (g.O.Sink.state c.args.out.now) _

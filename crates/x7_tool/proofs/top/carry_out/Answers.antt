@@ -1,9 +1,9 @@
-use Rattle.std.proofs.Common.{◌≡◌, Some, ap, refl, subst, sym, ◌∙◌}
+use Rattle.std.proofs.Common.{◌≡◌, Some, ap, inr, refl, subst, sym, ◌∙◌}
 use Rattle.x7_words.specs.Sink.{PutsOrFails}
 use Rattle.x7_forms.specs.Event.{Event, event_line, event_of, status_of_event}
 use Rattle.x7_forms.specs.Form.{asked_by, flash_use, form_asked, form_of_strings}
 use Rattle.x7_outcome.specs.Outside.{outside}
-use Rattle.x7_tool.proofs.AnswerLemmas.{ran_done, ran_none, ran_refused, uses_as}
+use Rattle.x7_tool.proofs.AnswerLemmas.{ran_done, ran_none, ran_refused, refused_last, uses_as}
 use Rattle.x7_tool.proofs.FlashLemmas.{kept_same, uses_same}
 use Rattle.x7_tool.proofs.RunLemmas.{runs}
 use Rattle.x7_tool.proofs.top.carry_out.Goals as goal
@@ -48,3 +48,14 @@ returns-in-Err-clause-ran g c =
 
 pub returns-in-Err-clause-flash : goal.returns-in-Err-clause-flash
 returns-in-Err-clause-flash g c = uses_as _ (asked_by c.in-Some.form) _ _ _ _ _ (sym c.words_of.ensures ∙ ap form_asked c.in-Some.is) c.answer.ensures.flash
+
+pub returns-in-None-clause-failed_last : goal.returns-in-None-clause-failed_last
+returns-in-None-clause-failed_last g c = inr (inr refl)
+
+pub returns-in-Ok-clause-failed_last : goal.returns-in-Ok-clause-failed_last
+returns-in-Ok-clause-failed_last g c = let last = c.answer.ensures.failed_last in inr (inr (rw c.in-Ok.is at last))
+
+pub returns-in-Err-clause-failed_last : goal.returns-in-Err-clause-failed_last
+returns-in-Err-clause-failed_last g c =
+    let last = c.answer.ensures.failed_last in
+    refused_last (g.O.Sink.state c.args.out.now) (g.O.Sink.state c.answer.new.out) (event_of c.in-Err.refusal) _ c.tell-in-Err.ensures.status (rw c.in-Err.is at last)

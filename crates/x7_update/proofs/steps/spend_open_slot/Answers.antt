@@ -1,4 +1,4 @@
-use Rattle.std.proofs.Common.{◌≡◌, ℕ, ◌<◌, inl, Option, length, option_map, refl, subst, arith}
+use Rattle.std.proofs.Common.{◌≡◌, ℕ, ◌<◌, inl, Option, length, option_map, refl, subst, arith, OnErr, OnOk, sym}
 use Rattle.x7_packets.specs.FlashSlot.{flash_slot_count}
 use Rattle.x7_update.specs.After.{SpendsOpenSlot, already, spends, with_switch_word}
 use Rattle.x7_update.specs.Layout.{IsOpen, spent_switch}
@@ -6,6 +6,10 @@ use Rattle.x7_update.specs.Slots.{IsTargetIn, OpenAmong, WithinSlots}
 use Rattle.x7_update.specs.Writing.{Becomes, SpendingSlot, ReplacingUpdate, StaysBytes}
 use Rattle.x7_update.proofs.CaseLemmas.{spending_replaces}
 use Rattle.x7_update.proofs.KnownLemmas.{becomes_of, becomes_same, known_at, known_map, moments_none, moments_weaker, on_ok_map, writes_none}
+use Rattle.x7_update.specs.UpdateCalls.{spending}
+use Rattle.x7_update.specs.Made.{Stops, write_failed}
+use Rattle.x7_words.specs.FlashHistory.{with_calls, history_of}
+use Rattle.x7_update.proofs.MadeLemmas.{calls_none}
 use Rattle.x7_update.proofs.steps.spend_open_slot.Goals as goal
 
 pub returns-in-None-clause-spent : goal.returns-in-None-clause-spent
@@ -66,3 +70,20 @@ spend_slot-requires-clause-opened g c =
     let opened = subst P c.in-Some.is finds.opens in
     opened.1)
     c.requires.finds
+
+-- ---- calls
+
+pub returns-in-None-clause-spent_calls : goal.returns-in-None-clause-spent_calls
+returns-in-None-clause-spent_calls g c =
+    let first = history_of (g.F.Flash.state c.args.flash.now) in
+    subst (λ o. first ≡ with_calls first (spending o)) (sym c.in-None.is) (calls_none first)
+
+pub returns-in-Some-clause-spent_calls : goal.returns-in-Some-clause-spent_calls
+returns-in-Some-clause-spent_calls g c =
+    let first = history_of (g.F.Flash.state c.args.flash.now) in
+    subst (λ o. OnOk c.spend_slot.result (history_of (g.F.Flash.state c.spend_slot.new.flash) ≡ with_calls first (spending o))) (sym c.in-Some.is) c.spend_slot.ensures.spent_calls
+
+pub returns-in-Some-clause-failed_calls : goal.returns-in-Some-clause-failed_calls
+returns-in-Some-clause-failed_calls g c =
+    let first = history_of (g.F.Flash.state c.args.flash.now) in
+    subst (λ o. OnErr c.spend_slot.result (Stops (spending o) first (history_of (g.F.Flash.state c.spend_slot.new.flash)) write_failed)) (sym c.in-Some.is) c.spend_slot.ensures.failed_calls

@@ -1,4 +1,4 @@
-use Rattle.std.proofs.Common.{◌≡◌, ◌+◌, ◌≤◌, ◌⊎◌, ⊎_elim, ℕ, List, Some, length, refl, rules, subst, sym, true, ◌∙◌, arith}
+use Rattle.std.proofs.Common.{◌≡◌, ◌+◌, ◌≤◌, ◌⊎◌, ⊎_elim, ℕ, List, Some, length, refl, rules, subst, sym, true, ◌∙◌, arith, inl, ◌<◌, ◌++◌, OnOk, IfErr, ap}
 use Rattle.x7_words.specs.Count.{HasRisen}
 use Rattle.x7_words.specs.Flash.{IfKnown, WriteFails}
 use Rattle.x7_words.specs.Word.{AreBytes}
@@ -15,6 +15,12 @@ use Rattle.x7_update.proofs.CaseLemmas.{found_left, opening_left, replaced_betwe
 use Rattle.x7_update.proofs.ExactLemmas.{if_only_memory, only_memory}
 use Rattle.x7_update.proofs.ReadyLemmas.{after_not_between, after_not_replacing, after_not_same, all_verified, verified, still_found}
 use Rattle.x7_update.proofs.KnownLemmas.{becomes_leaves, becomes_then, moments_none, moments_on, moments_weaker, on_ok, only_read, read_moments, known_at, known_map}
+use Rattle.x7_update.specs.UpdateCalls.{opening, replacing, verifying}
+use Rattle.x7_words.specs.FlashHistory.{FlashHistory, with_calls, history_of}
+use Rattle.x7_update.specs.Made.{IsRefused, Stops, write_failed}
+use Rattle.x7_update.proofs.WholeLemmas.{all_done, answer_leaves, refused_leaves, replace_stopped}
+use Rattle.x7_update.proofs.WholeLemmas as whole
+use Rattle.x7_words.proofs.ListLemmas.{all_from_places}
 use Rattle.x7_update.proofs.steps.update.Goals as goal
 
 -- ---- why an update is refused
@@ -318,3 +324,68 @@ returns-clause-opens g c =
     ⊎_elim (λ same. absurd (after_not_between stream all found l a (subst (IsBetweenSlots all) (sym same) (replaced_between all target (known all e) stream now fits r)))) back o)
     (moments_weaker mid then _ _ ReplacingUpdate Opens (λ all found e h l a. absurd (after_not_replacing stream all found l a h)) c.replace.ensures.writes.any_moment)
     (becomes_leaves mid then (UpdateReplaced target.place stream) c.in-Ok-replace.ensures.replaced) c.verify_and_open.ensures.opens)
+
+-- ---- calls
+
+pub returns-in_err-target-clause-refused_calls : goal.returns-in_err-target-clause-refused_calls
+returns-in_err-target-clause-refused_calls g c =
+    let refused : IsRefused c.args.stream.now (history_of (g.F.Flash.state c.args.flash.now)) (history_of (g.F.Flash.state c.find_target.new.flash)) c.in_err-target.field-0.0 = c.in_err-target.ensures.refused_calls c.args.stream.now in
+    search rules
+
+pub returns-in-Err-clause-refused_calls : goal.returns-in-Err-clause-refused_calls
+returns-in-Err-clause-refused_calls g c =
+    let first = history_of (g.F.Flash.state c.args.flash.now) in
+    let mid = history_of (g.F.Flash.state c.find_target.new.flash) in
+    let last = history_of (g.F.Flash.state c.replace.new.flash) in
+    let target = c.in_ok-target.target in
+    let size = ap (λ (h : FlashHistory). h.size) c.in_ok-target.ensures.read_calls.made in
+    let fits : target.place + length c.args.stream.now ≤ first.size = omega (arith, size, c.size.ensures.extent, c.in_ok-target.ensures.found_in.has.place.most, c.in_ok-target.ensures.found_in.update, c.if-stream-size.false) in
+    inl (replace_stopped c.find_target.new.buffer c.args.stream.now target first mid c.in_ok-target.ensures.read_calls c.in_ok-target.ensures.found_in fits last write_failed
+    (subst (λ n. Stops (replacing n c.args.stream.now target) mid last write_failed) size c.in-Err.ensures.failed_calls))
+
+pub returns-clause-updated_calls : goal.returns-clause-updated_calls
+returns-clause-updated_calls g c =
+    let first = history_of (g.F.Flash.state c.args.flash.now) in
+    let mid = history_of (g.F.Flash.state c.find_target.new.flash) in
+    let then = history_of (g.F.Flash.state c.replace.new.flash) in
+    let last = history_of (g.F.Flash.state c.verify_and_open.new.flash) in
+    let target = c.in_ok-target.target in
+    let stream = c.args.stream.now in
+    let size = ap (λ (h : FlashHistory). h.size) c.in_ok-target.ensures.read_calls.made in
+    let replaced : then ≡ with_calls mid (replacing first.size stream target) = subst (λ n. then ≡ with_calls mid (replacing n stream target)) size c.in-Ok-replace.ensures.replaced_calls in
+    let size_then = ap (λ (h : FlashHistory). h.size) replaced ∙ size in
+    let fits : target.place + length stream ≤ first.size = omega (arith, size, c.size.ensures.extent, c.in_ok-target.ensures.found_in.has.place.most, c.in_ok-target.ensures.found_in.update, c.if-stream-size.false) in
+    all_done c.find_target.new.buffer stream target first mid c.in_ok-target.ensures.read_calls c.in_ok-target.ensures.found_in fits then replaced last c.verify_and_open.result
+    (subst (λ n. OnOk c.verify_and_open.result (last ≡ with_calls then (verifying n stream target ++ opening target.slots.next))) size_then c.verify_and_open.ensures.opened_calls)
+
+pub returns-clause-refused_calls : goal.returns-clause-refused_calls
+returns-clause-refused_calls g c =
+    let first = history_of (g.F.Flash.state c.args.flash.now) in
+    let mid = history_of (g.F.Flash.state c.find_target.new.flash) in
+    let then = history_of (g.F.Flash.state c.replace.new.flash) in
+    let last = history_of (g.F.Flash.state c.verify_and_open.new.flash) in
+    let target = c.in_ok-target.target in
+    let stream = c.args.stream.now in
+    let size = ap (λ (h : FlashHistory). h.size) c.in_ok-target.ensures.read_calls.made in
+    let replaced : then ≡ with_calls mid (replacing first.size stream target) = subst (λ n. then ≡ with_calls mid (replacing n stream target)) size c.in-Ok-replace.ensures.replaced_calls in
+    let size_then = ap (λ (h : FlashHistory). h.size) replaced ∙ size in
+    let fits : target.place + length stream ≤ first.size = omega (arith, size, c.size.ensures.extent, c.in_ok-target.ensures.found_in.has.place.most, c.in_ok-target.ensures.found_in.update, c.if-stream-size.false) in
+    whole.end_refused c.find_target.new.buffer stream target first mid c.in_ok-target.ensures.read_calls c.in_ok-target.ensures.found_in fits then replaced last c.verify_and_open.result
+    (subst (λ n. IfErr c.verify_and_open.result (Stops (verifying n stream target ++ opening target.slots.next) then last)) size_then c.verify_and_open.ensures.fault_calls)
+
+-- ---- what may be left
+
+pub returns-in_err-target-clause-left : goal.returns-in_err-target-clause-left
+returns-in_err-target-clause-left g c =
+    answer_leaves c.args.stream.now (all_from_places (λ b. b < 256) c.args.stream.now (λ k h. omega (arith, c.type_inv.stream k))) (history_of (g.F.Flash.state c.args.flash.now)) (history_of (g.F.Flash.state c.find_target.new.flash))
+    c.from_residual.result (search rules) (returns-in_err-target-clause-refused_calls g c)
+
+pub returns-clause-left : goal.returns-clause-left
+returns-clause-left g c =
+    answer_leaves c.args.stream.now (all_from_places (λ b. b < 256) c.args.stream.now (λ k h. omega (arith, c.type_inv.stream k))) (history_of (g.F.Flash.state c.args.flash.now)) (history_of (g.F.Flash.state c.verify_and_open.new.flash))
+    c.verify_and_open.result (returns-clause-updated_calls g c) (returns-clause-refused_calls g c)
+
+pub returns-in-Err-clause-left : goal.returns-in-Err-clause-left
+returns-in-Err-clause-left g c =
+    refused_leaves c.args.stream.now (all_from_places (λ b. b < 256) c.args.stream.now (λ k h. omega (arith, c.type_inv.stream k))) (history_of (g.F.Flash.state c.args.flash.now)) (history_of (g.F.Flash.state c.replace.new.flash))
+    write_failed (returns-in-Err-clause-refused_calls g c)

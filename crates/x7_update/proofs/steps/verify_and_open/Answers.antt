@@ -1,4 +1,4 @@
-use Rattle.std.proofs.Common.{◌≡◌, ◌+◌, ◌*◌, ◌≤◌, ◌⊎◌, inl, inr, length, ap, option_map, refl, sym, ◌∙◌, arith}
+use Rattle.std.proofs.Common.{◌≡◌, ◌+◌, ◌*◌, ◌≤◌, ◌⊎◌, inl, inr, length, ap, option_map, refl, sym, ◌∙◌, arith, [], ◌∷◌, ◌++◌, rules}
 use Rattle.x7_packets.specs.FlashSlot.{flash_slot_size}
 use Rattle.x7_update.specs.After.{with_switch_word}
 use Rattle.x7_update.specs.Layout.{IsFree, open_switch, switch_size}
@@ -8,6 +8,11 @@ use Rattle.x7_update.proofs.VerifyLemmas.{fails_since, was_unknown}
 use Rattle.x7_update.proofs.CaseLemmas.{opened_is_open, opening_none}
 use Rattle.x7_update.proofs.ReadyLemmas.{was_ready}
 use Rattle.x7_update.proofs.KnownLemmas.{known_at, known_map, moments_read, moments_weaker, on_ok, only_read, read_moments}
+use Rattle.x7_words.specs.declared.flash_call.FlashCall.TheVariants.{Programmed, Read}
+use Rattle.x7_update.specs.UpdateCalls.{opening, verifying}
+use Rattle.x7_words.specs.FlashHistory.{history_of}
+use Rattle.x7_update.specs.Made.{Stops, write_failed}
+use Rattle.x7_update.proofs.MadeLemmas.{if_err_on, ok_on, stops_more, stops_on}
 use Rattle.x7_update.proofs.steps.verify_and_open.Goals as goal
 
 pub returns-clause-fault : goal.returns-clause-fault
@@ -136,3 +141,42 @@ pub open_free_slot-requires-clause-slot : goal.open_free_slot-requires-clause-sl
 open_free_slot-requires-clause-slot g c =
     let read = c.verify_stream.ensures.only_reads in
     record { attached = read.attached ∙ c.requires.written.attached; among = c.requires.next; within = omega (arith, c.requires.next, read.extent, c.requires.written.size.least) }
+
+-- ---- calls
+
+pub returns-in_err-verify_stream-clause-fault_calls : goal.returns-in_err-verify_stream-clause-fault_calls
+returns-in_err-verify_stream-clause-fault_calls g c =
+    let first = history_of (g.F.Flash.state c.args.flash.now) in
+    let last = history_of (g.F.Flash.state c.verify_stream.new.flash) in
+    let s : Stops (verifying first.size c.args.stream.now c.args.target ++ opening c.args.target.slots.next) first last c.in_err-verify_stream.field-0.0 =
+    stops_more (verifying first.size c.args.stream.now c.args.target) (opening c.args.target.slots.next) first last c.in_err-verify_stream.field-0.0 c.in_err-verify_stream.ensures.fault_calls in
+    search rules
+
+pub returns-in-Err-clause-fault_calls : goal.returns-in-Err-clause-fault_calls
+returns-in-Err-clause-fault_calls g c =
+    let first = history_of (g.F.Flash.state c.args.flash.now) in
+    let mid = history_of (g.F.Flash.state c.verify_stream.new.flash) in
+    let last = history_of (g.F.Flash.state c.open_free_slot.new.flash) in
+    let place = flash_slot_size * c.args.target.slots.next in
+    stops_on (verifying first.size c.args.stream.now c.args.target) (opening c.args.target.slots.next) first mid last write_failed c.in_ok-verify_stream.ensures.verified_calls
+    (stops_more (Programmed place open_switch ∷ []) (Read place open_switch ∷ []) mid last write_failed c.in-Err.ensures.failed_calls)
+
+pub returns-clause-opened_calls : goal.returns-clause-opened_calls
+returns-clause-opened_calls g c =
+    let first = history_of (g.F.Flash.state c.args.flash.now) in
+    let mid = history_of (g.F.Flash.state c.verify_stream.new.flash) in
+    let then = history_of (g.F.Flash.state c.open_free_slot.new.flash) in
+    let last = history_of (g.F.Flash.state c.verify_switch.new.flash) in
+    let place = flash_slot_size * c.args.target.slots.next in
+    ok_on first mid last (verifying first.size c.args.stream.now c.args.target) (opening c.args.target.slots.next) c.in_ok-verify_stream.ensures.verified_calls c.verify_switch.result
+    (ok_on mid then last (Programmed place open_switch ∷ []) (Read place open_switch ∷ []) c.in-Ok.ensures.opened_calls c.verify_switch.result c.verify_switch.ensures.verified_calls)
+
+pub returns-clause-fault_calls : goal.returns-clause-fault_calls
+returns-clause-fault_calls g c =
+    let first = history_of (g.F.Flash.state c.args.flash.now) in
+    let mid = history_of (g.F.Flash.state c.verify_stream.new.flash) in
+    let then = history_of (g.F.Flash.state c.open_free_slot.new.flash) in
+    let last = history_of (g.F.Flash.state c.verify_switch.new.flash) in
+    let place = flash_slot_size * c.args.target.slots.next in
+    if_err_on first mid last (verifying first.size c.args.stream.now c.args.target) (opening c.args.target.slots.next) c.in_ok-verify_stream.ensures.verified_calls c.verify_switch.result
+    (if_err_on mid then last (Programmed place open_switch ∷ []) (Read place open_switch ∷ []) c.in-Ok.ensures.opened_calls c.verify_switch.result c.verify_switch.ensures.fault_calls)

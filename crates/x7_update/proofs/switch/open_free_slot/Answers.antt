@@ -1,4 +1,4 @@
-use Rattle.std.proofs.Common.{◌≡◌, ◌*◌, ◌+◌, ◌≤◌, ℕ, List, Some, length, option_map, arith}
+use Rattle.std.proofs.Common.{◌≡◌, ◌*◌, ◌+◌, ◌≤◌, ℕ, List, Some, length, option_map, arith, refl}
 use Rattle.x7_words.specs.Flash.{IsTorn, cleared, programmed}
 use Rattle.x7_words.proofs.FlashLemmas.{bytes_cleared, length_cleared}
 use Rattle.x7_words.specs.Word.{AreBytes}
@@ -9,6 +9,10 @@ use Rattle.x7_update.specs.Writing.{OpeningSlot}
 use Rattle.x7_update.proofs.ByteLemmas.{bytes_write}
 use Rattle.x7_update.proofs.SwitchLemmas.{clears_to_open, opening, programs_switch}
 use Rattle.x7_update.proofs.KnownLemmas.{known_all, known_at, moments_weaker, on_ok_map, write_moments}
+use Rattle.x7_words.specs.declared.flash_call.FlashCall.TheVariants.{Programmed, ProgramFailed}
+use Rattle.x7_update.specs.Made.{write_failed}
+use Rattle.x7_update.proofs.MadeLemmas.{err_here}
+use Rattle.x7_words.specs.FlashHistory.{history_of}
 use Rattle.x7_update.proofs.switch.open_free_slot.Goals as goal
 
 pub returns-clause-writes : goal.returns-clause-writes
@@ -37,3 +41,10 @@ returns-clause-opened g c =
     (programs_switch slot open_switch s.bytes n.bytes
     (known_all s.bytes (λ all. cleared (flash_slot_size * slot) open_switch all ≡ open_switch)
     (λ all e. clears_to_open slot all (omega (arith, known_at s.bytes (λ all. s.extent ≡ length all) (g.met.F.Flash.counted c.args.flash.now) all e, c.requires.slot.within)) (known_at s.bytes (λ all. IsFree all slot) c.requires.free all e))))
+
+-- ---- calls
+
+pub returns-clause-failed_calls : goal.returns-clause-failed_calls
+returns-clause-failed_calls g c =
+    let place = flash_slot_size * c.args.slot in
+    err_here (Programmed place open_switch) (ProgramFailed place open_switch) (history_of (g.F.Flash.state c.args.flash.now)) (history_of (g.F.Flash.state c.program.new.self)) write_failed c.program.result refl c.program.ensures.failed_call

@@ -12,4 +12,5 @@ loop-at-preserved g c =
       within = grind (arith, common_steps, c.in_ok-at.ensures.within);
       written = written_more _ _ _ c.args.text.now c.loop-at.at c.in_ok-at.field-0 c.loop-at.invariant.written (grind (arith, common_steps, c.in_ok-at.ensures.appends));
       counts = counts_on _ _ _ c.loop-at.invariant.counts c.in_ok-at.ensures.counts;
+      no_fault = c.in_ok-at.ensures.no_fault ∙ c.loop-at.invariant.no_fault;
     }

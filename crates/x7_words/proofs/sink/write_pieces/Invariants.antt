@@ -1,4 +1,4 @@
-use Rattle.std.proofs.Common.{take, flat_map}
+use Rattle.std.proofs.Common.{take, flat_map, ◌≡◌}
 use Rattle.x7_words.specs.Sink.{SinkFaultsNeverFall, PutsAll}
 use Rattle.x7_words.proofs.sink.write_pieces.Given as goal
 
@@ -8,4 +8,5 @@ invariant-loop-piece g l =
     record {
       written : PutsAll (s.state l.fn.sink) (flat_map (λ p. p.now) (take l.piece-index l.pieces)) (s.state l.sink);
       counts : SinkFaultsNeverFall (s.state l.fn.sink) (s.state l.sink);
+      no_fault : (s.state l.sink).faults ≡ (s.state l.fn.sink).faults;
     }

@@ -1,6 +1,5 @@
 use Rattle.std.proofs.Common.{◌≡◌, inl, Bool, true, false, [], ◌++◌, length, ap, sym, subst, ◌∙◌, ◌<◌, ◌+◌, arith}
-use Rattle.x7_words.specs.Input.{preceded}
-use Rattle.x7_words.proofs.InputLemmas.{preceded_nil, preceded_preceded, stays_at, stays_on}
+use Rattle.x7_words.proofs.InputLemmas.{stays_at, stays_on, taken_before, taken_none, taken_on}
 use Rattle.x7_packets.specs.PacketsState.{PacketsState}
 use Rattle.x7_packets.specs.Stream.{TookBytes, CutsNext}
 use Rattle.x7_packets.proofs.StreamLemmas.{gives_again, gives_end, gives_up, reads_none, reads_on, room_on, run_is_not_last, tells_run, turns_fewer, turns_most}
@@ -22,7 +21,7 @@ loop-self-init g c =
       inputs = stays_at _;
       good = good;
       on = sym (ap (λ (p : PacketsState). p.is_done) c.self.view_is) ∙ c.if-self-2.false;
-      reads = ([], sym (preceded_nil (g.I.Inputs.state c.args.inputs.now).rest), reads_none c.args.self.now);
+      reads = ([], taken_none (g.I.Inputs.state c.args.inputs.now).contents (g.I.Inputs.state c.args.inputs.now).rest, reads_none c.args.self.now);
       room = omega (arith, turns_most c.args.self.now.cutter.kept c.args.self.now.left);
     }
 
@@ -49,7 +48,7 @@ returns-then-not-more-clause-gives_run g c = λ r last.
     let s : CutsNext c.loop-self.self c.cut_next.new.self false = subst (λ (b : Bool). CutsNext c.loop-self.self c.cut_next.new.self b) c.if-cut_next.false c.cut_next.ensures in
     let f = c.in-Ok.ensures.fills in
     let end = f.end c.if-not-more.true in
-    gives_end c.args.self.now c.loop-self.self c.cut_next.new.self c.fill.new.self c.finish.new.self i.reads.0 f.piece _ _ _ r s i.on i.good i.reads.2 i.reads.1 f.taken f.is end.0 end.1 c.finish.ensures.tail c.finish.ensures.end last
+    gives_end c.args.self.now c.loop-self.self c.cut_next.new.self c.fill.new.self c.finish.new.self i.reads.0 f.piece _ _ _ r s i.on i.good i.reads.2 c.in-Ok.ensures.inputs i.reads.1 f.taken f.is end.0 end.1 c.finish.ensures.tail c.finish.ensures.end last
 
 pub loop-self-preserved : goal.loop-self-preserved
 loop-self-preserved g c =
@@ -58,6 +57,9 @@ loop-self-preserved g c =
     let f = c.in-Ok.ensures.fills in
     let o = c.in-Ok.ensures in
     let some : 0 < length f.piece = f.some c.if-not-more.false in
+    let first = g.I.Inputs.state c.args.inputs.now in
+    let mid = g.I.Inputs.state c.loop-self.inputs in
+    let now = g.I.Inputs.state c.fill.new.inputs in
     record {
       selected = o.selected;
       inputs = stays_on _ _ _ i.inputs o.inputs;
@@ -65,7 +67,7 @@ loop-self-preserved g c =
       on = ap (λ (p : PacketsState). p.is_done) f.is ∙ s.done ∙ i.on;
       reads = (
         i.reads.0 ++ f.piece,
-        i.reads.1 ∙ ap (preceded i.reads.0) f.taken ∙ preceded_preceded i.reads.0 f.piece (g.I.Inputs.state c.fill.new.inputs).rest,
+        taken_on now.contents first.rest mid.rest now.rest i.reads.0 f.piece (taken_before mid.contents now.contents first.rest i.reads.0 mid.rest o.inputs.map i.reads.1) f.taken,
         subst (λ (p : PacketsState). TookBytes c.args.self.now p (i.reads.0 ++ f.piece)) (sym f.is) (reads_on c.args.self.now c.loop-self.self c.cut_next.new.self i.reads.0 f.piece s i.on i.reads.2),
       );
       room = room_on c.loop-self.self c.cut_next.new.self c.fill.new.self s f.piece (c.args.self.now.taken + 589824) f.is some f.most i.room;

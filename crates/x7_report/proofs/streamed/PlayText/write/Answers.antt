@@ -1,4 +1,4 @@
-use Rattle.std.proofs.Common.{ap}
+use Rattle.std.proofs.Common.{ap, ◌∙◌}
 use Rattle.std.proofs.lemmas.Result.{on_ok_weaker}
 use Rattle.x7_memory.specs.PartFrames.{frame_at}
 use Rattle.x7_report.specs.Frames.{frame_lines_text}
@@ -25,3 +25,6 @@ returns-clause-prefix g c =
     report_failed (s.state c.args.out.now).written (s.state c.write_all.new.sink).written (s.state c.write_lines.new.out).written c.part.result.now c.self.inside.device.part c.memory.result.now c.self.inside.device.registers.frames.memory
     c.deref.result.now c.self.inside.head.items c.deref-2.result.now c.self.inside.fars.items c.args.self.now.text c.part.ensures.stored c.memory.ensures.stored c.deref.ensures.value c.deref-2.ensures.value
     (ap (λ (a : PlayTextState). a.text) c.self.view_is) c.in_ok-write_all.ensures.appends c.write_lines.ensures.prefix
+
+pub returns-clause-no_fault : goal.returns-clause-no_fault
+returns-clause-no_fault g c = on_ok_weaker c.write_lines.result (λ same. same ∙ c.in_ok-write_all.ensures.no_fault) c.write_lines.ensures.no_fault

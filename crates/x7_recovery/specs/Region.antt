@@ -1,0 +1,20 @@
+-- A region of a flash that is updated: the flash begins with it, and what comes after it is never touched (this
+-- project's choice).
+use Rattle.std.specs.Prelude.{◌≡◌, ◌≤◌, ℕ, List, [], ◌∷◌, ◌++◌, false, length}
+use Rattle.x7_boot.specs.Attempt.{AttemptCourse, attempt_end}
+use Rattle.x7_boot.specs.Boot.{BootedState, IsBoot}
+use Rattle.x7_boot.specs.BootCourse.{course_of}
+use Rattle.x7_update.specs.After.{IsAfterUpdate}
+use Rattle.x7_recovery.specs.Golden.{StartsAlike, UpdatingByAttempt}
+
+-- each of these attempts ended within the region: at its last byte or before it
+abbrev pub EndWithin : List ℕ → List AttemptCourse → Type 0
+EndWithin region [] = Unit {0}
+EndWithin region (t ∷ older) = (t.wrapped ≡ false) × (attempt_end t ≤ length region) × EndWithin region older
+
+-- A boot from a flash of which an update of a region left `found`, with `more` after it: that of the region as it was,
+-- with the same bytes after it, or one that starts as the golden stream does, or that of the updated region with them.
+pub data RegionBootsAlike (u : UpdatingByAttempt) (more found : List ℕ) (b : BootedState) : Type 0 where
+  as_before : IsBoot u.part (u.flash ++ more) b → RegionBootsAlike u more found b
+  golden : (boot : IsBoot u.part (found ++ more) b) → StartsAlike u.part u.golden (course_of b boot.last) → RegionBootsAlike u more found b
+  as_after : IsAfterUpdate u.stream u.flash found → IsBoot u.part (found ++ more) b → RegionBootsAlike u more found b

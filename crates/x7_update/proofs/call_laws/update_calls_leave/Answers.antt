@@ -1,0 +1,8 @@
+use Rattle.x7_update.proofs.CallLawLemmas.{calls_become, calls_leave}
+use Rattle.x7_update.proofs.call_laws.update_calls_leave.Goals as goal
+
+pub returns-clause-leaves : goal.returns-clause-leaves
+returns-clause-leaves c = λ flash stream first_sector found calls l are bytes fits size f m. calls_leave flash stream first_sector l bytes fits size found calls are f m
+
+pub returns-clause-becomes : goal.returns-clause-becomes
+returns-clause-becomes c = λ flash stream first_sector now l bytes fits size h. calls_become flash stream first_sector l bytes fits size now h
