@@ -193,7 +193,7 @@ stays_open part kept bytes more fits some none = by (first_stop_of_bytes part ke
         ends_by_stop part kept (bytes ++ more) no ∙ ap (λ (o : Option Stopped). ending_by (why_stopped o)) (later ∙ sym e) ∙ no_ending part kept bytes none
 
 stop_at_last : (part : PartData) (kept : Kept) (d : DeviceState) (bytes : List ℕ) → DeviceStandsFor part kept false d bytes → (s : Stopped) → first_stop_of_bytes part kept bytes ≡ Some s → s.place ≡ length bytes
-stop_at_last part kept d bytes stands s e = by d.registers.stop (sym e ∙ stands.stop_is)
+stop_at_last part kept d bytes stands s e = by d.registers.values.stop (sym e ∙ stands.stop_is)
   where
     by : (o : Option StopCause) → Some s ≡ stop_at_place (length bytes) o → s.place ≡ length bytes
     by None f = cc

@@ -48,43 +48,43 @@ word_entered register n i w taken ws h e l t =
 
 -- a word more, in which the device may have stopped
 pub word_after : (part : PartData) (kept : Kept) (old new : RegistersState) (register n i w left taken m : ℕ) (ws : List ℕ) (h : History) → take (i + 1) ws ≡ take i ws ++ w ∷ [] → i < length ws → taken ≡ 4 * i → left ≤ 4 → m ≡ n + (taken + (4 - left))
-    → ((h : History) (n : ℕ) → 0 < 4 → RegistersStandFor part kept old h n → RegistersStandFor part kept new (until (counted_in new.stop (n + (4 - left))) (entry (Write register w) (n + 4) ∷ h)) (n + (4 - left)))
+    → ((h : History) (n : ℕ) → 0 < 4 → RegistersStandFor part kept old h n → RegistersStandFor part kept new (until (counted_in new.values.stop (n + (4 - left))) (entry (Write register w) (n + 4) ∷ h)) (n + (4 - left)))
     → RegistersStandFor part kept old (entered_all n (payload_steps register (take i ws)) h) (n + taken)
-    → RegistersStandFor part kept new (until (counted_in new.stop m) (entered_all n (payload_steps register ws) h)) m
+    → RegistersStandFor part kept new (until (counted_in new.values.stop m) (entered_all n (payload_steps register ws) h)) m
 word_after part kept old new register n i w left taken m ws h e l t k r f s =
     let prefix : History = entered_all n (payload_steps register (take i ws)) h in
     let here : n + taken + (4 - left) ≡ m = omega (arith, k, r) in
-    let one : RegistersStandFor part kept new (until (counted_in new.stop m) (entry (Write register w) (n + taken + 4) ∷ prefix)) m =
-    subst (λ (x : ℕ). RegistersStandFor part kept new (until (counted_in new.stop x) (entry (Write register w) (n + taken + 4) ∷ prefix)) x) here (f prefix (n + taken) (omega arith) s) in
+    let one : RegistersStandFor part kept new (until (counted_in new.values.stop m) (entry (Write register w) (n + taken + 4) ∷ prefix)) m =
+    subst (λ (x : ℕ). RegistersStandFor part kept new (until (counted_in new.values.stop x) (entry (Write register w) (n + taken + 4) ∷ prefix)) x) here (f prefix (n + taken) (omega arith) s) in
     let steps : length (payload_steps register ws) ≡ length ws = length-map ws _ in
     let some : i + 1 ≤ length (payload_steps register ws) = omega (arith, steps, l) in
-    let after : counted_in new.stop m < n + 4 * (i + 1) + 4 = omega (arith, counted_within new.stop m, r, t) in
-    let all : until (counted_in new.stop m) (entered_all n (payload_steps register ws) h) ≡ until (counted_in new.stop m) (entry (Write register w) (n + taken + 4) ∷ prefix) =
-    prefix_until n (i + 1) (counted_in new.stop m) (payload_steps register ws) h some after
-    ∙ ap (λ t. until (counted_in new.stop m) (entered_all n t h)) (take-map _ (i + 1) ws)
-    ∙ ap (until (counted_in new.stop m)) (sym (word_entered register n i w taken ws h e l t)) in
+    let after : counted_in new.values.stop m < n + 4 * (i + 1) + 4 = omega (arith, counted_within new.values.stop m, r, t) in
+    let all : until (counted_in new.values.stop m) (entered_all n (payload_steps register ws) h) ≡ until (counted_in new.values.stop m) (entry (Write register w) (n + taken + 4) ∷ prefix) =
+    prefix_until n (i + 1) (counted_in new.values.stop m) (payload_steps register ws) h some after
+    ∙ ap (λ t. until (counted_in new.values.stop m) (entered_all n t h)) (take-map _ (i + 1) ws)
+    ∙ ap (until (counted_in new.values.stop m)) (sym (word_entered register n i w taken ws h e l t)) in
     subst (λ (x : History). RegistersStandFor part kept new x m) (sym all) one
 
 -- a word more, after which the device goes on
-pub word_on : (part : PartData) (kept : Kept) (old new : RegistersState) (register n i w left taken m : ℕ) (ws : List ℕ) (h : History) → take (i + 1) ws ≡ take i ws ++ w ∷ [] → i < length ws → taken ≡ 4 * i → left ≡ 0 → m ≡ n + (taken + (4 - left)) → new.stop ≡ None
-    → ((h : History) (n : ℕ) → 0 < 4 → RegistersStandFor part kept old h n → RegistersStandFor part kept new (until (counted_in new.stop (n + (4 - left))) (entry (Write register w) (n + 4) ∷ h)) (n + (4 - left)))
+pub word_on : (part : PartData) (kept : Kept) (old new : RegistersState) (register n i w left taken m : ℕ) (ws : List ℕ) (h : History) → take (i + 1) ws ≡ take i ws ++ w ∷ [] → i < length ws → taken ≡ 4 * i → left ≡ 0 → m ≡ n + (taken + (4 - left)) → new.values.stop ≡ None
+    → ((h : History) (n : ℕ) → 0 < 4 → RegistersStandFor part kept old h n → RegistersStandFor part kept new (until (counted_in new.values.stop (n + (4 - left))) (entry (Write register w) (n + 4) ∷ h)) (n + (4 - left)))
     → RegistersStandFor part kept old (entered_all n (payload_steps register (take i ws)) h) (n + taken)
     → RegistersStandFor part kept new (entered_all n (payload_steps register (take (i + 1) ws)) h) m
 word_on part kept old new register n i w left taken m ws h e l t k r g f s =
     let prefix : History = entered_all n (payload_steps register (take i ws)) h in
     let here : n + taken + (4 - left) ≡ m = omega (arith, k, r) in
     let last : n + taken + 4 ≤ m = omega (arith, k, r) in
-    let one : RegistersStandFor part kept new (until (counted_in new.stop m) (entry (Write register w) (n + taken + 4) ∷ prefix)) m =
-    subst (λ (x : ℕ). RegistersStandFor part kept new (until (counted_in new.stop x) (entry (Write register w) (n + taken + 4) ∷ prefix)) x) here (f prefix (n + taken) (omega arith) s) in
-    let all : until (counted_in new.stop m) (entry (Write register w) (n + taken + 4) ∷ prefix) ≡ entered_all n (payload_steps register (take (i + 1) ws)) h =
+    let one : RegistersStandFor part kept new (until (counted_in new.values.stop m) (entry (Write register w) (n + taken + 4) ∷ prefix)) m =
+    subst (λ (x : ℕ). RegistersStandFor part kept new (until (counted_in new.values.stop x) (entry (Write register w) (n + taken + 4) ∷ prefix)) x) here (f prefix (n + taken) (omega arith) s) in
+    let all : until (counted_in new.values.stop m) (entry (Write register w) (n + taken + 4) ∷ prefix) ≡ entered_all n (payload_steps register (take (i + 1) ws)) h =
     ap (λ (o : Option StopCause). until (counted_in o m) (entry (Write register w) (n + taken + 4) ∷ prefix)) g
     ∙ ap (λ (b : Bool). if b then until m prefix else entry (Write register w) (n + taken + 4) ∷ prefix) (le-ltb m (n + taken + 4) last)
     ∙ word_entered register n i w taken ws h e l t in
     subst (λ (x : History). RegistersStandFor part kept new x m) all one
 
 -- registers that took all words, and that nothing stopped, are those after these words
-pub words_all : (part : PartData) (kept : Kept) (d : RegistersState) (register n i m : ℕ) (ws : List ℕ) (h : History) → length ws ≤ i → d.stop ≡ None → RegistersStandFor part kept d (entered_all n (payload_steps register (take i ws)) h) m
-    → RegistersStandFor part kept d (until (counted_in d.stop m) (entered_all n (payload_steps register ws) h)) m
+pub words_all : (part : PartData) (kept : Kept) (d : RegistersState) (register n i m : ℕ) (ws : List ℕ) (h : History) → length ws ≤ i → d.values.stop ≡ None → RegistersStandFor part kept d (entered_all n (payload_steps register (take i ws)) h) m
+    → RegistersStandFor part kept d (until (counted_in d.values.stop m) (entered_all n (payload_steps register ws) h)) m
 words_all part kept d register n i m ws h l e s =
     let all : take i ws ≡ ws = take_all i ws l in
     all_counted part kept d (entered_all n (payload_steps register ws) h) m (ap (λ (o : Option StopCause). counted_in o m) e)

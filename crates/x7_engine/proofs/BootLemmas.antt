@@ -21,9 +21,9 @@ pub may_wrap : (part : PartData) (kept : Kept) (wrapped : Bool) (d : DeviceState
     → (why_stopped (first_stop_of_bytes part kept bytes) ≡ Some stop.Iprog → ⊥) → NoWordDue d → MayWrap d
 may_wrap part kept wrapped d bytes s boots not_started not_failed not_left none =
     let h : History = history_taken part kept bytes in
-    let phase : d.registers.clock.startup.phase ≡ phase_of part h (length bytes) = phase_by_clock part h (length bytes) d.registers.clock.startup.phase s.registers_are.clock.startup.stores.phase_is in
+    let phase : d.registers.values.clock.startup.phase ≡ phase_of part h (length bytes) = phase_by_clock part h (length bytes) d.registers.values.clock.startup.phase s.registers_are.clock.startup.stores.phase_is in
     let all : phase_of part h (length bytes) ≡ (state_of part kept wrapped bytes).phase = ap (phase_of part h) (sym (taken_is part kept wrapped d bytes s)) in
-    let why : why_stopped (first_stop_of_bytes part kept bytes) ≡ d.registers.stop = why_is part kept wrapped d bytes s in
+    let why : why_stopped (first_stop_of_bytes part kept bytes) ≡ d.registers.values.stop = why_is part kept wrapped d bytes s in
     record {
       boots = λ e. boots (sym s.registers_are.kind ∙ e);
       not_started = ap (λ (p : ℕ). p == 7) (phase ∙ all) ∙ not_started;
@@ -44,4 +44,4 @@ few part h known (due.Frames zero) e = refl
 few part h known (due.Frames (suc n)) e = absurd (nothing_more known _ _ e)
 
 pub none_due_at_first : (part : PartData) (kept : Kept) (wrapped : Bool) (d : DeviceState) → DeviceStandsFor part kept wrapped d [] → NoWordDue d
-none_due_at_first part kept wrapped d s = few part (history_taken part kept []) s.due_are.given d.registers.due s.due_are.all
+none_due_at_first part kept wrapped d s = few part (history_taken part kept []) s.due_are.given d.registers.values.due s.due_are.all

@@ -32,9 +32,9 @@ prefix_given known rest due e =
     let count : length (known ++ rest) - due ≡ length known = omega (arith, length-append known rest, e) in
     ap (λ (n : ℕ). take n (known ++ rest)) count ∙ take-append_seam known rest
 
-pub given_by : (part : PartData) (kept : Kept) (d : DeviceState) (bytes known : List ℕ) (h : History) → reads_of part kept bytes ≡ known ++ words_still_due part h d.registers.due → reads_given part kept d bytes ≡ known
+pub given_by : (part : PartData) (kept : Kept) (d : DeviceState) (bytes known : List ℕ) (h : History) → reads_of part kept bytes ≡ known ++ words_still_due part h d.registers.values.due → reads_given part kept d bytes ≡ known
 given_by part kept d bytes known h e =
-    ap (λ (t : List ℕ). take (length t - due_count d.registers.due) t) e ∙ prefix_given known (words_still_due part h d.registers.due) (due_count d.registers.due) (length_left part h d.registers.due)
+    ap (λ (t : List ℕ). take (length t - due_count d.registers.values.due) t) e ∙ prefix_given known (words_still_due part h d.registers.values.due) (due_count d.registers.values.due) (length_left part h d.registers.values.due)
 
 -- a part of a piece, cut at a place in it
 pub between_prefix : (piece : List ℕ) (from at left : ℕ) → from ≤ at - left → between piece from at ≡ between piece from (at - left) ++ drop (at - left - from) (between piece from at)
@@ -100,15 +100,15 @@ pub going_taken : (part : PartData) (kept : Kept) (bytes : List ℕ) → first_s
 going_taken part kept bytes e = ap (λ (o : Option Stopped). history_by o (history_of bytes)) e
 
 -- the device after a run more
-pub turned : (part : PartData) (kept : Kept) (wrapped : Bool) (d e : DeviceState) (bytes cut more rest : List ℕ) (run : Cut) (count left room : ℕ) → DeviceStandsFor part kept wrapped d bytes → d.registers.stop ≡ None
+pub turned : (part : PartData) (kept : Kept) (wrapped : Bool) (d e : DeviceState) (bytes cut more rest : List ℕ) (run : Cut) (count left room : ℕ) → DeviceStandsFor part kept wrapped d bytes → d.registers.values.stop ≡ None
     → ((sessions : List EndedSession) (place : Place) → CutterStandsFor d.cutter bytes sessions place → AfterRun d.cutter e.cutter (bytes ++ cut) sessions place run)
-    → ((h : History) (from n : ℕ) → EndsWords run from n count → RegistersStandFor part kept d.registers h n → RegistersStandFor part kept e.registers (until (counted_in e.registers.stop (n + (count - left))) (entered_all from (run_steps run) h)) (n + (count - left)))
+    → ((h : History) (from n : ℕ) → EndsWords run from n count → RegistersStandFor part kept d.registers h n → RegistersStandFor part kept e.registers (until (counted_in e.registers.values.stop (n + (count - left))) (entered_all from (run_steps run) h)) (n + (count - left)))
     → ((h : History) (from n : ℕ) → EndsWords run from n count → RegistersStandFor part kept d.registers h n
-    → read_out part kept (until (counted_in e.registers.stop (n + (count - left))) (entered_all from (run_steps run) h))
-    ≡ read_out part kept h ++ words_still_due part (until (counted_in e.registers.stop (n + (count - left))) (entered_all from (run_steps run) h)) e.registers.due)
+    → read_out part kept (until (counted_in e.registers.values.stop (n + (count - left))) (entered_all from (run_steps run) h))
+    ≡ read_out part kept h ++ words_still_due part (until (counted_in e.registers.values.stop (n + (count - left))) (entered_all from (run_steps run) h)) e.registers.values.due)
     → count ≡ length cut → cut ≡ more ++ rest → length rest ≡ left → IsRun run → IsLent d.cutter room run
-    → (e.registers.stop ≡ None → left ≡ 0) → ((why : StopCause) → e.registers.stop ≡ Some why → due_count e.registers.due ≡ 0) → e.part ≡ d.part → e.wrapped ≡ d.wrapped → e.taken ≡ d.taken + length more
-    → DeviceStandsFor part kept wrapped e (bytes ++ more) × (reads_of part kept (bytes ++ more) ≡ reads_of part kept bytes ++ words_still_due part (history_taken part kept (bytes ++ more)) e.registers.due)
+    → (e.registers.values.stop ≡ None → left ≡ 0) → ((why : StopCause) → e.registers.values.stop ≡ Some why → due_count e.registers.values.due ≡ 0) → e.part ≡ d.part → e.wrapped ≡ d.wrapped → e.taken ≡ d.taken + length more
+    → DeviceStandsFor part kept wrapped e (bytes ++ more) × (reads_of part kept (bytes ++ more) ≡ reads_of part kept bytes ++ words_still_due part (history_taken part kept (bytes ++ more)) e.registers.values.due)
 turned part kept wrapped d e bytes cut more rest run count left room s going went stands reads k j l r i g q p y t =
     let none : first_stop_of_bytes part kept bytes ≡ None = s.stop_is ∙ ap (stop_at_place (length bytes)) going in
     let old : history_taken part kept bytes ≡ history_of bytes = going_taken part kept bytes none in
@@ -126,21 +126,21 @@ turned part kept wrapped d e bytes cut more rest run count left room s going wen
     let prefix : history_of (bytes ++ more) ≡ until m all = sym (prefix_of (bytes ++ more) rest fits) ∙ ap (until m) (ap history_of joined ∙ whole) in
     let placed : Placed (length (bytes ++ cut)) all = subst (λ (h : History). Placed (length (bytes ++ cut)) h) whole (placed_of (bytes ++ cut) w.stands.reading.fits) in
     let ends : EndsWords run from (length bytes) count = subst (λ (x : ℕ). EndsWords run from (length bytes) x) (sym k) (ends_words d.cutter e.cutter bytes cut cutter.sessions cutter.place run room cutter.stands w r i) in
-    let counted : History = until (counted_in e.registers.stop m) all in
+    let counted : History = until (counted_in e.registers.values.stop m) all in
     let after : RegistersStandFor part kept e.registers counted m =
-    subst (λ (x : ℕ). RegistersStandFor part kept e.registers (until (counted_in e.registers.stop x) all) x) count_is (stands (history_of bytes) from (length bytes) ends before) in
-    let stops : first_stop_of_bytes part kept (bytes ++ more) ≡ stop_at_place m e.registers.stop =
-    ap (λ (x : History). first_stop_of_history part kept x m) prefix ∙ stop_until part kept e.registers.stop (length (bytes ++ cut)) m all placed after.stop in
+    subst (λ (x : ℕ). RegistersStandFor part kept e.registers (until (counted_in e.registers.values.stop x) all) x) count_is (stands (history_of bytes) from (length bytes) ends before) in
+    let stops : first_stop_of_bytes part kept (bytes ++ more) ≡ stop_at_place m e.registers.values.stop =
+    ap (λ (x : History). first_stop_of_history part kept x m) prefix ∙ stop_until part kept e.registers.values.stop (length (bytes ++ cut)) m all placed after.stop in
     let new : history_taken part kept (bytes ++ more) ≡ counted =
-    ap (λ (o : Option Stopped). history_by o (history_of (bytes ++ more))) stops ∙ ap (history_by (stop_at_place m e.registers.stop)) prefix ∙ history_until e.registers.stop m all in
-    let first : read_out part kept (until (counted_in e.registers.stop (length bytes + (count - left))) all)
-    ≡ reads_of part kept bytes ++ words_still_due part (until (counted_in e.registers.stop (length bytes + (count - left))) all) e.registers.due =
+    ap (λ (o : Option Stopped). history_by o (history_of (bytes ++ more))) stops ∙ ap (history_by (stop_at_place m e.registers.values.stop)) prefix ∙ history_until e.registers.values.stop m all in
+    let first : read_out part kept (until (counted_in e.registers.values.stop (length bytes + (count - left))) all)
+    ≡ reads_of part kept bytes ++ words_still_due part (until (counted_in e.registers.values.stop (length bytes + (count - left))) all) e.registers.values.due =
     reads (history_of bytes) from (length bytes) ends before
-    ∙ ap (λ (x : History). read_out part kept x ++ words_still_due part (until (counted_in e.registers.stop (length bytes + (count - left))) all) e.registers.due) (sym old) in
-    let here_read : read_out part kept counted ≡ reads_of part kept bytes ++ words_still_due part counted e.registers.due =
-    subst (λ (x : ℕ). read_out part kept (until (counted_in e.registers.stop x) all) ≡ reads_of part kept bytes ++ words_still_due part (until (counted_in e.registers.stop x) all) e.registers.due) count_is first in
-    let known : reads_of part kept (bytes ++ more) ≡ reads_of part kept bytes ++ words_still_due part (history_taken part kept (bytes ++ more)) e.registers.due =
-    subst (λ (x : History). read_out part kept x ≡ reads_of part kept bytes ++ words_still_due part x e.registers.due) (sym new) here_read in (
+    ∙ ap (λ (x : History). read_out part kept x ++ words_still_due part (until (counted_in e.registers.values.stop (length bytes + (count - left))) all) e.registers.values.due) (sym old) in
+    let here_read : read_out part kept counted ≡ reads_of part kept bytes ++ words_still_due part counted e.registers.values.due =
+    subst (λ (x : ℕ). read_out part kept (until (counted_in e.registers.values.stop x) all) ≡ reads_of part kept bytes ++ words_still_due part (until (counted_in e.registers.values.stop x) all) e.registers.values.due) count_is first in
+    let known : reads_of part kept (bytes ++ more) ≡ reads_of part kept bytes ++ words_still_due part (history_taken part kept (bytes ++ more)) e.registers.values.due =
+    subst (λ (x : History). read_out part kept x ≡ reads_of part kept bytes ++ words_still_due part x e.registers.values.due) (sym new) here_read in (
       record {
         fits = here;
         part_is = p ∙ s.part_is;

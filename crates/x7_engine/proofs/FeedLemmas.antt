@@ -31,19 +31,19 @@ now_due part left known h words reads old new all g = all ∙ ap (λ t. known ++
 
 -- the device gave words that were due
 pub given : (part : PartData) (kept : Kept) (wrapped : Bool) (d : DeviceState) (r : RegistersState) (bytes : List ℕ) (old new : ReadBufState) → DeviceStandsFor part kept wrapped d bytes
-    → GotAllBut (words_still_due part (history_taken part kept bytes) r.due) (words_still_due part (history_taken part kept bytes) d.registers.due) old new
+    → GotAllBut (words_still_due part (history_taken part kept bytes) r.values.due) (words_still_due part (history_taken part kept bytes) d.registers.values.due) old new
     → GivesWordsNext (past_of part kept wrapped bytes) (past_of part kept wrapped bytes) (with_buffer d old) (with_buffer (record d { registers = r }) new)
 given part kept wrapped d r bytes old new s g =
     let known : List ℕ = s.due_are.given in
     let h : History = history_taken part kept bytes in (
       g.more,
       g.read_is,
-      given_by part kept (record d { registers = r }) bytes (known ++ g.more) h (now_due part r.due known h _ _ old new s.due_are.all g) ∙ ap (λ t. t ++ g.more) (sym (given_by part kept d bytes known h s.due_are.all)),
+      given_by part kept (record d { registers = r }) bytes (known ++ g.more) h (now_due part r.values.due known h _ _ old new s.due_are.all g) ∙ ap (λ t. t ++ g.more) (sym (given_by part kept d bytes known h s.due_are.all)),
     )
 
 -- a device that gave words that were due stands for what it stood for
-pub stands_given : (part : PartData) (kept : Kept) (wrapped : Bool) (d : DeviceState) (r : RegistersState) (bytes : List ℕ) (old new : ReadBufState) → d.registers.stop ≡ None → r.stop ≡ None → DeviceStandsFor part kept wrapped d bytes
-    → RegistersStandFor part kept r (history_taken part kept bytes) (length bytes) → GotAllBut (words_still_due part (history_taken part kept bytes) r.due) (words_still_due part (history_taken part kept bytes) d.registers.due) old new
+pub stands_given : (part : PartData) (kept : Kept) (wrapped : Bool) (d : DeviceState) (r : RegistersState) (bytes : List ℕ) (old new : ReadBufState) → d.registers.values.stop ≡ None → r.values.stop ≡ None → DeviceStandsFor part kept wrapped d bytes
+    → RegistersStandFor part kept r (history_taken part kept bytes) (length bytes) → GotAllBut (words_still_due part (history_taken part kept bytes) r.values.due) (words_still_due part (history_taken part kept bytes) d.registers.values.due) old new
     → DeviceStandsFor part kept wrapped (record d { registers = r }) bytes
 stands_given part kept wrapped d r bytes old new going on s registers g = record {
   fits = s.fits;
@@ -53,7 +53,7 @@ stands_given part kept wrapped d r bytes old new going on s registers g = record
   stop_is = s.stop_is ∙ ap (stop_at_place (length bytes)) (going ∙ sym on);
   registers_are = registers;
   cutter_is = λ o. s.cutter_is going;
-  due_are = record { given = s.due_are.given ++ g.more; all = now_due part r.due s.due_are.given (history_taken part kept bytes) _ _ old new s.due_are.all g };
+  due_are = record { given = s.due_are.given ++ g.more; all = now_due part r.values.due s.due_are.given (history_taken part kept bytes) _ _ old new s.due_are.all g };
   none_due_at_stop = λ why q. absurd (none-some _ (sym on ∙ q));
 }
 
@@ -108,22 +108,22 @@ taken_by_stop (stop.Fault f) n at = refl
 taken_by_stop stop.Iprog n at = refl
 
 pub answers_stop : (part : PartData) (kept : Kept) (wrapped : Bool) (d : DeviceState) (bytes : List ℕ) (read : ReadBufState) (why : StopCause) (at : ℕ)
-    → DeviceStandsFor part kept wrapped d bytes → Some why ≡ d.registers.stop → AnswersAt (past_of part kept wrapped bytes) d read (answer_at_stop why at)
+    → DeviceStandsFor part kept wrapped d bytes → Some why ≡ d.registers.values.stop → AnswersAt (past_of part kept wrapped bytes) d read (answer_at_stop why at)
 answers_stop part kept wrapped d bytes read (stop.Fault f) at s e = (f, s.stop_is ∙ ap (stop_at_place (length bytes)) (sym e), s.none_due_at_stop (stop.Fault f) (sym e))
 answers_stop part kept wrapped d bytes read stop.Iprog at s e = (s.stop_is ∙ ap (stop_at_place (length bytes)) (sym e), s.none_due_at_stop stop.Iprog (sym e))
 
 -- a device stopped just where its bytes have a stop
-pub same_stop : (d : DeviceState) (p : Past) → HasPast d p → is_some (first_stop_at p) ≡ is_some d.registers.stop
-same_stop d p s = ap (λ (o : Option Stopped). is_some o) s.stop_is ∙ same (length p.bytes) d.registers.stop
+pub same_stop : (d : DeviceState) (p : Past) → HasPast d p → is_some (first_stop_at p) ≡ is_some d.registers.values.stop
+same_stop d p s = ap (λ (o : Option Stopped). is_some o) s.stop_is ∙ same (length p.bytes) d.registers.values.stop
   where
     same : (n : ℕ) (o : Option StopCause) → is_some (stop_at_place n o) ≡ is_some o
     same n None = refl
     same n (Some why) = refl
 
 -- a device that goes on hadn't stopped before
-pub none_before : (old now : DeviceState) → (is_some old.registers.stop ≡ true → now ≡ old) → None ≡ now.registers.stop → is_some old.registers.stop ≡ true → ⊥
+pub none_before : (old now : DeviceState) → (is_some old.registers.values.stop ≡ true → now ≡ old) → None ≡ now.registers.values.stop → is_some old.registers.values.stop ≡ true → ⊥
 none_before old now same going e =
-    let both : true ≡ false = sym e ∙ ap (λ (d : DeviceState). is_some d.registers.stop) (sym (same e)) ∙ sym (ap (λ (o : Option StopCause). is_some o) going) in cc
+    let both : true ≡ false = sym e ∙ ap (λ (d : DeviceState). is_some d.registers.values.stop) (sym (same e)) ∙ sym (ap (λ (o : Option StopCause). is_some o) going) in cc
 
 -- words are due where a call doesn't say that none is
 pub some_due : (n : ℕ) (none_left : Bool) → (none_left ≡ true) ↔ (n ≡ 0) → none_left ≡ false → 0 < n
@@ -150,7 +150,7 @@ given_all part kept d bytes e = ap (λ (n : ℕ). take (length (reads_of part ke
 
 -- no more was given than was read out
 pub given_within : (part : PartData) (kept : Kept) (d : DeviceState) (bytes : List ℕ) → length (reads_given part kept d bytes) ≤ length (reads_of part kept bytes)
-given_within part kept d bytes = omega (arith, length-take (length (reads_of part kept bytes) - due_count d.registers.due) (reads_of part kept bytes))
+given_within part kept d bytes = omega (arith, length-take (length (reads_of part kept bytes) - due_count d.registers.values.due) (reads_of part kept bytes))
 
 -- ---- words of frame data given to a buffer
 
@@ -191,18 +191,18 @@ fewer_among (a ∷ h) count left l e = by (reads_frame_data h a.access) e
     by false e = omega (arith, l, e)
 
 -- the frames of registers of which words of frame data are due
-frames_due_here : (part : PartData) (kept : Kept) (d : RegistersState) (h : History) (n count : ℕ) → d.stop ≡ None → d.due ≡ due.Frames count → RegistersStandFor part kept d h n → FramesStandFor part d.frames h count
-frames_due_here part kept d h n count going is s = subst (FramesStandFor part d.frames h) (ap frames_due is) (frames_of part d.frames d.stop h (frames_due d.due) (goes_on d.stop going) s.frames)
+frames_due_here : (part : PartData) (kept : Kept) (d : RegistersState) (h : History) (n count : ℕ) → d.values.stop ≡ None → d.values.due ≡ due.Frames count → RegistersStandFor part kept d h n → FramesStandFor part d.frames h count
+frames_due_here part kept d h n count going is s = subst (FramesStandFor part d.frames h) (ap frames_due is) (frames_of part d.frames d.values.stop h (frames_due d.values.due) (goes_on d.values.stop going) s.frames)
 
 -- the words of frame data that a buffer got
-pub got_frames : (part : PartData) (kept : Kept) (d : RegistersState) (h : History) (n count left : ℕ) (old new : ReadBufState) → d.stop ≡ None → d.due ≡ due.Frames count
+pub got_frames : (part : PartData) (kept : Kept) (d : RegistersState) (h : History) (n count left : ℕ) (old new : ReadBufState) → d.values.stop ≡ None → d.values.due ≡ due.Frames count
     → (FramesStandFor part d.frames h count → GotAllBut (words_due part h left) (words_due part h count) old new) → RegistersStandFor part kept d h n
-    → GotAllBut (words_due part h left) (words_still_due part h d.due) old new
+    → GotAllBut (words_due part h left) (words_still_due part h d.values.due) old new
 got_frames part kept d h n count left old new going is got s = subst (λ (x : Due). GotAllBut (words_due part h left) (words_still_due part h x) old new) (sym is) (got (frames_due_here part kept d h n count going is s))
 
 -- registers after some of the words of frame data that were due
-pub gave_frames : (part : PartData) (kept : Kept) (d : RegistersState) (frames : FramesState) (h : History) (n count left : ℕ) → d.stop ≡ None → d.due ≡ due.Frames count → left ≤ count
-    → (FramesStandFor part d.frames h count → FramesStandFor part frames h left) → RegistersStandFor part kept d h n → RegistersStandFor part kept (record d { due = due.Frames left; frames = frames }) h n
+pub gave_frames : (part : PartData) (kept : Kept) (d : RegistersState) (frames : FramesState) (h : History) (n count left : ℕ) → d.values.stop ≡ None → d.values.due ≡ due.Frames count → left ≤ count
+    → (FramesStandFor part d.frames h count → FramesStandFor part frames h left) → RegistersStandFor part kept d h n → RegistersStandFor part kept (record { values = record d.values { due = due.Frames left }; frames = frames }) h n
 gave_frames part kept d frames h n count left going is few stands s = record {
   places = s.places;
   words = s.words;
@@ -212,6 +212,6 @@ gave_frames part kept d frames h n count left going is few stands s = record {
   before = s.before;
   clock = s.clock;
   stop = s.stop;
-  frames = frames_at part frames d.stop h left (goes_on d.stop going) (stands (frames_due_here part kept d h n count going is s));
+  frames = frames_at part frames d.values.stop h left (goes_on d.values.stop going) (stands (frames_due_here part kept d h n count going is s));
   due_kind = fewer_among h count left few (sym (ap frames_due is) ∙ s.due_kind ∙ ap (λ (x : Due). frames_among h (due_count x)) is);
 }

@@ -33,12 +33,12 @@ between_join piece from at to l m =
     ∙ sym (take-add (at - from) (to - at) (drop from piece))
     ∙ ap (λ (k : ℕ). take k (drop from piece)) sum
 
-pub passed : (part : PartData) (kept : Kept) (wrapped : Bool) (d e : DeviceState) (bytes cut more rest : List ℕ) (count left : ℕ) → DeviceStandsFor part kept wrapped d bytes → d.registers.stop ≡ None → due_count d.registers.due ≡ 0
+pub passed : (part : PartData) (kept : Kept) (wrapped : Bool) (d e : DeviceState) (bytes cut more rest : List ℕ) (count left : ℕ) → DeviceStandsFor part kept wrapped d bytes → d.registers.values.stop ≡ None → due_count d.registers.values.due ≡ 0
     → ((sessions : List EndedSession) (place : Place) → CutterStandsFor d.cutter bytes sessions place → IdlesThrough d.cutter (bytes ++ cut) sessions place)
     → ((h : History) (n : ℕ) → RegistersStandFor part kept d.registers h n → RegistersStandFor part kept e.registers h (n + (count - left)))
-    → count ≡ length cut → cut ≡ more ++ rest → length rest ≡ left → (e.registers.stop ≡ None → left ≡ 0)
-    → ((why : StopCause) → e.registers.stop ≡ Some why → (why ≡ stop.Fault fault.Watchdog) × (left < count))
-    → e.cutter ≡ d.cutter → e.part ≡ d.part → e.wrapped ≡ d.wrapped → e.taken ≡ d.taken + length more → due_count e.registers.due ≡ 0
+    → count ≡ length cut → cut ≡ more ++ rest → length rest ≡ left → (e.registers.values.stop ≡ None → left ≡ 0)
+    → ((why : StopCause) → e.registers.values.stop ≡ Some why → (why ≡ stop.Fault fault.Watchdog) × (left < count))
+    → e.cutter ≡ d.cutter → e.part ≡ d.part → e.wrapped ≡ d.wrapped → e.taken ≡ d.taken + length more → due_count e.registers.values.due ≡ 0
     → DeviceStandsFor part kept wrapped e (bytes ++ more) × (reads_of part kept (bytes ++ more) ≡ reads_of part kept bytes) × (history_of (bytes ++ more) ≡ history_of bytes)
 passed part kept wrapped d e bytes cut more rest count left s going quiet idles stands k j l g f c p y t due =
     let none : first_stop_of_bytes part kept bytes ≡ None = s.stop_is ∙ ap (stop_at_place (length bytes)) going in
@@ -58,13 +58,13 @@ passed part kept wrapped d e bytes cut more rest count left s going quiet idles 
     sym (prefix_of (bytes ++ more) rest fits) ∙ ap (until m) (ap history_of joined ∙ whole)
     ∙ until_placed m h (placed_within (length bytes) m h (omega (arith, length-append bytes more)) placed) in
     let after : RegistersStandFor part kept e.registers h m = subst (λ (x : ℕ). RegistersStandFor part kept e.registers h x) count_is (stands h (length bytes) before) in
-    let stops : first_stop_of_bytes part kept (bytes ++ more) ≡ stop_at_place m e.registers.stop = ap (λ (x : History). first_stop_of_history part kept x m) prefix ∙ after.stop in
-    let all : until (counted_in e.registers.stop m) h ≡ h =
-    subst (λ (x : ℕ). until (counted_in e.registers.stop x) h ≡ h) count_is (quiet_until e.registers.stop (length bytes) count left h f placed) in
+    let stops : first_stop_of_bytes part kept (bytes ++ more) ≡ stop_at_place m e.registers.values.stop = ap (λ (x : History). first_stop_of_history part kept x m) prefix ∙ after.stop in
+    let all : until (counted_in e.registers.values.stop m) h ≡ h =
+    subst (λ (x : ℕ). until (counted_in e.registers.values.stop x) h ≡ h) count_is (quiet_until e.registers.values.stop (length bytes) count left h f placed) in
     let new : history_taken part kept (bytes ++ more) ≡ h =
     ap (λ o. history_by o (history_of (bytes ++ more))) stops
-    ∙ ap (history_by (stop_at_place m e.registers.stop)) (prefix ∙ sym (until_placed m h (placed_within (length bytes) m h (omega (arith, length-append bytes more)) placed)))
-    ∙ history_until e.registers.stop m h ∙ all in
+    ∙ ap (history_by (stop_at_place m e.registers.values.stop)) (prefix ∙ sym (until_placed m h (placed_within (length bytes) m h (omega (arith, length-append bytes more)) placed)))
+    ∙ history_until e.registers.values.stop m h ∙ all in
     let known : reads_of part kept (bytes ++ more) ≡ reads_of part kept bytes = ap (read_out part kept) new ∙ ap (read_out part kept) (sym old) in (
       record {
         fits = here;
@@ -79,7 +79,7 @@ passed part kept wrapped d e bytes cut more rest count left s going quiet idles 
           stands = subst (λ (x : CutterState). CutterStandsFor x (bytes ++ more) cutter.sessions i.new_place) (sym c)
               (subst (λ (x : List ℕ). CutterStandsFor d.cutter (bytes ++ x) cutter.sessions i.new_place) (sym (no_rest cut more rest j (l ∙ g o))) i.stands);
         };
-        due_are = record { given = reads_of part kept bytes; all = known ∙ no_word_due (reads_of part kept bytes) part (history_taken part kept (bytes ++ more)) e.registers.due due };
+        due_are = record { given = reads_of part kept bytes; all = known ∙ no_word_due (reads_of part kept bytes) part (history_taken part kept (bytes ++ more)) e.registers.values.due due };
         none_due_at_stop = λ why o. due;
       },
       known,
@@ -87,7 +87,7 @@ passed part kept wrapped d e bytes cut more rest count left s going quiet idles 
     )
 
 -- the words given stay where none is due before or after
-pub given_same : (part : PartData) (kept : Kept) (d e : DeviceState) (bytes more : List ℕ) → due_count d.registers.due ≡ 0 → due_count e.registers.due ≡ 0 → reads_of part kept more ≡ reads_of part kept bytes → reads_given part kept e more ≡ reads_given part kept d bytes
+pub given_same : (part : PartData) (kept : Kept) (d e : DeviceState) (bytes more : List ℕ) → due_count d.registers.values.due ≡ 0 → due_count e.registers.values.due ≡ 0 → reads_of part kept more ≡ reads_of part kept bytes → reads_given part kept e more ≡ reads_given part kept d bytes
 given_same part kept d e bytes more i j r =
-    given_by part kept e more (reads_of part kept bytes) [] (r ∙ no_word_due (reads_of part kept bytes) part [] e.registers.due j)
-    ∙ sym (given_by part kept d bytes (reads_of part kept bytes) [] (no_word_due (reads_of part kept bytes) part [] d.registers.due i))
+    given_by part kept e more (reads_of part kept bytes) [] (r ∙ no_word_due (reads_of part kept bytes) part [] e.registers.values.due j)
+    ∙ sym (given_by part kept d bytes (reads_of part kept bytes) [] (no_word_due (reads_of part kept bytes) part [] d.registers.values.due i))

@@ -1,10 +1,13 @@
 -- A device has a past, and goes on from it.
 use Rattle.std.proofs.Common.{◌≡◌, ℕ, Bool, true, List, refl, sym, subst, ap, ◌∙◌}
+use Rattle.x7_packets.specs.Cutter.{CutterState}
 use Rattle.x7_part.specs.Part.{PartData}
+use Rattle.x7_flow.specs.Saved.{FramesBack}
+use Rattle.x7_flow.specs.Standing.{FramesState}
 use Rattle.x7_engine.specs.declared.kept.Kept.{Kept}
 use Rattle.x7_engine.specs.Past.{ForEachPast, HasSomePast, Past, TakesJust, later, past_of}
 use Rattle.x7_engine.specs.Standing.{DeviceState, DeviceStandsFor, with_wrap}
-use Rattle.x7_engine.specs.Undo.{AreEqualButForFed}
+use Rattle.x7_engine.specs.Undo.{AreEqualButForFed, UndoLeadsBack, UndoState}
 
 -- the past of a device, by the device's own part
 pub own_past : (d : DeviceState) (s : HasSomePast d) → DeviceStandsFor d.part s.past.kept s.past.wrapped d s.past.bytes
@@ -62,3 +65,13 @@ equal_back d e part cutter registers wrapped taken =
     ∙ ap (λ x. record d { part = e.part; cutter = e.cutter; registers = x }) registers
     ∙ ap (λ x. record d { part = e.part; cutter = e.cutter; registers = e.registers; wrapped = x }) wrapped
     ∙ ap (λ x. record d { part = e.part; cutter = e.cutter; registers = e.registers; wrapped = e.wrapped; taken = x }) taken
+
+-- a device is undone to the old one to which what was saved leads back; `here` and `saved` are the fields of the device
+-- before and of what was saved
+pub undone : (here now old : DeviceState) (saved u : UndoState) (cutter : CutterState) (frames : FramesState) → here ≡ now → saved ≡ u → cutter ≡ saved.cutter → UndoLeadsBack u now old
+    → (FramesBack here.part saved.frames here.registers.frames old.registers.frames → frames ≡ old.registers.frames)
+    → AreEqualButForFed (record { part = here.part; cutter = cutter; registers = record { values = saved.values; frames = frames }; wrapped = saved.wrapped; taken = saved.taken; fed = here.fed }) old
+undone here now old saved u cutter frames same_device same_undo same_cutter back restored =
+    let b : UndoLeadsBack saved here old = subst (λ (x : DeviceState). UndoLeadsBack saved x old) (sym same_device) (subst (λ (x : UndoState). UndoLeadsBack x now old) (sym same_undo) back) in
+    let f : frames ≡ old.registers.frames = restored (subst (λ (p : PartData). FramesBack p saved.frames here.registers.frames old.registers.frames) (sym b.part) b.frames) in
+    equal_back _ old b.part (same_cutter ∙ b.values.cutter) (ap (λ v. record { values = v; frames = frames }) b.values.values ∙ ap (λ x. record { values = old.registers.values; frames = x }) f) b.values.wrapped b.values.taken

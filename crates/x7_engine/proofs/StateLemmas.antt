@@ -32,12 +32,12 @@ taken_at_end n None = refl
 taken_at_end n (Some why) = refl
 
 -- why the bytes stop a device is what the device holds
-pub why_is : (part : PartData) (kept : Kept) (wrapped : Bool) (d : DeviceState) (bytes : List ℕ) → DeviceStandsFor part kept wrapped d bytes → why_stopped (first_stop_of_bytes part kept bytes) ≡ d.registers.stop
-why_is part kept wrapped d bytes s = ap why_stopped s.stop_is ∙ why_at_end (length bytes) d.registers.stop
+pub why_is : (part : PartData) (kept : Kept) (wrapped : Bool) (d : DeviceState) (bytes : List ℕ) → DeviceStandsFor part kept wrapped d bytes → why_stopped (first_stop_of_bytes part kept bytes) ≡ d.registers.values.stop
+why_is part kept wrapped d bytes s = ap why_stopped s.stop_is ∙ why_at_end (length bytes) d.registers.values.stop
 
 -- all bytes are taken
 pub taken_is : (part : PartData) (kept : Kept) (wrapped : Bool) (d : DeviceState) (bytes : List ℕ) → DeviceStandsFor part kept wrapped d bytes → taken_of part kept bytes ≡ length bytes
-taken_is part kept wrapped d bytes s = ap (λ (o : Option Stopped). taken_by o (length bytes)) s.stop_is ∙ taken_at_end (length bytes) d.registers.stop
+taken_is part kept wrapped d bytes s = ap (λ (o : Option Stopped). taken_by o (length bytes)) s.stop_is ∙ taken_at_end (length bytes) d.registers.values.stop
 
 -- where no word of frame data is due, FAR is that of all words
 pub state_now : (part : PartData) (kept : Kept) (wrapped : Bool) (bytes : List ℕ) → state_owing part kept wrapped bytes 0 ≡ state_of part kept wrapped bytes

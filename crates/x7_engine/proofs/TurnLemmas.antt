@@ -114,9 +114,9 @@ newest_within n [] p = omega arith
 newest_within n (e ∷ h) p = p.1
 
 -- the registers after bytes at none of which the watchdog fires
-pub ticked : (part : PartData) (kept : Kept) (d : RegistersState) (clock : ClockState) (h : History) (n count m : ℕ) → m ≡ n + count → d.stop ≡ None → RegistersStandFor part kept d h n → ClockTakes (course_at part kept h n) clock count None
-    → RegistersStandFor part kept (record d { clock = clock }) h m
-ticked part kept d clock h n count m i e s t = subst (λ (x : ℕ). RegistersStandFor part kept (record d { clock = clock }) h x) (sym i) record {
+pub ticked : (part : PartData) (kept : Kept) (d : RegistersState) (clock : ClockState) (h : History) (n count m : ℕ) → m ≡ n + count → d.values.stop ≡ None → RegistersStandFor part kept d h n → ClockTakes (course_at part kept h n) clock count None
+    → RegistersStandFor part kept (record d { values = record d.values { clock = clock } }) h m
+ticked part kept d clock h n count m i e s t = subst (λ (x : ℕ). RegistersStandFor part kept (record d { values = record d.values { clock = clock } }) h x) (sym i) record {
   places = placed_within n (n + count) h (omega arith) s.places;
   words = s.words;
   controls = s.controls;
@@ -147,18 +147,18 @@ fires_last part kept h n count k a b e =
     ]
 
 -- the frames stay where the watchdog fires
-frames_fired : (part : PartData) (d : RegistersState) (h : History) (due : ℕ) → d.stop ≡ None → FramesAre part d.frames d.stop h due → FramesAre part d.frames (Some (stop.Fault fault.Watchdog)) h due
+frames_fired : (part : PartData) (d : RegistersState) (h : History) (due : ℕ) → d.values.stop ≡ None → FramesAre part d.frames d.values.stop h due → FramesAre part d.frames (Some (stop.Fault fault.Watchdog)) h due
 frames_fired part d h due e s =
     let now : FramesAre part d.frames None h due = subst (λ (o : Option StopCause). FramesAre part d.frames o h due) e s in
     record { stands = now.stands; memory_same = now.memory_same; far_same = now.far_same }
 
 -- the registers after bytes up to the one at which the watchdog fires
-pub fired : (part : PartData) (kept : Kept) (d : RegistersState) (clock : ClockState) (h : History) (n count k m : ℕ) → m ≡ n + k → d.stop ≡ None → RegistersStandFor part kept d h n → ClockTakes (course_at part kept h n) clock count (Some k)
-    → RegistersStandFor part kept (record d { clock = clock; stop = Some (stop.Fault fault.Watchdog) }) h m
+pub fired : (part : PartData) (kept : Kept) (d : RegistersState) (clock : ClockState) (h : History) (n count k m : ℕ) → m ≡ n + k → d.values.stop ≡ None → RegistersStandFor part kept d h n → ClockTakes (course_at part kept h n) clock count (Some k)
+    → RegistersStandFor part kept (record d { values = record d.values { clock = clock; stop = Some (stop.Fault fault.Watchdog) } }) h m
 fired part kept d clock h n count k m i e s t =
     let rest : n + count ≡ n + k + (count - k) = omega (arith, t.1) in
     let first : first_firing part kept h n k ≡ Some (n + k) = fires_last part kept h n count k t.0 t.1 t.3 in
-    subst (λ (x : ℕ). RegistersStandFor part kept (record d { clock = clock; stop = Some (stop.Fault fault.Watchdog) }) h x) (sym i) record {
+    subst (λ (x : ℕ). RegistersStandFor part kept (record d { values = record d.values { clock = clock; stop = Some (stop.Fault fault.Watchdog) } }) h x) (sym i) record {
       places = placed_within n (n + k) h (omega arith) s.places;
       words = s.words;
       controls = s.controls;
@@ -170,12 +170,12 @@ fired part kept d clock h n count k m i e s t =
           stop_more_bytes part kept h n k (newest_within n h s.places)
           ∙ ap (λ (o : Option Stopped). option_or o (stop_at_firing (first_firing part kept h n k))) (s.stop ∙ ap (stop_at_place n) e)
           ∙ ap stop_at_firing first;
-      frames = frames_fired part d h (frames_due d.due) e s.frames;
+      frames = frames_fired part d h (frames_due d.values.due) e s.frames;
       due_kind = s.due_kind;
     }
 
 -- the registers are those of all accesses up to the last byte that counts
-pub all_counted : (part : PartData) (kept : Kept) (d : RegistersState) (h : History) (m : ℕ) → counted_in d.stop m ≡ m → RegistersStandFor part kept d h m → RegistersStandFor part kept d (until (counted_in d.stop m) h) m
+pub all_counted : (part : PartData) (kept : Kept) (d : RegistersState) (h : History) (m : ℕ) → counted_in d.values.stop m ≡ m → RegistersStandFor part kept d h m → RegistersStandFor part kept d (until (counted_in d.values.stop m) h) m
 all_counted part kept d h m e s = subst (λ (t : History). RegistersStandFor part kept d t m) (sym (ap (λ (k : ℕ). until k h) e ∙ until_placed m h s.places)) s
 
 -- at a firing of the watchdog a word that ends there, or after it, enters no access
@@ -223,7 +223,7 @@ none_there (Some x) e = absurd cc
 pub next_at : (n count : ℕ) (h : History) → 0 < count → Placed n h → IsNextAccess (n + count) h
 next_at n count h l p = (omega (arith, l), placed_within n (n + count - 1) h (omega (arith, l)) p)
 
-pub until_all : (part : PartData) (kept : Kept) (d : RegistersState) (h : History) (m : ℕ) → counted_in d.stop m ≡ m → RegistersStandFor part kept d h m → until (counted_in d.stop m) h ≡ h
+pub until_all : (part : PartData) (kept : Kept) (d : RegistersState) (h : History) (m : ℕ) → counted_in d.values.stop m ≡ m → RegistersStandFor part kept d h m → until (counted_in d.values.stop m) h ≡ h
 until_all part kept d h m e s = ap (λ (k : ℕ). until k h) e ∙ until_placed m h s.places
 
 -- where a byte is taken, no access before it is left out

@@ -79,16 +79,16 @@ module _ (part : PartData) (kept : Kept) (wrapped : Bool) (u : UndoState) (old n
   frames_more : SavesFrames part u.frames old.registers.frames → FramesFit part old.registers.frames → FramesFit part new.registers.frames → NoWordDue old → length more ≤ 4 → 0 < length more
       → DeviceStandsFor part kept wrapped old bytes → DeviceStandsFor part kept wrapped new (bytes ++ more) → FramesBack part u.frames new.registers.frames old.registers.frames
   frames_more k o n none few some s t =
-      let going : old.registers.stop ≡ None = no_stop part kept bytes more old.registers.stop new.registers.stop t.fits some s.stop_is t.stop_is in
+      let going : old.registers.values.stop ≡ None = no_stop part kept bytes more old.registers.values.stop new.registers.values.stop t.fits some s.stop_is t.stop_is in
       let before : first_stop_of_bytes part kept bytes ≡ None = s.stop_is ∙ ap (stop_at_place (length bytes)) going in
       let h : History = history_of bytes in
       let taken : history_taken part kept bytes ≡ h = going_taken part kept bytes before in
       let stands : FramesStandFor part old.registers.frames h 0 =
-      subst (λ (k : ℕ). FramesStandFor part old.registers.frames h k) (none_frames old.registers.due none)
-      (subst (λ (x : History). FramesStandFor part old.registers.frames x (frames_due old.registers.due)) taken
-      (frames_of part old.registers.frames old.registers.stop (history_taken part kept bytes) (frames_due old.registers.due) (goes_on old.registers.stop going) s.registers_are.frames)) in
+      subst (λ (k : ℕ). FramesStandFor part old.registers.frames h k) (none_frames old.registers.values.due none)
+      (subst (λ (x : History). FramesStandFor part old.registers.frames x (frames_due old.registers.values.due)) taken
+      (frames_of part old.registers.frames old.registers.values.stop (history_taken part kept bytes) (frames_due old.registers.values.due) (goes_on old.registers.values.stop going) s.registers_are.frames)) in
       let memory : HaveSameFrames (frame_at part new.registers.frames.memory) (memory_of_bytes part kept (bytes ++ more)) = memory_stands part kept wrapped new (bytes ++ more) t in
-      elim (taken_one part kept bytes more new.registers.stop t.fits few some t.stop_is) [
+      elim (taken_one part kept bytes more new.registers.values.stop t.fits few some t.stop_is) [
         | inl same ↦
             back_same part u.frames old.registers.frames new.registers.frames k o n
             (λ far. memory far ∙ ap (λ (x : History). memory_of part x far) (same ∙ sym taken) ∙ sym (memory_stands part kept wrapped old bytes s far))

@@ -220,7 +220,7 @@ going_before part kept wrapped d bytes more s some = by (first_stop_of_bytes par
     by None e = e
     by (Some t) e =
         let stays : first_stop_of_bytes part kept (bytes ++ more) ≡ Some t = stop_is_final_stop part kept bytes more t s.fits e in
-        let last : t.place ≡ length (bytes ++ more) = at_last d.registers.stop t (sym s.stop_is ∙ stays) in
+        let last : t.place ≡ length (bytes ++ more) = at_last d.registers.values.stop t (sym s.stop_is ∙ stays) in
         let count : length (bytes ++ more) ≡ length bytes + length more = length-append bytes more in
         no_stop_before part kept bytes more t s.fits stays (omega (arith, last, count, some))
 
@@ -292,7 +292,7 @@ turn_stands : (part : PartData) (kept : Kept) (wrapped : Bool) (d : DeviceState)
     → DeviceStandsFor part kept wrapped d (bytes ++ between (take end piece) from to) → DeviceStandsFor part kept wrapped d (bytes ++ between piece from to)
 turn_stands part kept wrapped d bytes piece end from to m l k s = subst (λ (t : List ℕ). DeviceStandsFor part kept wrapped d (bytes ++ t)) (in_slice piece end from to m l k) s
 
-pub turn_first : (part : PartData) (kept : Kept) (wrapped : Bool) (d e : DeviceState) (bytes piece : List ℕ) (end from to : ℕ) → end ≤ length piece → from ≤ to → to ≤ length (take end piece) → d.registers.stop ≡ None
+pub turn_first : (part : PartData) (kept : Kept) (wrapped : Bool) (d e : DeviceState) (bytes piece : List ℕ) (end from to : ℕ) → end ≤ length piece → from ≤ to → to ≤ length (take end piece) → d.registers.values.stop ≡ None
     → DeviceStandsFor part kept wrapped d bytes → DeviceStandsFor part kept wrapped e (bytes ++ between (take end piece) from to) → CommandsLast bytes (between (take end piece) from to)
     → HasNotBegun part kept bytes ⊎ (end ≤ from + soonest_end (state_of part kept wrapped bytes).phase) → has_started part kept bytes ≡ false → NoneStarted part kept bytes (between piece from to) (to - from)
 turn_first part kept wrapped d e bytes piece end from to m l k going s after f b not =
@@ -320,7 +320,7 @@ pub none_on : (part : PartData) (kept : Kept) (bytes piece : List ℕ) (from to 
 none_on part kept bytes piece from to l f g = holds_on (λ t. has_started part kept t ≡ false) bytes piece from to l f g
 
 -- a turn of a device in which startup hasn't begun
-pub unbegun_on : (part : PartData) (kept : Kept) (wrapped : Bool) (d e : DeviceState) (bytes piece : List ℕ) (from to : ℕ) → from ≤ to → to ≤ length piece → d.registers.stop ≡ None → DeviceStandsFor part kept wrapped d (bytes ++ take from piece)
+pub unbegun_on : (part : PartData) (kept : Kept) (wrapped : Bool) (d e : DeviceState) (bytes piece : List ℕ) (from to : ℕ) → from ≤ to → to ≤ length piece → d.registers.values.stop ≡ None → DeviceStandsFor part kept wrapped d (bytes ++ take from piece)
     → DeviceStandsFor part kept wrapped e ((bytes ++ take from piece) ++ between piece from to) → CommandsLast (bytes ++ take from piece) (between piece from to) → HasNotBegun part kept (bytes ++ take from piece)
     → NoneBegun part kept bytes piece from → NoneBegun part kept bytes piece to
 unbegun_on part kept wrapped d e bytes piece from to l m going s after f unbegun before =
@@ -332,11 +332,11 @@ unbegun_on part kept wrapped d e bytes piece from to l m going s after f unbegun
 -- ---- what a device keeps of it
 
 -- startup that the device keeps as not begun hasn't begun
-pub unbegun : (part : PartData) (kept : Kept) (wrapped : Bool) (d : DeviceState) (bytes : List ℕ) → DeviceStandsFor part kept wrapped d bytes → is_some d.registers.clock.startup.begun_with ≡ false → HasNotBegun part kept bytes
+pub unbegun : (part : PartData) (kept : Kept) (wrapped : Bool) (d : DeviceState) (bytes : List ℕ) → DeviceStandsFor part kept wrapped d bytes → is_some d.registers.values.clock.startup.begun_with ≡ false → HasNotBegun part kept bytes
 unbegun part kept wrapped d bytes s e =
     let n : ℕ = taken_of part kept bytes in
-    let stands : StandsForCalls part.lock part.matched d.registers.clock.startup (startup_calls (history_taken part kept bytes) n) =
-    subst (λ (k : ℕ). StandsForCalls part.lock part.matched d.registers.clock.startup (startup_calls (history_taken part kept bytes) k)) (sym (taken_is part kept wrapped d bytes s)) s.registers_are.clock.startup in
+    let stands : StandsForCalls part.lock part.matched d.registers.values.clock.startup (startup_calls (history_taken part kept bytes) n) =
+    subst (λ (k : ℕ). StandsForCalls part.lock part.matched d.registers.values.clock.startup (startup_calls (history_taken part kept bytes) k)) (sym (taken_is part kept wrapped d bytes s)) s.registers_are.clock.startup in
     by (startup_progress (history_taken part kept bytes) n) (ap is_some (sym stands.stores.begun_with_is) ∙ e)
   where
     by : (p : StartupProgress) → is_some (cor0_of p) ≡ false → p ≡ NotBegun

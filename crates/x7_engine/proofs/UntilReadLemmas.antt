@@ -32,7 +32,7 @@ writes_read_none part kept (e ∷ newer) h w =
 pub reads_going : (part : PartData) (kept : Kept) (bytes : List ℕ) → first_stop_of_bytes part kept bytes ≡ None → reads_of part kept bytes ≡ read_out part kept (history_of bytes)
 reads_going part kept bytes none = ap (λ (o : Option Stopped). read_out part kept (history_by o (history_of bytes))) none
 
-turn_reads_none : (part : PartData) (kept : Kept) (wrapped : Bool) (d e : DeviceState) (bytes more : List ℕ) → d.registers.stop ≡ None → DeviceStandsFor part kept wrapped d bytes → DeviceStandsFor part kept wrapped e (bytes ++ more) → CommandsLast bytes more
+turn_reads_none : (part : PartData) (kept : Kept) (wrapped : Bool) (d e : DeviceState) (bytes more : List ℕ) → d.registers.values.stop ≡ None → DeviceStandsFor part kept wrapped d bytes → DeviceStandsFor part kept wrapped e (bytes ++ more) → CommandsLast bytes more
     → (k : ℕ) → k < length more → reads_of part kept (bytes ++ take k more) ≡ reads_of part kept bytes
 turn_reads_none part kept wrapped d e bytes more going s after f k l =
     let prefix : List ℕ = take k more in
@@ -44,7 +44,7 @@ turn_reads_none part kept wrapped d e bytes more going s after f k l =
     reads_going part kept (bytes ++ prefix) none ∙ ap (read_out part kept) q.1 ∙ writes_read_none part kept q.0 (history_of bytes) q.2 ∙ sym (reads_going part kept bytes before)
 
 -- in a turn of a piece, at each byte but its last, the words read out are those given
-turn_piece : (part : PartData) (kept : Kept) (wrapped : Bool) (d e : DeviceState) (bytes piece : List ℕ) (from to k : ℕ) → from ≤ to → to ≤ length piece → d.registers.stop ≡ None → NoWordDue d
+turn_piece : (part : PartData) (kept : Kept) (wrapped : Bool) (d e : DeviceState) (bytes piece : List ℕ) (from to k : ℕ) → from ≤ to → to ≤ length piece → d.registers.values.stop ≡ None → NoWordDue d
     → DeviceStandsFor part kept wrapped d (bytes ++ take from piece) → DeviceStandsFor part kept wrapped e ((bytes ++ take from piece) ++ between piece from to) → CommandsLast (bytes ++ take from piece) (between piece from to)
     → from ≤ k → k < to → reads_of part kept (bytes ++ take k piece) ≡ reads_given part kept d (bytes ++ take from piece)
 turn_piece part kept wrapped d e bytes piece from to k l m going due s after f more n =
@@ -64,7 +64,7 @@ room_for b more f = by b.most b.words more f
     by (Some most) words more f = omega (arith, f, length-append words more)
 
 -- the words given before and those that the buffer has got, at each byte of a turn but its last
-pub room_read_on : (part : PartData) (kept : Kept) (wrapped : Bool) (d e : DeviceState) (first read : ReadBufState) (bytes piece known : List ℕ) (from to : ℕ) → from ≤ to → to ≤ length piece → d.registers.stop ≡ None → NoWordDue d
+pub room_read_on : (part : PartData) (kept : Kept) (wrapped : Bool) (d e : DeviceState) (first read : ReadBufState) (bytes piece known : List ℕ) (from to : ℕ) → from ≤ to → to ≤ length piece → d.registers.values.stop ≡ None → NoWordDue d
     → DeviceStandsFor part kept wrapped d (bytes ++ take from piece) → DeviceStandsFor part kept wrapped e ((bytes ++ take from piece) ++ between piece from to) → CommandsLast (bytes ++ take from piece) (between piece from to)
     → HoldsWithinMost read.most read.words → ((more : List ℕ) × (read ≡ with_words first more) × (reads_given part kept d (bytes ++ take from piece) ≡ known ++ more))
     → RoomBefore (record { part = part; kept = kept; wrapped = wrapped; bytes = bytes }) piece from known first → RoomBefore (record { part = part; kept = kept; wrapped = wrapped; bytes = bytes }) piece to known first

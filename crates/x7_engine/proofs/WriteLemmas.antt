@@ -68,10 +68,10 @@ written_last bytes more register w count fits placed longer = λ k l.
     )
 
 -- the device after the write of one word
-pub write_taken : (part : PartData) (kept : Kept) (wrapped : Bool) (d e : DeviceState) (bytes rest : List ℕ) (register w : ℕ) → DeviceStandsFor part kept wrapped d bytes → d.registers.stop ≡ None
-    → d.registers.clock.startup.begun_with ≡ None → d.registers.clock.watchdog.limit ≡ 0 → WritesOne d.cutter e.cutter rest register w
+pub write_taken : (part : PartData) (kept : Kept) (wrapped : Bool) (d e : DeviceState) (bytes rest : List ℕ) (register w : ℕ) → DeviceStandsFor part kept wrapped d bytes → d.registers.values.stop ≡ None
+    → d.registers.values.clock.startup.begun_with ≡ None → d.registers.values.clock.watchdog.limit ≡ 0 → WritesOne d.cutter e.cutter rest register w
     → ((h : History) (place : ℕ) → IsNextAccess place h → RegistersStandFor part kept d.registers h place → RegistersStandFor part kept e.registers (entry (Write register w) place ∷ h) place)
-    → ((n : ℕ) → counted_in e.registers.stop n ≡ n) → due_count e.registers.due ≡ 0 → e.part ≡ d.part → e.wrapped ≡ d.wrapped → e.taken ≡ d.taken + 8
+    → ((n : ℕ) → counted_in e.registers.values.stop n ≡ n) → due_count e.registers.values.due ≡ 0 → e.part ≡ d.part → e.wrapped ≡ d.wrapped → e.taken ≡ d.taken + 8
     → DeviceStandsFor part kept wrapped e (bytes ++ take 8 rest) × (reads_of part kept (bytes ++ take 8 rest) ≡ reads_of part kept bytes) × CommandsLast bytes (take 8 rest)
 write_taken part kept wrapped d e bytes rest register w s going begun limit one write counts due p y t =
     let none : first_stop_of_bytes part kept bytes ≡ None = s.stop_is ∙ ap (stop_at_place (length bytes)) going in
@@ -85,14 +85,14 @@ write_taken part kept wrapped d e bytes rest register w s going begun limit one 
     let is : Written e.cutter bytes (take 8 rest) register w = written_one d.cutter e.cutter bytes rest register w (s.cutter_is going) one in
     let longer : History = entry (Write register w) m ∷ h in
     let idle : RegistersStandFor part kept d.registers h m =
-    ticked part kept d.registers d.registers.clock h (length bytes) 8 m refl going before (idle_ticks part kept d.registers.clock h (length bytes) 8 (newest_within (length bytes) h before.places) begun limit before.clock) in
+    ticked part kept d.registers d.registers.values.clock h (length bytes) 8 m refl going before (idle_ticks part kept d.registers.values.clock h (length bytes) 8 (newest_within (length bytes) h before.places) begun limit before.clock) in
     let after : RegistersStandFor part kept e.registers longer m = write h m (next_at (length bytes) 8 h (omega arith) before.places) idle in
     let here : RegistersStandFor part kept e.registers longer (length all) = subst (λ (k : ℕ). RegistersStandFor part kept e.registers longer k) (sym count) after in
-    let stops : first_stop_of_bytes part kept all ≡ stop_at_place (length all) e.registers.stop = ap (λ (x : History). first_stop_of_history part kept x (length all)) is.history ∙ here.stop in
+    let stops : first_stop_of_bytes part kept all ≡ stop_at_place (length all) e.registers.values.stop = ap (λ (x : History). first_stop_of_history part kept x (length all)) is.history ∙ here.stop in
     let taken : history_taken part kept all ≡ longer =
     ap (λ o. history_by o (history_of all)) stops
-    ∙ ap (history_by (stop_at_place (length all) e.registers.stop)) (is.history ∙ sym (until_placed (length all) longer here.places))
-    ∙ history_until e.registers.stop (length all) longer
+    ∙ ap (history_by (stop_at_place (length all) e.registers.values.stop)) (is.history ∙ sym (until_placed (length all) longer here.places))
+    ∙ history_until e.registers.values.stop (length all) longer
     ∙ ap (λ (k : ℕ). until k longer) (counts (length all)) ∙ until_placed (length all) longer here.places in
     let known : reads_of part kept all ≡ reads_of part kept bytes = ap (read_out part kept) taken ∙ append-nil (read_out part kept h) ∙ ap (read_out part kept) (sym old) in (
       record {
@@ -103,7 +103,7 @@ write_taken part kept wrapped d e bytes rest register w s going begun limit one 
         stop_is = stops;
         registers_are = subst (λ (x : History). RegistersStandFor part kept e.registers x (length all)) (sym taken) here;
         cutter_is = λ o. is.cutter;
-        due_are = record { given = reads_of part kept bytes; all = known ∙ no_word_due (reads_of part kept bytes) part (history_taken part kept all) e.registers.due due };
+        due_are = record { given = reads_of part kept bytes; all = known ∙ no_word_due (reads_of part kept bytes) part (history_taken part kept all) e.registers.values.due due };
         none_due_at_stop = λ why o. due;
       },
       known,
@@ -111,10 +111,10 @@ write_taken part kept wrapped d e bytes rest register w s going begun limit one 
     )
 
 -- the device after the write of one word at a place of a piece
-pub write_at : (part : PartData) (kept : Kept) (wrapped : Bool) (d e : DeviceState) (bytes piece : List ℕ) (from register w : ℕ) → DeviceStandsFor part kept wrapped d bytes → d.registers.stop ≡ None
-    → d.registers.clock.startup.begun_with ≡ None → d.registers.clock.watchdog.limit ≡ 0 → WritesOne d.cutter e.cutter (take (length piece - from) (drop from piece)) register w
+pub write_at : (part : PartData) (kept : Kept) (wrapped : Bool) (d e : DeviceState) (bytes piece : List ℕ) (from register w : ℕ) → DeviceStandsFor part kept wrapped d bytes → d.registers.values.stop ≡ None
+    → d.registers.values.clock.startup.begun_with ≡ None → d.registers.values.clock.watchdog.limit ≡ 0 → WritesOne d.cutter e.cutter (take (length piece - from) (drop from piece)) register w
     → ((h : History) (place : ℕ) → IsNextAccess place h → RegistersStandFor part kept d.registers h place → RegistersStandFor part kept e.registers (entry (Write register w) place ∷ h) place)
-    → ((n : ℕ) → counted_in e.registers.stop n ≡ n) → due_count e.registers.due ≡ 0 → e.part ≡ d.part → e.wrapped ≡ d.wrapped → e.taken ≡ d.taken + 8
+    → ((n : ℕ) → counted_in e.registers.values.stop n ≡ n) → due_count e.registers.values.due ≡ 0 → e.part ≡ d.part → e.wrapped ≡ d.wrapped → e.taken ≡ d.taken + 8
     → (let more : List ℕ = between piece from (from + 8) in DeviceStandsFor part kept wrapped e (bytes ++ more) × (reads_of part kept (bytes ++ more) ≡ reads_of part kept bytes) × CommandsLast bytes more)
 write_at part kept wrapped d e bytes piece from register w s going begun limit one write counts due p y t =
     let count : 8 ≡ from + 8 - from = omega arith in

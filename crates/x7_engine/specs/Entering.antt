@@ -45,7 +45,7 @@ EntersHistory x longer taken = ForEachHistory x.part x.old (λ kept h n. Registe
 
 -- the longer history without what comes after the `taken` bytes, and without a word that ends where the watchdog fired
 abbrev pub up_to_stop : RegistersState → Extension → ℕ → Extension
-up_to_stop new longer taken n h = until (counted_in new.stop (n + taken)) (longer n h)
+up_to_stop new longer taken n h = until (counted_in new.values.stop (n + taken)) (longer n h)
 
 -- where a condition holds, `taken` bytes were taken, and the history that the registers stand for became the longer one
 abbrev pub EntersHistoryIf : Type 0 → Change → Extension → ℕ → Type 0
@@ -68,7 +68,7 @@ AreRead part kept h longer due = read_out part kept longer ≡ read_out part kep
 -- change, and no others
 abbrev pub ReadsIf : Type 0 → Change → Extension → Type 0
 ReadsIf Condition x longer =
-    (kept : Kept) (h : History) (n : ℕ) → Condition → RegistersStandFor x.part kept x.old h n → AreRead x.part kept h (longer n h) x.new.due
+    (kept : Kept) (h : History) (n : ℕ) → Condition → RegistersStandFor x.part kept x.old h n → AreRead x.part kept h (longer n h) x.new.values.due
 
 -- the words that an access reads out are those due
 abbrev pub AreReadBy : PartData → Kept → History → Entry → Due → Type 0
@@ -100,9 +100,9 @@ run_entered run from h = entered_all from (run_steps run) h
 -- stop, if there was one
 abbrev pub RunEnters : Cut → ℕ → Change → ℕ → Type 0
 RunEnters run count x taken = (kept : Kept) (h : History) (from n : ℕ) → EndsWords run from n count → RegistersStandFor x.part kept x.old h n
-    → RegistersStandFor x.part kept x.new (until (counted_in x.new.stop (n + taken)) (run_entered run from h)) (n + taken)
+    → RegistersStandFor x.part kept x.new (until (counted_in x.new.values.stop (n + taken)) (run_entered run from h)) (n + taken)
 
 -- a run, whose words entered up to the stop, if there was one, reads out the words that are due after it, and no others
 abbrev pub RunReads : Cut → ℕ → Change → ℕ → Type 0
 RunReads run count x taken = (kept : Kept) (h : History) (from n : ℕ) → EndsWords run from n count → RegistersStandFor x.part kept x.old h n
-    → AreRead x.part kept h (until (counted_in x.new.stop (n + taken)) (run_entered run from h)) x.new.due
+    → AreRead x.part kept h (until (counted_in x.new.values.stop (n + taken)) (run_entered run from h)) x.new.values.due

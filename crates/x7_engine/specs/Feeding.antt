@@ -45,9 +45,9 @@ pub record GivesWordsOfFirst (old new : DeviceAndBuffer) (piece : List ℕ) (cou
 
 -- a device that goes on gave a buffer the words due, all of them or as many as there is room for, and is else as it was
 pub record GivesWordsDue (old new : DeviceAndBuffer) : Type 0 where
-  pub full : 0 < due_count new.device.registers.due → IsFull new.buffer
+  pub full : 0 < due_count new.device.registers.values.due → IsFull new.buffer
   pub within_most : HoldsWithinMost new.buffer.most new.buffer.words
-  pub going : new.device.registers.stop ≡ None
+  pub going : new.device.registers.values.stop ≡ None
   pub part : new.device.part ≡ old.device.part
   pub taken : new.device.taken ≡ old.device.taken
   pub fed : new.device.fed ≡ old.device.fed

@@ -85,7 +85,7 @@ reads_given_at d p = reads_given p.part p.kept d p.bytes
 
 -- of the words that a device of a past reads out, those that are still due
 abbrev pub due_at : DeviceState → Past → List ℕ
-due_at d p = words_still_due p.part (history_taken_at p) d.registers.due
+due_at d p = words_still_due p.part (history_taken_at p) d.registers.values.due
 
 -- startup has ended with the bytes of a past
 abbrev pub started_at : Past → Bool
@@ -134,7 +134,7 @@ abbrev pub AnswersAt : Past → DeviceState → ReadBufState → Fed → Type 0
 AnswersAt p d read fed.All = (first_stop_at p ≡ None) × NoWordDue d
 AnswersAt p d read (fed.Stopped n) = (f : Fault) × (first_stop_at p ≡ Some (record { place = length p.bytes; why = stop.Fault f })) × NoWordDue d
 AnswersAt p d read (fed.Iprog n) = (first_stop_at p ≡ Some (record { place = length p.bytes; why = stop.Iprog })) × NoWordDue d
-AnswersAt p d read (fed.ReadFull n) = (first_stop_at p ≡ None) × (0 < due_count d.registers.due) × IsFull read
+AnswersAt p d read (fed.ReadFull n) = (first_stop_at p ≡ None) × (0 < due_count d.registers.values.due) × IsFull read
 
 -- what a feed up to the end of startup answers: where it says that startup has ended, no word is due; and else what a
 -- feed answers

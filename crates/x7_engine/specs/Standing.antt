@@ -32,6 +32,7 @@ use Rattle.x7_engine.specs.declared.progress.Progress.{Progress}
 use Rattle.x7_engine.specs.declared.registers.Registers.{Registers}
 use Rattle.x7_engine.specs.declared.stop.StopCause.{StopCause}
 use Rattle.x7_engine.specs.declared.stop.StopCause.TheVariants as stop
+use Rattle.x7_engine.specs.declared.values.Values.{Values}
 use Rattle.x7_engine.specs.Clock.{ClockState, IsClock, clock_in}
 use Rattle.x7_flow.specs.Controls.{has_idcode, masked_register}
 use Rattle.x7_flow.specs.FrameAccess.{reads_frame_data}
@@ -54,10 +55,10 @@ pub record ProgressState : Type 0 where
   pub ghigh : Bool
   pub iprog : Bool
 
--- the stored values of a device's registers: the last words written by register number, those under MASK, the check and
--- the flags, what the boot history says of the attempt, startup and the watchdog, the stop, the words that are due, and
--- the frames
-pub record RegistersState : Type 0 where
+-- the stored values of a device's registers but its frames: the last words written by register number, those under
+-- MASK, the check and the flags, what the boot history says of the attempt, startup and the watchdog, the stop, and the
+-- words that are due
+pub record ValuesState : Type 0 where
   pub words : List ℕ
   pub controls : ControlsState
   pub progress : ProgressState
@@ -66,6 +67,10 @@ pub record RegistersState : Type 0 where
   pub clock : ClockState
   pub stop : Option StopCause
   pub due : Due
+
+-- the stored values of a device's registers, and its frames
+pub record RegistersState : Type 0 where
+  pub values : ValuesState
   pub frames : FramesState
 
 -- ---- words due
@@ -128,9 +133,9 @@ controls_in d = record { ctl0 = d.ctl0; ctl1 = d.ctl1 }
 abbrev pub progress_in : Progress → ProgressState
 progress_in d = record { check = d.check; has_idcode = d.has_idcode; pending = d.pending; ghigh = d.ghigh; iprog = d.iprog }
 
--- the stored values of registers as their fields hold them
-abbrev pub registers_in : Registers → RegistersState
-registers_in d = record {
+-- the stored values of registers but their frames, as their fields hold them
+abbrev pub values_in : Values → ValuesState
+values_in d = record {
   words = d.words.last;
   controls = controls_in d.controls;
   progress = progress_in d.progress;
@@ -139,8 +144,11 @@ registers_in d = record {
   clock = clock_in d.clock;
   stop = d.stop;
   due = d.due;
-  frames = d.frames;
 }
+
+-- the stored values of registers, and their frames, as their fields hold them
+abbrev pub registers_in : Registers → RegistersState
+registers_in d = record { values = values_in d.values; frames = d.frames }
 
 -- the stored words, by register number from 0, are the last ones written; where none was, those that the reset kept,
 -- and 0 for a register that keeps none
@@ -168,15 +176,15 @@ IsNextAccess place h = (0 < place) × Placed (place - 1) h
 -- that ends at a firing of the watchdog is not of the history.
 pub record RegistersStandFor (part : PartData) (kept : Kept) (d : RegistersState) (h : History) (n : ℕ) : Type 0 where
   pub places : Placed n h
-  pub words : AreLastWords kept d.words h
-  pub controls : AreControls d.controls h
-  pub progress : IsProgress part.idcode d.progress h
-  pub kind : d.kind ≡ kept.kind
-  pub before : d.before ≡ kept.before
-  pub clock : IsClock part kept d.clock h n
-  pub stop : first_stop_of_history part kept h n ≡ stop_at_place n d.stop
-  pub frames : FramesAre part d.frames d.stop h (frames_due d.due)
-  pub due_kind : frames_due d.due ≡ frames_among h (due_count d.due)
+  pub words : AreLastWords kept d.values.words h
+  pub controls : AreControls d.values.controls h
+  pub progress : IsProgress part.idcode d.values.progress h
+  pub kind : d.values.kind ≡ kept.kind
+  pub before : d.values.before ≡ kept.before
+  pub clock : IsClock part kept d.values.clock h n
+  pub stop : first_stop_of_history part kept h n ≡ stop_at_place n d.values.stop
+  pub frames : FramesAre part d.frames d.values.stop h (frames_due d.values.due)
+  pub due_kind : frames_due d.values.due ≡ frames_among h (due_count d.values.due)
 
 -- how many of n bytes taken count for accesses, with this stop, if any
 abbrev pub counted_in : Option StopCause → ℕ → ℕ
@@ -236,15 +244,15 @@ CanBeGiven d count = d.taken + count ≤ taken_bytes_limit
 
 -- something stopped the device
 abbrev pub HasStopped : DeviceState → Type 0
-HasStopped d = IsSome d.registers.stop
+HasStopped d = IsSome d.registers.values.stop
 
 -- startup has begun, since the last shutdown taken
 abbrev pub HasBegun : DeviceState → Type 0
-HasBegun d = IsSome d.registers.clock.startup.begun_with
+HasBegun d = IsSome d.registers.values.clock.startup.begun_with
 
 -- no word that was read out is still to be given
 abbrev pub NoWordDue : DeviceState → Type 0
-NoWordDue d = due_count d.registers.due ≡ 0
+NoWordDue d = due_count d.registers.values.due ≡ 0
 
 -- a device in whose attempt the flash has ended
 abbrev pub with_wrap : DeviceState → DeviceState
@@ -252,7 +260,7 @@ with_wrap d = record d { wrapped = true }
 
 -- the flash may end here: the attempt is one of a boot, in which startup hasn't ended and which no fault that a
 -- fallback follows and no IPROG has ended, and no word is due
-pub record MayWrapWith (d : RegistersState) : Type 0 where
+pub record MayWrapWith (d : ValuesState) : Type 0 where
   pub boots : d.kind ≡ Bench → ⊥
   pub not_started : (d.clock.startup.phase == last_phase) ≡ false
   pub not_failed : failure_of (fault_of_stop d.stop) false ≡ None
@@ -261,7 +269,7 @@ pub record MayWrapWith (d : RegistersState) : Type 0 where
 
 -- the flash of this device may end here
 abbrev pub MayWrap : DeviceState → Type 0
-MayWrap d = MayWrapWith d.registers
+MayWrap d = MayWrapWith d.registers.values
 
 -- the cutter is one that took these bytes
 pub record IsCutterOf (c : CutterState) (bytes : List ℕ) : Type 0 where
@@ -270,7 +278,7 @@ pub record IsCutterOf (c : CutterState) (bytes : List ℕ) : Type 0 where
   pub stands : CutterStandsFor c bytes sessions place
 
 -- the words read out: those that were given already, and then those that are still due
-pub record AreGivenOrDue (part : PartData) (d : RegistersState) (h : History) (reads : List ℕ) : Type 0 where
+pub record AreGivenOrDue (part : PartData) (d : ValuesState) (h : History) (reads : List ℕ) : Type 0 where
   pub given : List ℕ
   pub all : reads ≡ given ++ words_still_due part h d.due
 
@@ -281,15 +289,15 @@ pub record DeviceStandsFor (part : PartData) (kept : Kept) (wrapped : Bool) (d :
   pub part_is : d.part ≡ part
   pub wrapped_is : d.wrapped ≡ wrapped
   pub taken_is : d.taken ≡ length bytes
-  pub stop_is : first_stop_of_bytes part kept bytes ≡ stop_at_place (length bytes) d.registers.stop
+  pub stop_is : first_stop_of_bytes part kept bytes ≡ stop_at_place (length bytes) d.registers.values.stop
   pub registers_are : RegistersStandFor part kept d.registers (history_taken part kept bytes) (length bytes)
-  pub cutter_is : d.registers.stop ≡ None → IsCutterOf d.cutter bytes
-  pub due_are : AreGivenOrDue part d.registers (history_taken part kept bytes) (reads_of part kept bytes)
-  pub none_due_at_stop : (why : StopCause) → d.registers.stop ≡ Some why → due_count d.registers.due ≡ 0
+  pub cutter_is : d.registers.values.stop ≡ None → IsCutterOf d.cutter bytes
+  pub due_are : AreGivenOrDue part d.registers.values (history_taken part kept bytes) (reads_of part kept bytes)
+  pub none_due_at_stop : (why : StopCause) → d.registers.values.stop ≡ Some why → due_count d.registers.values.due ≡ 0
 
 -- the words read out so far, without those that are still due
 abbrev pub reads_given : PartData → Kept → DeviceState → List ℕ → List ℕ
-reads_given part kept d bytes = take (length (reads_of part kept bytes) - due_count d.registers.due) (reads_of part kept bytes)
+reads_given part kept d bytes = take (length (reads_of part kept bytes) - due_count d.registers.values.due) (reads_of part kept bytes)
 
 -- how many bytes of a piece of this length are taken, by what a feed answers
 abbrev pub taken_in : ℕ → Fed → ℕ

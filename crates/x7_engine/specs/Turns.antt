@@ -10,7 +10,7 @@ use Rattle.x7_engine.specs.UntilStarted.{CommandsLast}
 -- can be given them
 pub record MayTakePiece (d : DeviceState) (piece : List ℕ) (at : ℕ) : Type 0 where
   pub within : at ≤ length piece
-  pub going : d.registers.stop ≡ None
+  pub going : d.registers.values.stop ≡ None
   pub no_word_due : NoWordDue d
   pub fits : CanBeGiven d (length piece - at)
 
@@ -34,12 +34,12 @@ pub record TurnMoves (old new : DeviceState) (piece : List ℕ) (from to : ℕ) 
 -- a device used up a piece: it is at the piece's end, nothing stopped it, and no word is due
 pub record IsUsedUp (d : DeviceState) (piece : List ℕ) (at : ℕ) : Type 0 where
   pub all : at ≡ length piece
-  pub going : d.registers.stop ≡ None
+  pub going : d.registers.values.stop ≡ None
   pub no_word_due : NoWordDue d
 
 -- where nothing stopped a device, the calls of its cutter that may at most be left in the piece are fewer than before
 abbrev pub HasFewerCalls : DeviceState → DeviceState → List ℕ → ℕ → ℕ → Type 0
-HasFewerCalls old new piece from to = new.registers.stop ≡ None → calls_left new.cutter (length piece - to) < calls_left old.cutter (length piece - from)
+HasFewerCalls old new piece from to = new.registers.values.stop ≡ None → calls_left new.cutter (length piece - to) < calls_left old.cutter (length piece - from)
 
 -- a device took a turn over the bytes of a piece, and used up the piece where it says so; where it doesn't and nothing
 -- stopped it, the calls of its cutter that may at most be left in the piece are fewer than before

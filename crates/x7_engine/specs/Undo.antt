@@ -1,80 +1,23 @@
 -- What is saved of a device, so that the next bytes, up to `undo_reach`, can be taken back (this project's choice).
-use Rattle.std.specs.Prelude.{◌≡◌, ℕ, ◌≤◌, Bool, List, length, Option}
+use Rattle.std.specs.Prelude.{◌≡◌, ℕ, ◌≤◌, Bool, List, length}
 use Rattle.x7_packets.specs.Cutter.{CutterState}
 use Rattle.x7_part.specs.Part.{PartData}
-use Rattle.x7_regs.specs.declared.boot_status.Attempt.{Attempt}
-use Rattle.x7_regs.specs.declared.boot_status.Kind.{Kind}
 use Rattle.x7_memory.specs.PartFrames.{zero_frames}
 use Rattle.x7_pipeline.specs.Saved.{IsSavedOf, SavedState}
 use Rattle.x7_flow.specs.Saved.{FramesBack, SavesFrames}
-use Rattle.x7_flow.specs.Standing.{FramesFit, FramesState, frames_state}
-use Rattle.x7_engine.specs.declared.due.Due.{Due}
-use Rattle.x7_engine.specs.declared.saved.SavedRegisters.{SavedRegisters}
-use Rattle.x7_engine.specs.declared.stop.StopCause.{StopCause}
-use Rattle.x7_engine.specs.Clock.{ClockState, clock_in}
+use Rattle.x7_flow.specs.Standing.{FramesFit, frames_state}
 use Rattle.x7_engine.specs.Past.{HasPast, Past, later}
-use Rattle.x7_engine.specs.Standing.{ControlsState, DeviceState, NoWordDue, ProgressState, RegistersState, controls_in, progress_in}
+use Rattle.x7_engine.specs.Standing.{DeviceState, NoWordDue, ValuesState}
 
 -- how many bytes can be taken back at most
 abbrev pub undo_reach : ℕ
 undo_reach = 4
 
--- the stored values of registers but their frames: all that `RegistersState` has beside these
-pub record SavedRegistersState : Type 0 where
-  pub words : List ℕ
-  pub controls : ControlsState
-  pub progress : ProgressState
-  pub kind : Kind
-  pub before : Option Attempt
-  pub clock : ClockState
-  pub stop : Option StopCause
-  pub due : Due
-
--- the stored values of registers without their frames
-abbrev pub without_frames : RegistersState → SavedRegistersState
-without_frames r = record {
-  words = r.words;
-  controls = r.controls;
-  progress = r.progress;
-  kind = r.kind;
-  before = r.before;
-  clock = r.clock;
-  stop = r.stop;
-  due = r.due;
-}
-
--- the stored values of saved registers as their fields hold them
-abbrev pub saved_registers_in : SavedRegisters → SavedRegistersState
-saved_registers_in s = record {
-  words = s.words.last;
-  controls = controls_in s.controls;
-  progress = progress_in s.progress;
-  kind = s.kind;
-  before = s.before;
-  clock = clock_in s.clock;
-  stop = s.stop;
-  due = s.due;
-}
-
--- registers of these stored values and frames
-abbrev pub registers_with : SavedRegistersState → FramesState → RegistersState
-registers_with v f = record {
-  words = v.words;
-  controls = v.controls;
-  progress = v.progress;
-  kind = v.kind;
-  before = v.before;
-  clock = v.clock;
-  stop = v.stop;
-  due = v.due;
-  frames = f;
-}
-
 -- what is saved of a device: each stored value but its part, its memory and how many bytes it was ever fed, and at most
 -- one frame of the memory
 pub record UndoState : Type 0 where
   pub cutter : CutterState
-  pub values : SavedRegistersState
+  pub values : ValuesState
   pub frames : SavedState
   pub wrapped : Bool
   pub taken : ℕ
@@ -88,7 +31,7 @@ abbrev pub device_saved : PartData → UndoState → DeviceState
 device_saved part u = record {
   part = part;
   cutter = u.cutter;
-  registers = registers_with u.values (frames_state u.frames.pipeline (zero_frames part));
+  registers = record { values = u.values; frames = frames_state u.frames.pipeline (zero_frames part) };
   wrapped = u.wrapped;
   taken = u.taken;
   fed = 0;
@@ -97,7 +40,7 @@ device_saved part u = record {
 -- each saved value but what is saved of the frames is that of a device
 pub record SavesValues (u : UndoState) (d : DeviceState) : Type 0 where
   pub cutter : u.cutter ≡ d.cutter
-  pub values : u.values ≡ without_frames d.registers
+  pub values : u.values ≡ d.registers.values
   pub wrapped : u.wrapped ≡ d.wrapped
   pub taken : u.taken ≡ d.taken
 

@@ -10,13 +10,13 @@ use Rattle.x7_engine.specs.Standing.{due_count}
 -- registers that can take a word: nothing stopped them, no word is due, and their
 -- frames are those of a device of the part
 pub record MayTakeWords (part : PartData) (d : Registers) : Type 0 where
-  pub going : d.stop ≡ None
-  pub no_word_due : due_count d.due ≡ 0
+  pub going : d.values.stop ≡ None
+  pub no_word_due : due_count d.values.due ≡ 0
   pub frames : FramesFit part d.frames
 
 -- a call leaves the words due as they were, and the frames are still those of a device of the part
 pub record LeavesDue (x : Change) : Type 0 where
-  pub due : x.new.due ≡ x.old.due
+  pub due : x.new.values.due ≡ x.old.values.due
   pub frames : FramesFit x.part x.new.frames
 
 -- of `count` bytes the registers took `taken`: all of them unless a stop came, and at least one where there is one
@@ -28,9 +28,9 @@ pub record TakesUpTo (count taken : ℕ) (stop : Option StopCause) : Type 0 wher
 -- of `count` bytes the registers left `left`: none of them unless a stop came
 pub record LeavesBytes (count left : ℕ) (d : Registers) : Type 0 where
   pub within : left ≤ count
-  pub goes_on : d.stop ≡ None → left ≡ 0
+  pub goes_on : d.values.stop ≡ None → left ≡ 0
 
 -- registers that a stop has stopped have no word due, and the frames are still those of a device of the part
 pub record HasNoneDueAtStop (part : PartData) (d : Registers) : Type 0 where
-  pub none_due_at_stop : (why : StopCause) → d.stop ≡ Some why → due_count d.due ≡ 0
+  pub none_due_at_stop : (why : StopCause) → d.values.stop ≡ Some why → due_count d.values.due ≡ 0
   pub frames : FramesFit part d.frames

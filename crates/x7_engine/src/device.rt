@@ -184,7 +184,7 @@ impl Device {
     fn boot_status(&self) -> u32
         ensures { ForEachPast self.now (λ p. result ≡ (state_at p).bootsts) }
     {
-        boot_word(self.attempt(), self.registers.before)
+        boot_word(self.attempt(), self.registers.values.before)
     }
 
     /// What a next attempt of this kind keeps: WBSTAR, TIMER and BSPI, and this attempt as the one before.
@@ -213,14 +213,14 @@ impl Device {
 
     /// What stopped the device, if something did.
     fn stop(&self) -> Option<StopCause>
-        ensures { result ≡ self.now.registers.stop }
+        ensures { result ≡ self.now.registers.values.stop }
     {
-        self.registers.stop
+        self.registers.values.stop
     }
 
     /// Gives a buffer the words that are due, as many as it has room for, and says whether none is left.
     fn give(&mut self, read: &mut ReadBuf) -> bool
-        requires going { self.old.registers.stop ≡ None }
+        requires going { self.old.registers.values.stop ≡ None }
         ensures none_left { IsTrue result ↔ NoWordDue self.new }
         ensures gives { GivesWordsDue (with_buffer self.old read.old) (with_buffer self.new read.new) }
     {
@@ -257,7 +257,7 @@ impl Device {
         *at -= left;
         self.taken += (*at - from) as u64;
         self.fed = self.fed.saturating_add((*at - from) as u64);
-        is_done(used_up, self.registers.stop)
+        is_done(used_up, self.registers.values.stop)
     }
 
     /// Takes the write of one word that comes next, where it lies whole in the piece and no byte moves the clock. Moves
@@ -270,7 +270,7 @@ impl Device {
         ensures no_word_due { NoWordDue self.new }
         ensures turned { IsTrue result → TurnMoves self.old self.new piece.now at.old at.new }
     {
-        if !self.registers.clock.is_idle() {
+        if !self.registers.values.clock.is_idle() {
             return false;
         }
         let Some((register, word)) = self.cutter.take_write(&piece[*at..]) else {
@@ -320,7 +320,7 @@ impl Device {
         ensures takes { TakesFirst self.old self.new piece.now (taken_in (length piece.now) result) }
         ensures gives { GivesWordsOfFirst (with_buffer self.old read.old) (with_buffer self.new read.new) piece.now (taken_in (length piece.now) result) }
         ensures answer { AnswersFor self.old (with_buffer self.new read.new) piece.now result }
-        ensures answers_stop { (why : StopCause) → self.old.registers.stop ≡ Some why → result ≡ answer_at_stop why 0 }
+        ensures answers_stop { (why : StopCause) → self.old.registers.values.stop ≡ Some why → result ≡ answer_at_stop why 0 }
     {
         read.holds_within_most();
         let mut at = 0;
@@ -349,14 +349,14 @@ impl Device {
     /// What a report shows beside the part's name, the words read out and the frames: the registers, where the bytes
     /// end, and startup. While words of frame data are still due, FAR is that of the words given so far.
     pub fn state(&self) -> Snapshot
-        ensures owing { ForEachPast self.now (λ p. result ≡ state_owing p.part p.kept p.wrapped p.bytes (frames_due self.now.registers.due)) }
+        ensures owing { ForEachPast self.now (λ p. result ≡ state_owing p.part p.kept p.wrapped p.bytes (frames_due self.now.registers.values.due)) }
         ensures value { ForEachPast self.now (λ p. NoWordDue self.now → result ≡ state_at p) }
     {
         Snapshot {
             taken: self.taken,
             end: self.end(),
-            phase: self.registers.clock.phase(),
-            lines: self.registers.clock.lines(),
+            phase: self.registers.values.clock.phase(),
+            lines: self.registers.values.clock.lines(),
             crc: self.registers.value(&self.part, Reg::Crc),
             far: self.registers.value(&self.part, Reg::Far),
             cmd: self.registers.value(&self.part, Reg::Cmd),
@@ -380,7 +380,7 @@ impl Device {
         ensures { ForEachPast self.now (λ p. result ≡ (state_at p).end) }
     {
         end_by(
-            self.registers.stop,
+            self.registers.values.stop,
             self.cutter.is_synced(),
             self.registers.value(&self.part, Reg::Wbstar),
         )
@@ -398,7 +398,7 @@ impl Device {
     pub fn fault(&self) -> Option<Fault>
         ensures { ForEachPast self.now (λ p. result ≡ fault_of_stop (why_stopped (first_stop_at p))) }
     {
-        match self.registers.stop {
+        match self.registers.values.stop {
             Some(StopCause::Fault(fault)) => Some(fault),
             _ => None,
         }
@@ -408,7 +408,7 @@ impl Device {
     pub fn started(&self) -> bool
         ensures { ForEachPast self.now (λ p. result ≡ ((state_at p).phase == last_phase)) }
     {
-        self.registers.clock.startup_ended()
+        self.registers.values.clock.startup_ended()
     }
 
     /// Each device has a past: its part, what its reset kept, whether the flash has ended, and the bytes that it took

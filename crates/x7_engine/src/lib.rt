@@ -14,12 +14,12 @@ mod progress;
 mod read_buffer;
 mod readout;
 mod registers;
-mod saved;
 mod snapshot;
 mod stop;
 mod target;
 mod until_started;
 mod value;
+mod values;
 mod words;
 
 pub use device::{Device, UNDO_REACH, Undo, flash_may_end};

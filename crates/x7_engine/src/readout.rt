@@ -58,20 +58,20 @@ impl Registers {
         requires may_take { MayTakeWords part.now self.old }
         requires at_least_one { 0 < count }
         ensures none_due_at_stop { HasNoneDueAtStop part.now self.new }
-        ensures counts { CountsAll self.new.stop }
+        ensures counts { CountsAll self.new.values.stop }
         ensures enters { EntersHistoryAt (change_of part.now self.old self.new) (read_entered register count) }
-        ensures reads { ForEachHistory part.now (registers_in self.old) (λ kept h place. AreReadBy part.now kept h (read_entry register count place) self.new.due) }
+        ensures reads { ForEachHistory part.now (registers_in self.old) (λ kept h place. AreReadBy part.now kept h (read_entry register count place) self.new.values.due) }
     {
         if !reads_frames(self.settings(), register, count) {
-            self.due = Due::Same {
+            self.values.due = Due::Same {
                 word: self.read_value(part, register),
                 count,
             };
             return;
         }
         match self.frames.fault_of_read(part) {
-            Some(fault) => self.stop = Some(stop_of_refused(fault)),
-            None => self.due = Due::Frames(count),
+            Some(fault) => self.values.stop = Some(stop_of_refused(fault)),
+            None => self.values.due = Due::Frames(count),
         }
     }
 
@@ -80,15 +80,15 @@ impl Registers {
         requires { MayGiveWords part.now self.old }
         ensures { GaveWordsDue (change_of part.now self.old self.new) read.old read.new }
     {
-        match self.due {
+        match self.values.due {
             Due::Nothing => (),
             Due::Same { word, count } => {
                 let left = read.push_times(word, count);
-                self.due = Due::Same { word, count: left };
+                self.values.due = Due::Same { word, count: left };
             }
             Due::Frames(count) => {
                 let left = give_frames(&mut self.frames, part, count, read);
-                self.due = Due::Frames(left);
+                self.values.due = Due::Frames(left);
             }
         }
     }
@@ -96,12 +96,12 @@ impl Registers {
     /// Gives the words due to a buffer, as many as it has room for, and says whether none is left.
     pub(crate) fn give(&mut self, part: &Part, read: &mut ReadBuf) -> bool
         requires { MayGiveWords part.now self.old }
-        ensures none_left { IsTrue result ↔ (due_count self.new.due ≡ 0) }
+        ensures none_left { IsTrue result ↔ (due_count self.new.values.due ≡ 0) }
         ensures within_most { HoldsWithinMost read.new.most read.new.words }
         ensures gave { GaveWordsDue (change_of part.now self.old self.new) read.old read.new }
     {
         self.give_due(part, read);
         read.holds_within_most();
-        due_count(self.due) == 0
+        due_count(self.values.due) == 0
     }
 }

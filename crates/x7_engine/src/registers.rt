@@ -16,24 +16,23 @@ ghost use Rattle.x7_engine.specs.State.{last_counted};
 ghost use Rattle.x7_engine.specs.Stop.{why_besides_frames, why_by_frames, stop_of_refused};
 ghost use Rattle.x7_engine.specs.Taken.{TookFirstWords, TookWords, TookWrite};
 ghost use Rattle.x7_engine.specs.Targets.{target_number};
+ghost use Rattle.x7_engine.specs.declared.due.Due.{Due};
 ghost use Rattle.x7_engine.specs.Entering.{AreRead, change_of, EntersHistory, EntersHistoryAt, EntersHistoryIf, ForEachHistory, ReadsIf, RunEnters, RunReads, step_entered, up_to_stop, word_entered};
 
-use crate::clock::Clock;
-use crate::controls::{Controls, masked_word};
+use crate::controls::masked_word;
 use crate::device::WORD_BYTES;
-use crate::due::Due;
 use crate::fault::Fault;
 use crate::kept::{Kept, is_fallback};
-use crate::progress::{Progress, is_same_idcode};
+use crate::progress::is_same_idcode;
 use crate::stop::StopCause;
 use crate::target::{PlainNumber, Target};
-use crate::words::LastWords;
+use crate::values::Values;
 use x7_crc::{executed, is_command};
 use x7_flow::{FrameSettings, Frames};
 use x7_packets::{Cut, Step};
 use x7_part::Part;
 use x7_pipeline::RunFault;
-use x7_regs::{Attempt, Command, Kind, Reg, command_code_of, has_dec};
+use x7_regs::{Command, Reg, command_code_of, has_dec};
 use x7_words::word_of;
 
 /// How many of `taken` bytes count for accesses: all but one at which the watchdog fires, whose word isn't executed.
@@ -82,20 +81,10 @@ fn first_cause(why: Option<StopCause>, refused: Option<RunFault>) -> Option<Stop
     }
 }
 
-/// The registers of a device, its clock, what stopped it, its frames, and the words of the last read that are still to
-/// be given.
+/// The registers of a device: their values, and its frames.
 #[derive(Drop)]
 pub(crate) struct Registers {
-    pub(crate) words: LastWords,
-    pub(crate) controls: Controls,
-    pub(crate) progress: Progress,
-    // what began the present boot attempt
-    pub(crate) kind: Kind,
-    // the boot attempt before, if there was one
-    pub(crate) before: Option<Attempt>,
-    pub(crate) clock: Clock,
-    pub(crate) stop: Option<StopCause>,
-    pub(crate) due: Due,
+    pub(crate) values: Values,
     pub(crate) frames: Frames,
 }
 
@@ -105,19 +94,12 @@ impl Registers {
     /// The registers of a device that took nothing, with what the reset kept and frames after a reset.
     pub(crate) fn new(kept: &Kept, frames: Frames) -> Registers
         ensures stands { (part : PartData) → FramesStandFor part frames [] 0 → RegistersStandFor part kept.now (registers_in result) [] 0 }
-        ensures going { result.stop ≡ None }
-        ensures no_word_due { result.due ≡ Due.Nothing }
+        ensures going { result.values.stop ≡ None }
+        ensures no_word_due { result.values.due ≡ Due.Nothing }
         ensures frames { result.frames ≡ frames }
     {
         Registers {
-            words: LastWords::new(kept),
-            controls: Controls::new(),
-            progress: Progress::new(),
-            kind: kept.kind,
-            before: kept.before,
-            clock: Clock::new(kept),
-            stop: None,
-            due: Due::Nothing,
+            values: Values::new(kept),
             frames,
         }
     }
@@ -125,18 +107,11 @@ impl Registers {
     /// Makes the registers those after a reset that kept `kept`.
     pub(crate) fn reset(&mut self, kept: &Kept)
         ensures stands { (part : PartData) → FramesFit part self.old.frames → RegistersStandFor part kept.now (registers_in self.new) [] 0 }
-        ensures going { self.new.stop ≡ None }
-        ensures no_word_due { self.new.due ≡ Due.Nothing }
+        ensures going { self.new.values.stop ≡ None }
+        ensures no_word_due { self.new.values.due ≡ Due.Nothing }
         ensures frames { (part : PartData) → FramesFit part self.old.frames → FramesFit part self.new.frames }
     {
-        self.words = LastWords::new(kept);
-        self.controls = Controls::new();
-        self.progress = Progress::new();
-        self.kind = kept.kind;
-        self.before = kept.before;
-        self.clock = Clock::new(kept);
-        self.stop = None;
-        self.due = Due::Nothing;
+        self.values = Values::new(kept);
         self.frames.reset();
     }
 
@@ -144,7 +119,7 @@ impl Registers {
     pub(crate) fn command(&self) -> u8
         ensures { (part : PartData) → ForEachHistory part (registers_in self.now) (λ kept h n. result ≡ command_held h) }
     {
-        command_code_of(self.words.held(Reg::Cmd)) as u8
+        command_code_of(self.values.words.held(Reg::Cmd)) as u8
     }
 
     /// What decides whether an access concerns frames.
@@ -153,8 +128,8 @@ impl Registers {
         ensures held { (part : PartData) → ForEachHistory part (registers_in self.now) (λ kept h n. result.command_code ≡ command_held h) }
     {
         FrameSettings {
-            has_idcode: self.progress.has_idcode,
-            ctl0: self.controls.ctl0,
+            has_idcode: self.values.progress.has_idcode,
+            ctl0: self.values.controls.ctl0,
             command_code: self.command(),
         }
     }
@@ -173,8 +148,8 @@ impl Registers {
         ensures counts { CountsAll result }
     {
         let idcode = part.idcode();
-        let check = self.progress.check;
-        let lacks_idcode = !self.progress.has_idcode;
+        let check = self.values.progress.check;
+        let lacks_idcode = !self.values.progress.has_idcode;
         let no_idcode = StopCause::Fault(Fault::Id {
             want: idcode,
             got: 0,
@@ -188,15 +163,15 @@ impl Registers {
             })),
             Reg::Far => start_refused.then_some(no_idcode),
             Reg::Cmd if start_refused => Some(no_idcode),
-            Reg::Cmd => (is_command(Command::Iprog, executed) && !is_fallback(self.kind)).then_some(
-                StopCause::Iprog,
-            ),
+            Reg::Cmd => (is_command(Command::Iprog, executed)
+                && !is_fallback(self.values.kind)).then_some(StopCause::Iprog),
             Reg::Fdri | Reg::Mfwr => lacks_idcode.then_some(no_idcode),
             Reg::Ctl0 => has_dec(masked_word(
-                self.controls.ctl0,
-                self.words.held(Reg::Mask),
+                self.values.controls.ctl0,
+                self.values.words.held(Reg::Mask),
                 word,
-            )).then_some(encrypted),
+            ))
+            .then_some(encrypted),
             Reg::Cbc => Some(encrypted),
             Reg::Idcode => (!is_same_idcode(idcode, word)).then_some(StopCause::Fault(Fault::Id {
                 want: idcode,
@@ -216,22 +191,22 @@ impl Registers {
         let settings = self.settings();
         let executed = executed(settings.command_code, reg, word);
         let why = self.why_by_write(part, reg, word, executed);
-        let mask = self.words.held(Reg::Mask);
-        let cor0 = self.words.held(Reg::Cor0);
-        let taken = self.progress.write(idcode, reg, word, executed);
-        self.controls.write(reg, word, mask);
-        self.words.write(reg.number(), word);
-        self.clock.write(executed, taken, cor0, reg, word);
+        let mask = self.values.words.held(Reg::Mask);
+        let cor0 = self.values.words.held(Reg::Cor0);
+        let taken = self.values.progress.write(idcode, reg, word, executed);
+        self.values.controls.write(reg, word, mask);
+        self.values.words.write(reg.number(), word);
+        self.values.clock.write(executed, taken, cor0, reg, word);
         let refused = self.frames.write(settings, reg, word, part);
-        self.stop = first_cause(why, refused);
+        self.values.stop = first_cause(why, refused);
     }
 
     /// Takes a written word that stays in its register, is folded into the check, and does nothing else.
     fn pass(&mut self, plain: PlainNumber, word: u32)
         ensures { (part : PartData) → MayTakeWords part self.old → TookWrite (change_of part self.old self.new) plain.register word }
     {
-        self.progress.pass(plain, word);
-        self.words.write(plain.register, word);
+        self.values.progress.pass(plain, word);
+        self.values.words.write(plain.register, word);
     }
 
     /// Takes a written word.
@@ -245,27 +220,27 @@ impl Registers {
         }
     }
 
-    /// Takes bytes as startup and the watchdog count them, before the word that they complete: up to the first at which
-    /// the watchdog fires. Says how many of the `count` are left, 0 where it doesn't fire.
+    /// Advances startup and the watchdog by `count` bytes, up to the byte at which the watchdog fires; the word that they
+    /// complete comes after. Gives how many of the bytes are left, 0 where it doesn't fire.
     #[inline(always)]
     pub(crate) fn take_bytes(&mut self, part: &Part, count: usize) -> usize
-        requires going { self.old.stop ≡ None }
+        requires going { self.old.values.stop ≡ None }
         ensures left { LeavesBytes count result self.new }
         ensures takes_some { 0 < count → result < count }
-        ensures fired { (why : StopCause) → self.new.stop ≡ Some why → (why ≡ StopCause.Fault Fault.Watchdog) × (result < count) }
-        ensures due { self.new.due ≡ self.old.due }
+        ensures fired { (why : StopCause) → self.new.values.stop ≡ Some why → (why ≡ StopCause.Fault Fault.Watchdog) × (result < count) }
+        ensures due { self.new.values.due ≡ self.old.values.due }
         ensures frames { self.new.frames ≡ self.old.frames }
         ensures enters { EntersHistory (change_of part.now self.old self.new) (λ n h. h) (count - result) }
     {
-        let Some(taken) = self.clock.bytes(part, count) else {
+        let Some(taken) = self.values.clock.bytes(part, count) else {
             return 0;
         };
-        self.stop = Some(StopCause::Fault(Fault::Watchdog));
+        self.values.stop = Some(StopCause::Fault(Fault::Watchdog));
         count - taken
     }
 
-    /// Takes the last `count` bytes of a payload word and then, unless the watchdog fired at one of them, the word.
-    /// Says how many of these bytes are left.
+    /// Takes a payload word whose last `count` bytes are new: these bytes first, and then the word, unless the watchdog
+    /// fired at one of them. Gives how many of the bytes are left.
     fn take_word(&mut self, part: &Part, target: Target, word: u32, count: usize) -> usize
         requires may_take { MayTakeWords part.now self.old }
         ensures left { LeavesBytes count result self.new }
@@ -275,7 +250,8 @@ impl Registers {
             (up_to_stop (registers_in self.new) (word_entered (target_number target) word count) (count - result)) (count - result) }
     {
         let left = self.take_bytes(part, count);
-        if self.stop.is_some() {
+        if self.values.stop.is_some() {
+            // The watchdog fired at one of the word's bytes, so the word isn't executed.
             return left;
         }
         self.write_word_to(part, target, word);
@@ -291,10 +267,10 @@ impl Registers {
     {
         let left = self.take_bytes(part, bytes.len());
         let taken = bytes.len() - left;
-        let whole = counted_in(self.stop, taken) / WORD_BYTES * WORD_BYTES;
+        let whole = counted_in(self.values.stop, taken) / WORD_BYTES * WORD_BYTES;
         let prefix = &bytes[..whole];
-        self.progress.pass_all(plain.register, prefix);
-        self.words.pass_all(plain.register, prefix);
+        self.values.progress.pass_all(plain.register, prefix);
+        self.values.words.pass_all(plain.register, prefix);
         taken
     }
 
@@ -304,20 +280,20 @@ impl Registers {
     fn take_frame_words(&mut self, part: &Part, reg: Reg, bytes: &[u8]) -> usize
         requires may_take { MayTakeWords part.now self.old }
         requires register { TakesWords reg }
-        requires has_idcode { self.old.progress.has_idcode ≡ true }
+        requires has_idcode { self.old.values.progress.has_idcode ≡ true }
         ensures { TookFirstWords (change_of part.now self.old self.new) (number_of reg) bytes.now result }
     {
         let settings = self.settings();
-        let before = self.clock.before_firing(part, bytes.len()) / WORD_BYTES * WORD_BYTES;
+        let before = self.values.clock.before_firing(part, bytes.len()) / WORD_BYTES * WORD_BYTES;
         let (count, refused) = self
             .frames
             .write_bytes(settings, reg, &bytes[..before], part);
         let taken = count_taken(count, refused) * WORD_BYTES;
         let prefix = &bytes[..taken];
         // The watchdog fires at none of these bytes: only bytes before a firing were looked at.
-        let _ = self.clock.bytes(part, taken);
-        self.progress.pass_all(reg.number(), prefix);
-        self.words.pass_all(reg.number(), prefix);
+        let _ = self.values.clock.bytes(part, taken);
+        self.values.progress.pass_all(reg.number(), prefix);
+        self.values.words.pass_all(reg.number(), prefix);
         taken
     }
 
@@ -327,7 +303,7 @@ impl Registers {
         ensures { TookFirstWords (change_of part.now self.old self.new) (number_of reg) bytes.now result }
     {
         match reg {
-            Reg::Fdri | Reg::Mfwr if self.progress.has_idcode => self.take_frame_words(
+            Reg::Fdri | Reg::Mfwr if self.values.progress.has_idcode => self.take_frame_words(
                 part, reg, bytes,
             ),
             _ => 0,
@@ -345,7 +321,7 @@ impl Registers {
         for word in words {
             let left = self.take_word(part, Target::Effective(reg), word_of(*word), WORD_BYTES);
             taken += WORD_BYTES - left;
-            if self.stop.is_some() {
+            if self.values.stop.is_some() {
                 return taken;
             }
         }
@@ -374,19 +350,19 @@ impl Registers {
         requires may_take { MayTakeWords part.now self.old }
         requires header { IsHeaderStep step }
         ensures none_due_at_stop { HasNoneDueAtStop part.now self.new }
-        ensures counts { CountsAll self.new.stop }
+        ensures counts { CountsAll self.new.values.stop }
         ensures enters { EntersHistoryAt (change_of part.now self.old self.new) (λ place h. entered place step h) }
-        ensures reads { ForEachHistory part.now (registers_in self.old) (λ kept h place. AreRead part.now kept h (entered place step h) self.new.due) }
+        ensures reads { ForEachHistory part.now (registers_in self.old) (λ kept h place. AreRead part.now kept h (entered place step h) self.new.values.due) }
     {
         match step {
             Step::Read(register, count) if count > 0 => self.read(part, register, count),
-            Step::Bad(word) => self.stop = Some(StopCause::Fault(Fault::Packet(word))),
+            Step::Bad(word) => self.values.stop = Some(StopCause::Fault(Fault::Packet(word))),
             _ => (),
         }
     }
 
-    /// Takes the last `count` bytes of a word in a header's place and then, unless the watchdog fired at one of them,
-    /// the word. Says how many of these bytes are left.
+    /// Takes a word in a header's place whose last `count` bytes are new: these bytes first, and then the word, unless the
+    /// watchdog fired at one of them. Gives how many of the bytes are left.
     #[inline(always)]
     fn take_header(&mut self, part: &Part, step: Step, count: usize) -> usize
         requires may_take { MayTakeWords part.now self.old }
@@ -398,7 +374,8 @@ impl Registers {
         ensures reads { ReadsIf (0 < count) (change_of part.now self.old self.new) (up_to_stop (registers_in self.new) (step_entered step count) (count - result)) }
     {
         let left = self.take_bytes(part, count);
-        if self.stop.is_some() {
+        if self.values.stop.is_some() {
+            // The watchdog fired at one of the word's bytes, so the word isn't executed.
             return left;
         }
         self.take_step(part, step);
@@ -413,7 +390,7 @@ impl Registers {
         requires run { IsRun run }
         requires holds { FitsWithin run count }
         ensures left { LeavesBytes count result self.new }
-        ensures no_word_due { HasNoWord run.entry → due_count self.new.due ≡ 0 }
+        ensures no_word_due { HasNoWord run.entry → due_count self.new.values.due ≡ 0 }
         ensures none_due_at_stop { HasNoneDueAtStop part.now self.new }
         ensures enters { RunEnters run.entry count (change_of part.now self.old self.new) (count - result) }
         ensures reads { RunReads run.entry count (change_of part.now self.old self.new) (count - result) }

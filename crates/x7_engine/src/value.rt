@@ -56,52 +56,52 @@ impl Registers {
 
     /// The running check; at a fault `Crc` the one that was wanted.
     fn check_shown(&self) -> u32
-        ensures { (part : PartData) → ForEachHistory part (registers_in self.now) (λ kept h n. result ≡ check_shown (fault_of_stop self.now.stop) h) }
+        ensures { (part : PartData) → ForEachHistory part (registers_in self.now) (λ kept h n. result ≡ check_shown (fault_of_stop self.now.values.stop) h) }
     {
-        match self.stop {
+        match self.values.stop {
             Some(StopCause::Fault(Fault::Crc { want, .. })) => want,
-            _ => self.progress.check,
+            _ => self.values.progress.check,
         }
     }
 
     /// The word of STAT.
     fn stat(&self, part: &Part) -> u32
         ensures { ForEachHistory part.now (registers_in self.now)
-            (λ kept h n. result ≡ status_of (stat_parts part.now (fault_of_stop self.now.stop) (startup_progress h n) (has_ghigh h))) }
+            (λ kept h n. result ≡ status_of (stat_parts part.now (fault_of_stop self.now.values.stop) (startup_progress h n) (has_ghigh h))) }
     {
-        let crc_error = is_crc_fault(self.stop);
-        let lines = self.clock.lines();
+        let crc_error = is_crc_fault(self.values.stop);
+        let lines = self.values.clock.lines();
         stat_word(&StatParts {
             crc_error,
-            lock: self.clock.have_passed(part.lock()),
-            matched: self.clock.have_passed(part.matched()),
-            eos: self.clock.startup_ended(),
+            lock: self.values.clock.have_passed(part.lock()),
+            matched: self.values.clock.have_passed(part.matched()),
+            eos: self.values.clock.startup_ended(),
             gts: lines.gts,
             gwe: lines.gwe,
-            ghigh: self.progress.ghigh,
+            ghigh: self.values.progress.ghigh,
             mode: part.mode(),
             init_b: !crc_error,
             done: lines.done,
-            id_error: is_id_fault(self.stop),
-            phase: self.clock.phase(),
+            id_error: is_id_fault(self.values.stop),
+            phase: self.values.clock.phase(),
             bus_width: part.bus_width(),
         })
     }
 
     /// The present boot attempt, as long as the flash goes on.
     pub(crate) fn attempt(&self) -> Attempt
-        ensures { (part : PartData) → ForEachHistory part (registers_in self.now) (λ kept h n. result ≡ attempt_of kept false (fault_of_stop self.now.stop) h) }
+        ensures { (part : PartData) → ForEachHistory part (registers_in self.now) (λ kept h n. result ≡ attempt_of kept false (fault_of_stop self.now.values.stop) h) }
     {
         Attempt {
-            kind: self.kind,
-            cause: failure_in(self.stop),
-            ignored: is_fallback(self.kind) && self.progress.iprog,
+            kind: self.values.kind,
+            cause: failure_in(self.values.stop),
+            ignored: is_fallback(self.values.kind) && self.values.progress.iprog,
         }
     }
 
     /// FAR as it is read; while words of frame data are due, that of the words given so far.
     fn far(&self, part: &Part) -> u32
-        ensures { ForEachHistory part.now (registers_in self.now) (λ kept h n. result ≡ far_owing part.now h (frames_due self.now.due)) }
+        ensures { ForEachHistory part.now (registers_in self.now) (λ kept h n. result ≡ far_owing part.now h (frames_due self.now.values.due)) }
     {
         self.frames.far(part)
     }
@@ -111,36 +111,36 @@ impl Registers {
     #[rattlefmt::skip]
     pub(crate) fn value(&self, part: &Part, reg: Reg) -> u32
         ensures { ForEachHistory part.now (registers_in self.now)
-            (λ kept h n. result ≡ value_owing (course_at part.now kept h n) (fault_of_stop self.now.stop) (frames_due self.now.due) reg) }
+            (λ kept h n. result ≡ value_owing (course_at part.now kept h n) (fault_of_stop self.now.values.stop) (frames_due self.now.values.due) reg) }
     {
         match reg {
             Reg::Crc     => self.check_shown(),
             Reg::Far     => self.far(part),
             Reg::Fdri    => 0,
             Reg::Fdro    => 0,
-            Reg::Cmd     => command_code_of(self.words.held(Reg::Cmd)),
-            Reg::Ctl0    => self.controls.ctl0,
-            Reg::Mask    => self.words.held(Reg::Mask),
+            Reg::Cmd     => command_code_of(self.values.words.held(Reg::Cmd)),
+            Reg::Ctl0    => self.values.controls.ctl0,
+            Reg::Mask    => self.values.words.held(Reg::Mask),
             Reg::Stat    => self.stat(part),
             Reg::Lout    => 0,
-            Reg::Cor0    => self.words.held(Reg::Cor0),
+            Reg::Cor0    => self.values.words.held(Reg::Cor0),
             Reg::Mfwr    => 0,
             Reg::Cbc     => 0,
             Reg::Idcode  => part.idcode(),
-            Reg::Axss    => self.words.held(Reg::Axss),
-            Reg::Cor1    => self.words.held(Reg::Cor1),
-            Reg::Wbstar  => self.words.held(Reg::Wbstar),
-            Reg::Timer   => self.words.held(Reg::Timer),
-            Reg::Bootsts => boot_word(self.attempt(), self.before),
-            Reg::Ctl1    => self.controls.ctl1,
-            Reg::Bspi    => self.words.held(Reg::Bspi),
+            Reg::Axss    => self.values.words.held(Reg::Axss),
+            Reg::Cor1    => self.values.words.held(Reg::Cor1),
+            Reg::Wbstar  => self.values.words.held(Reg::Wbstar),
+            Reg::Timer   => self.values.words.held(Reg::Timer),
+            Reg::Bootsts => boot_word(self.attempt(), self.values.before),
+            Reg::Ctl1    => self.values.controls.ctl1,
+            Reg::Bspi    => self.values.words.held(Reg::Bspi),
         }
     }
 
     /// Each word that a read of the register of this number gives, of a device that hasn't stopped and has no word due:
     /// the register's value, and 0 for a number without a register.
     pub(crate) fn read_value(&self, part: &Part, register: u8) -> u32
-        ensures { self.now.stop ≡ None → due_count self.now.due ≡ 0 → ForEachHistory part.now (registers_in self.now)
+        ensures { self.now.values.stop ≡ None → due_count self.now.values.due ≡ 0 → ForEachHistory part.now (registers_in self.now)
             (λ kept h n. result ≡ read_value (course_at part.now kept h n) register) }
     {
         match reg_of(register) {

@@ -34,7 +34,7 @@ took_by part given bytes d t s None e (inl r) =
     sym whole ∙ sym (ap (λ (n : ℕ). take n given) all ∙ take-length given)
 took_by part given bytes d t s None e (inr x) = absurd (let b : false ≡ true = sym (ap is_some e) ∙ x in cc)
 took_by part given bytes d t s (Some stop) e over =
-    let place : stop.place ≡ length bytes = place_of (length bytes) d.registers.stop stop (sym s.stop_is ∙ e) in
+    let place : stop.place ≡ length bytes = place_of (length bytes) d.registers.values.stop stop (sym s.stop_is ∙ e) in
     let stops : first_stop_of_bytes part on_the_bench given ≡ Some stop = ap (first_stop_of_bytes part on_the_bench) t.parts ∙ stop_is_final_stop part on_the_bench bytes t.rest stop (subst AreBytes t.parts t.fits) e in
     let count : taken_of part on_the_bench given ≡ length bytes = ap (λ (o : Option Stopped). taken_by o (length given)) stops ∙ place in
     sym (ap (λ (n : ℕ). take n given) count ∙ ap (take (length bytes)) t.parts ∙ take-append_seam bytes t.rest)
@@ -49,30 +49,30 @@ device_is part t d cs s =
     subst (DeviceStandsFor part on_the_bench false d) (took_first part (port_after part cs).queue.given h.bytes d h.took h.device) h.device
 
 -- the words due are those after the word whose bits go out
-due_by : (part : PartData) (k : QueueState) (d : DeviceState) (given held : List ℕ) (out : ℕ) → QueueStandsFor part k d (queue_of given held out) → due_count d.registers.due ≡ length (words_read_out part given) - (out / 32 + 1)
+due_by : (part : PartData) (k : QueueState) (d : DeviceState) (given held : List ℕ) (out : ℕ) → QueueStandsFor part k d (queue_of given held out) → due_count d.registers.values.due ≡ length (words_read_out part given) - (out / 32 + 1)
 due_by part k d given held out s =
     let h : QueueHolds part k d (queue_of given held out) = s.holds in
     let reads : List ℕ = reads_of part on_the_bench h.bytes in
-    let left : List ℕ = words_still_due part (history_taken part on_the_bench h.bytes) d.registers.due in
-    let count : length reads ≡ length h.device.due_are.given + due_count d.registers.due = ap length h.device.due_are.all ∙ length-append h.device.due_are.given left ∙ ap (λ n. length h.device.due_are.given + n) (length_left part (history_taken part on_the_bench h.bytes) d.registers.due) in
+    let left : List ℕ = words_still_due part (history_taken part on_the_bench h.bytes) d.registers.values.due in
+    let count : length reads ≡ length h.device.due_are.given + due_count d.registers.values.due = ap length h.device.due_are.all ∙ length-append h.device.due_are.given left ∙ ap (λ n. length h.device.due_are.given + n) (length_left part (history_taken part on_the_bench h.bytes) d.registers.values.due) in
     let whole : length (words_read_out part given) ≡ length reads = ap length (reads_took part given h.bytes h.took) in
-    let taken : length (reads_taken part d h.bytes) ≡ length reads - due_count d.registers.due = length-take-le (length reads - due_count d.registers.due) reads (omega arith) in
+    let taken : length (reads_taken part d h.bytes) ≡ length reads - due_count d.registers.values.due = length-take-le (length reads - due_count d.registers.values.due) reads (omega arith) in
     by k.bits_left refl count whole taken
   where
-    by : (left : ℕ) → k.bits_left ≡ left → length (reads_of part on_the_bench s.holds.bytes) ≡ length s.holds.device.due_are.given + due_count d.registers.due → length (words_read_out part given) ≡ length (reads_of part on_the_bench s.holds.bytes)
-        → length (reads_taken part d s.holds.bytes) ≡ length (reads_of part on_the_bench s.holds.bytes) - due_count d.registers.due → due_count d.registers.due ≡ length (words_read_out part given) - (out / 32 + 1)
+    by : (left : ℕ) → k.bits_left ≡ left → length (reads_of part on_the_bench s.holds.bytes) ≡ length s.holds.device.due_are.given + due_count d.registers.values.due → length (words_read_out part given) ≡ length (reads_of part on_the_bench s.holds.bytes)
+        → length (reads_taken part d s.holds.bytes) ≡ length (reads_of part on_the_bench s.holds.bytes) - due_count d.registers.values.due → due_count d.registers.values.due ≡ length (words_read_out part given) - (out / 32 + 1)
     by zero z count whole taken = omega (arith, z, count, whole, taken, s.holds.out_is, s.no_word_due z)
     by (suc m) z count whole taken = omega (arith, z, count, whole, taken, s.holds.out_is, s.holds.bits_left_is)
 
 pub due_is : (part : PartData) (t : TapState) (d : DeviceState) (cs : List PortClock) → TapStandsFor part t d cs
-    → due_count d.registers.due ≡ length (words_read_out part (port_after part cs).queue.given) - ((port_after part cs).queue.out / 32 + 1)
+    → due_count d.registers.values.due ≡ length (words_read_out part (port_after part cs).queue.given) - ((port_after part cs).queue.out / 32 + 1)
 due_is part t d cs s = due_by part t.queue d (port_after part cs).queue.given (port_after part cs).queue.held (port_after part cs).queue.out s.queue_is
 
 -- what a device shows is what the clocks' port says
 pub shows_is : (part : PartData) (t : TapState) (d : DeviceState) (cs : List PortClock) → TapStandsFor part t d cs
-    → state_owing part on_the_bench false (bytes_taken part (port_after part cs)) (frames_due d.registers.due) ≡ state_shown part (port_after part cs)
+    → state_owing part on_the_bench false (bytes_taken part (port_after part cs)) (frames_due d.registers.values.due) ≡ state_shown part (port_after part cs)
 shows_is part t d cs s =
     let bytes : List ℕ = bytes_taken part (port_after part cs) in
     let h : History = history_taken part on_the_bench bytes in
-    let kind : frames_due d.registers.due ≡ frames_among h (due_count d.registers.due) = (device_is part t d cs s).registers_are.due_kind in
+    let kind : frames_due d.registers.values.due ≡ frames_among h (due_count d.registers.values.due) = (device_is part t d cs s).registers_are.due_kind in
     ap (state_owing part on_the_bench false bytes) (kind ∙ ap (frames_among h) (due_is part t d cs s))

@@ -283,7 +283,7 @@ reads_none part = refl
 pub resets : (part : PartData) (n : QueueState) (d e : DeviceState) (part_was : PartData) → DeviceStandsFor part_was on_the_bench false e [] → part_was ≡ part → n.held ≡ [] → n.bits_left ≡ 0 → QueueStandsFor part n e empty_queue
 resets part n d e part_was s p h z =
     let t : DeviceStandsFor part on_the_bench false e [] = subst (λ (q : PartData). DeviceStandsFor q on_the_bench false e []) p s in
-    let due : due_count e.registers.due ≡ 0 = omega (arith, sym (length_left part (history_taken part on_the_bench []) e.registers.due), ap length t.due_are.all, length-append t.due_are.given (words_still_due part (history_taken part on_the_bench []) e.registers.due), ap length (reads_none part)) in
+    let due : due_count e.registers.values.due ≡ 0 = omega (arith, sym (length_left part (history_taken part on_the_bench []) e.registers.values.due), ap length t.due_are.all, length-append t.due_are.given (words_still_due part (history_taken part on_the_bench []) e.registers.values.due), ap length (reads_none part)) in
     record {
       holds = record {
         bytes = [];

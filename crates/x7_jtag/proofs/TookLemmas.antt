@@ -75,13 +75,13 @@ state_took part given bytes t = state_by part given bytes t t.over
 -- where no word is due, the words taken are all those read out
 pub taken_all : (part : PartData) (d : DeviceState) (bytes : List ℕ) → NoWordDue d → reads_taken part d bytes ≡ reads_of part on_the_bench bytes
 taken_all part d bytes none =
-    let all : length (reads_of part on_the_bench bytes) - due_count d.registers.due ≡ length (reads_of part on_the_bench bytes) = omega (arith, none) in
+    let all : length (reads_of part on_the_bench bytes) - due_count d.registers.values.due ≡ length (reads_of part on_the_bench bytes) = omega (arith, none) in
     ap (λ (n : ℕ). take n (reads_of part on_the_bench bytes)) all ∙ take-length (reads_of part on_the_bench bytes)
 
 -- the words taken are the first of those read out
 pub taken_first : (part : PartData) (d : DeviceState) (bytes : List ℕ) → (more : List ℕ) × (reads_taken part d bytes ++ more ≡ reads_of part on_the_bench bytes)
 taken_first part d bytes =
-    let n : ℕ = length (reads_of part on_the_bench bytes) - due_count d.registers.due in
+    let n : ℕ = length (reads_of part on_the_bench bytes) - due_count d.registers.values.due in
     (drop n (reads_of part on_the_bench bytes), take-append-drop n (reads_of part on_the_bench bytes))
 
 pub taken_few : (part : PartData) (d : DeviceState) (bytes : List ℕ) → length (reads_taken part d bytes) ≤ length (reads_of part on_the_bench bytes)

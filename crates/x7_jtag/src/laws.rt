@@ -21,8 +21,8 @@ pub fn five_ones_reset()
 /// took, where FAR counts the words of frame data that the port took of the device.
 pub fn devices_take_what_is_given()
     ensures taken { ForEachPort (λ part d p. DeviceStandsFor part on_the_bench false d (bytes_taken part p)) }
-    ensures due { ForEachPort (λ part d p. due_count d.registers.due ≡ port_words_due part p) }
-    ensures shows { ForEachPort (λ part d p. state_with_due part p (frames_due d.registers.due) ≡ state_shown part p) }
+    ensures due { ForEachPort (λ part d p. due_count d.registers.values.due ≡ port_words_due part p) }
+    ensures shows { ForEachPort (λ part d p. state_with_due part p (frames_due d.registers.values.due) ≡ state_shown part p) }
 {}
 
 /// After any clocks, before which the port was new, no more bits have gone to TDO or been dropped than its device has

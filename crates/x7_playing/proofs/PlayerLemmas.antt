@@ -148,7 +148,7 @@ pub new_plays : (part : PartData) (d : DeviceState) (reads : List ℕ) → Devic
 new_plays part d reads s e =
     let h = history_taken part on_the_bench [] in
     let none : length (reads_of part on_the_bench []) ≡ 0 = refl in
-    let due : NoWordDue d = omega (arith, none, ap length s.due_are.all, length-append s.due_are.given (words_still_due part h d.registers.due), length_left part h d.registers.due) in (
+    let due : NoWordDue d = omega (arith, none, ap length s.due_are.all, length-append s.due_are.given (words_still_due part h d.registers.values.due), length_left part h d.registers.values.due) in (
       record {
         taken = [];
         left = [];

@@ -88,8 +88,8 @@ begun_is p q state reads frames n old head fars d same e h =
     ap (λ (t : List ℕ). t ++ lines) h ∙ append_assoc old shown lines ∙ ap (λ (t : List ℕ). old ++ t) (play_is p q state reads frames n shown fars d same e refl)
 
 -- where no word is due, the state reported is that of the bytes
-pub owing_none : (part : PartData) (kept : Kept) (wrapped : Bool) (bytes : List ℕ) (d : DeviceState) → NoWordDue d → state_owing part kept wrapped bytes (frames_due d.registers.due) ≡ state_of part kept wrapped bytes
-owing_none part kept wrapped bytes d none = ap (state_owing part kept wrapped bytes) (none_frames d.registers.due none) ∙ state_now part kept wrapped bytes
+pub owing_none : (part : PartData) (kept : Kept) (wrapped : Bool) (bytes : List ℕ) (d : DeviceState) → NoWordDue d → state_owing part kept wrapped bytes (frames_due d.registers.values.due) ≡ state_of part kept wrapped bytes
+owing_none part kept wrapped bytes d none = ap (state_owing part kept wrapped bytes) (none_frames d.registers.values.due none) ∙ state_now part kept wrapped bytes
 
 -- ---- a report that is written
 

@@ -14,7 +14,7 @@ use Rattle.x7_report.specs.State.{state_text}
 
 -- the state that a device of this past shows; while words of frame data are due, FAR is that of the words given so far
 abbrev pub state_reported : DeviceState → Past → Snapshot
-state_reported device past = state_owing past.part past.kept past.wrapped past.bytes (frames_due device.registers.due)
+state_reported device past = state_owing past.part past.kept past.wrapped past.bytes (frames_due device.registers.values.due)
 
 -- what a report has before the lines of its frames, of which it shows `count`
 abbrev pub report_head : PartData → Snapshot → List ℕ → ℕ → List ℕ

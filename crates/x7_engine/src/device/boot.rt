@@ -13,7 +13,7 @@ impl Device {
     pub fn phase(&self) -> u8
         ensures { ForEachPast self.now (λ p. result ≡ (state_at p).phase) }
     {
-        self.registers.clock.phase()
+        self.registers.values.clock.phase()
     }
 }
 

@@ -96,10 +96,10 @@ impl Device {
 
     /// Whether startup has begun since the last shutdown taken.
     fn has_begun(&self) -> bool
-        ensures value { result ≡ is_some self.now.registers.clock.startup.begun_with }
+        ensures value { result ≡ is_some self.now.registers.values.clock.startup.begun_with }
         ensures not_begun { ForEachPast self.now (λ p. result ≡ false → HasNotBegun p.part p.kept p.bytes) }
     {
-        self.registers.clock.startup.has_begun()
+        self.registers.values.clock.startup.has_begun()
     }
 
     /// Takes the bytes of a piece as `feed` does, where words read out are dropped, and none after the byte at which

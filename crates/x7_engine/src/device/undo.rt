@@ -11,8 +11,9 @@ ghost use Rattle.x7_engine.specs.Past.{ForEachPast, HasPast, Past, later};
 
 use super::Device;
 use crate::fed::Fed;
+use crate::kept::ON_THE_BENCH;
 use crate::read_buffer::ReadBuf;
-use crate::saved::SavedRegisters;
+use crate::values::Values;
 use std::alloc::Global;
 use std::marker::Model;
 use x7_packets::Cutter;
@@ -28,18 +29,19 @@ pub const UNDO_REACH: u64 = 4;
 #[derive(Drop)]
 pub struct Undo {
     cutter: Cutter,
-    registers: SavedRegisters,
+    values: Values,
     frames: Saved,
     wrapped: bool,
     taken: u64,
 }
 
 impl Model for Undo {
-    ghost use Rattle.x7_engine.specs.Undo.{UndoState, saved_registers_in};
+    ghost use Rattle.x7_engine.specs.Standing.{values_in};
+    ghost use Rattle.x7_engine.specs.Undo.{UndoState};
 
     ghost Value = { UndoState };
 
-    ghost view = { λ u. record { cutter = u.cutter; values = saved_registers_in u.registers; frames = u.frames; wrapped = u.wrapped; taken = u.taken } };
+    ghost view = { λ u. record { cutter = u.cutter; values = values_in u.values; frames = u.frames; wrapped = u.wrapped; taken = u.taken } };
 }
 
 impl Undo {
@@ -53,7 +55,7 @@ impl Undo {
         let frames = Saved::new(alloc, part)?;
         Ok(Undo {
             cutter: Cutter::new(),
-            registers: SavedRegisters::new(),
+            values: Values::new(&ON_THE_BENCH),
             frames,
             wrapped: false,
             taken: 0,
@@ -84,7 +86,7 @@ impl Device {
         ensures undo { IsUndoOf self.now.part undo.new }
     {
         undo.cutter = self.cutter.copy();
-        undo.registers = self.registers.values();
+        undo.values = self.registers.values;
         self.registers.frames.save(&self.part, &mut undo.frames);
         undo.wrapped = self.wrapped;
         undo.taken = self.taken;
@@ -99,7 +101,7 @@ impl Device {
         requires undo { IsUndoOf self.old.part undo.old }
         ensures takes { TakesFirst self.old self.new piece.now (taken_in (length piece.now) result) }
         ensures answer { AnswersFor self.old (with_buffer self.new dropping) piece.now result }
-        ensures answers_stop { (why : StopCause) → self.old.registers.stop ≡ Some why → result ≡ answer_at_stop why 0 }
+        ensures answers_stop { (why : StopCause) → self.old.registers.values.stop ≡ Some why → result ≡ answer_at_stop why 0 }
         ensures saves { SavesDevice undo.new self.old }
         ensures back { ForEachPast self.old (λ p. UndoLeadsBack undo.new self.new self.old) }
         ensures undo { IsUndoOf self.old.part undo.new }
@@ -131,8 +133,8 @@ impl Device {
         ensures fed { fed_of self.new ≡ fed_of self.old }
     {
         self.cutter = undo.cutter.copy();
-        self.registers
-            .restore(&self.part, &undo.registers, &undo.frames);
+        self.registers.values = undo.values;
+        self.registers.frames.restore(&self.part, &undo.frames);
         self.wrapped = undo.wrapped;
         self.taken = undo.taken;
     }

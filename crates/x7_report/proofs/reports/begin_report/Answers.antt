@@ -16,7 +16,7 @@ returns c = λ part kept wrapped bytes s.
     let old = c.args.text.now.items in
     let head = c.put_head.new.text.items in
     let reads = c.args.reads.now in
-    let state = state_owing part kept wrapped bytes (frames_due d.registers.due) in
+    let state = state_owing part kept wrapped bytes (frames_due d.registers.values.due) in
     let count : c.len.result ≡ length fars = omega (arith, c.in_ok-fars.fars.ok.0, c.len.ensures) in
     ap (λ (x : PartData). head ++ frame_lines_text (frame_at x d.registers.frames.memory) fars) (sym c.part.ensures.stored)
     ∙ ap (λ (x : List (List ℕ)). head ++ frame_lines_text (frame_at p x) fars) (sym c.memory.ensures.stored)

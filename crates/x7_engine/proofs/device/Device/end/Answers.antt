@@ -26,11 +26,11 @@ returns c = λ given kept wrapped bytes s.
     let now : DeviceStandsFor part kept wrapped c.args.self.now bytes = subst (λ (p : PartData). DeviceStandsFor p kept wrapped c.args.self.now bytes) (sym here) s in
     let stands : DeviceStandsFor part kept wrapped fields bytes = subst (λ (d : DeviceState). DeviceStandsFor part kept wrapped d bytes) (sym c.self.view_is) now in
     let h : History = history_taken part kept bytes in
-    let session : (d : c.self.inside.registers.stop ≡ None) → c.is_synced.result ≡ is_synced (reading_of bytes).place = λ d.
+    let session : (d : c.self.inside.registers.values.stop ≡ None) → c.is_synced.result ≡ is_synced (reading_of bytes).place = λ d.
     let cutter : IsCutterOf c.self.inside.cutter bytes = stands.cutter_is d in
     c.is_synced.ensures.synced bytes cutter.sessions cutter.place cutter.stands ∙ ap is_synced (reading_is bytes cutter.sessions cutter.place cutter.stands.reading).1 in
     c.end_by.ensures
-    ∙ same_end c.self.inside.registers.stop c.is_synced.result (is_synced (reading_of bytes).place) c.value.result session
-    ∙ ap (end_by c.self.inside.registers.stop (is_synced (reading_of bytes).place)) (c.value.ensures kept h (length bytes) stands.registers_are)
+    ∙ same_end c.self.inside.registers.values.stop c.is_synced.result (is_synced (reading_of bytes).place) c.value.result session
+    ∙ ap (end_by c.self.inside.registers.values.stop (is_synced (reading_of bytes).place)) (c.value.ensures kept h (length bytes) stands.registers_are)
     ∙ ap (λ (o : Option StopCause). end_by o (is_synced (reading_of bytes).place) (word_held kept 16 h)) (sym (why_is part kept wrapped fields bytes stands))
     ∙ ap (λ (p : PartData). end_by (why_stopped (first_stop_of_bytes p kept bytes)) (is_synced (reading_of bytes).place) (word_held kept 16 (history_taken p kept bytes))) here

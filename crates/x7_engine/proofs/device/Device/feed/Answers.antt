@@ -33,7 +33,7 @@ returns-in-Some-clause-gives c = subst (GivesWordsOfFirst (with_buffer c.args.se
 pub returns-in-Some-clause-answers_stop : goal.returns-in-Some-clause-answers_stop
 returns-in-Some-clause-answers_stop c = λ why e.
     let same = c.runs.invariant.takes.stopped (ap (λ (o : Option StopCause). is_some o) e) in
-    let stop : Some c.in-Some.stop ≡ Some why = c.in-Some.ensures ∙ ap (λ (d : DeviceState). d.registers.stop) same.0 ∙ e in
+    let stop : Some c.in-Some.stop ≡ Some why = c.in-Some.ensures ∙ ap (λ (d : DeviceState). d.registers.values.stop) same.0 ∙ e in
     let cause : c.in-Some.stop ≡ why = cc in
     c.answer_at_stop.ensures ∙ ap (λ (s : StopCause). answer_at_stop s c.runs.at) cause ∙ ap (answer_at_stop why) same.1
 
@@ -59,7 +59,7 @@ pub returns-then-not-give-clause-answer : goal.returns-then-not-give-clause-answ
 returns-then-not-give-clause-answer c = λ part kept wrapped bytes s.
     let taken : List ℕ = bytes ++ take c.runs.at c.args.piece.now in
     let stands = c.give.ensures.gives.stands part kept wrapped taken (c.runs.invariant.takes.stands part kept wrapped bytes s) in
-    let due : 0 < due_count c.give.new.self.registers.due = some_due (due_count c.give.new.self.registers.due) c.give.result c.give.ensures.none_left c.if-not-give.true in
+    let due : 0 < due_count c.give.new.self.registers.values.due = some_due (due_count c.give.new.self.registers.values.due) c.give.result c.give.ensures.none_left c.if-not-give.true in
     (stands.stop_is ∙ ap (stop_at_place (length taken)) c.give.ensures.gives.going, due, c.give.ensures.gives.full due)
 
 pub returns-then-not-give-clause-answers_stop : goal.returns-then-not-give-clause-answers_stop
@@ -91,7 +91,7 @@ returns-then-turn-clause-answer c = λ part kept wrapped bytes s.
 pub runs-smaller : goal.runs-smaller
 runs-smaller c =
     let left : ℕ = length c.args.piece.now - c.runs.at in
-    fewer_left c.runs.self.registers.stop c.turn.new.self.registers.stop (calls_left c.runs.self.cutter left) (calls_left c.turn.new.self.cutter (length c.args.piece.now - c.turn.new.at)) (sym (ap (λ (o : Option StopCause). is_some o) c.in_default.ensures))
+    fewer_left c.runs.self.registers.values.stop c.turn.new.self.registers.values.stop (calls_left c.runs.self.cutter left) (calls_left c.turn.new.self.cutter (length c.args.piece.now - c.turn.new.at)) (sym (ap (λ (o : Option StopCause). is_some o) c.in_default.ensures))
     (λ going. let nearer = c.turn.ensures.goes_on c.if-turn.false going in let same = ap (λ (k : CutterState). calls_left k left) c.give.ensures.gives.cutter in omega (arith, nearer, same))
 
 pub runs-preserved : goal.runs-preserved

@@ -13,4 +13,4 @@ invariant-runs l = record {
 }
 
 abbrev pub decreases-runs : goal.decreases-runs
-decreases-runs l = if is_some l.self.registers.stop then 0 else calls_left l.self.cutter (length l.piece - l.at) + 1
+decreases-runs l = if is_some l.self.registers.values.stop then 0 else calls_left l.self.cutter (length l.piece - l.at) + 1

@@ -51,7 +51,7 @@ returns-then-not-give-clause-first c = c.runs.invariant.first
 
 pub returns-then-not-give-clause-takes : goal.returns-then-not-give-clause-takes
 returns-then-not-give-clause-takes c =
-    takes_given (with_buffer c.args.self.now c.dropping-read.result) (with_buffer c.runs.self c.runs.read) (with_buffer c.give.new.self c.give.new.read) c.args.piece.now c.runs.at (going_on c.stop.result c.runs.self.registers.stop c.stop.ensures (sym c.is_some.ensures ∙ c.if-is_some.false)) c.give.ensures.gives c.runs.invariant.takes
+    takes_given (with_buffer c.args.self.now c.dropping-read.result) (with_buffer c.runs.self c.runs.read) (with_buffer c.give.new.self c.give.new.read) c.args.piece.now c.runs.at (going_on c.stop.result c.runs.self.registers.values.stop c.stop.ensures (sym c.is_some.ensures ∙ c.if-is_some.false)) c.give.ensures.gives c.runs.invariant.takes
 
 pub returns-then-not-give-clause-no_word_due : goal.returns-then-not-give-clause-no_word_due
 returns-then-not-give-clause-no_word_due c = λ part kept wrapped bytes s.
@@ -75,7 +75,7 @@ returns-then-has_begun-clause-no_word_due c = λ part kept wrapped bytes s. c.gi
 
 pub returns-then-has_begun-clause-takes : goal.returns-then-has_begun-clause-takes
 returns-then-has_begun-clause-takes c =
-    takes_given (with_buffer c.args.self.now c.dropping-read.result) (with_buffer c.runs.self c.runs.read) (with_buffer c.give.new.self c.give.new.read) c.args.piece.now c.runs.at (going_on c.stop.result c.runs.self.registers.stop c.stop.ensures (sym c.is_some.ensures ∙ c.if-is_some.false)) c.give.ensures.gives c.runs.invariant.takes
+    takes_given (with_buffer c.args.self.now c.dropping-read.result) (with_buffer c.runs.self c.runs.read) (with_buffer c.give.new.self c.give.new.read) c.args.piece.now c.runs.at (going_on c.stop.result c.runs.self.registers.values.stop c.stop.ensures (sym c.is_some.ensures ∙ c.if-is_some.false)) c.give.ensures.gives c.runs.invariant.takes
 
 pub returns-then-has_begun-clause-ends : goal.returns-then-has_begun-clause-ends
 returns-then-has_begun-clause-ends c = λ part kept wrapped bytes s l. inr (sym c.has_begun.ensures.value ∙ c.if-has_begun.true)
@@ -90,7 +90,7 @@ returns-then-turn-clause-ends c = λ part kept wrapped bytes s l. absurd (omega 
 pub returns-then-turn-clause-takes : goal.returns-then-turn-clause-takes
 returns-then-turn-clause-takes c =
     takes_round (with_buffer c.args.self.now c.dropping-read.result) (with_buffer c.runs.self c.runs.read) (with_buffer c.give.new.self c.give.new.read) c.turn.new.self c.args.piece.now c.runs.at c.turn.new.at
-    (going_on c.stop.result c.runs.self.registers.stop c.stop.ensures (sym c.is_some.ensures ∙ c.if-is_some.false)) c.give.ensures.gives c.turn.ensures.turned c.runs.invariant.takes
+    (going_on c.stop.result c.runs.self.registers.values.stop c.stop.ensures (sym c.is_some.ensures ∙ c.if-is_some.false)) c.give.ensures.gives c.turn.ensures.turned c.runs.invariant.takes
 
 pub returns-then-turn-clause-first : goal.returns-then-turn-clause-first
 returns-then-turn-clause-first c = λ part kept wrapped bytes s.
@@ -103,8 +103,8 @@ returns-then-turn-clause-first c = λ part kept wrapped bytes s.
 pub runs-smaller : goal.runs-smaller
 runs-smaller c =
     let left : ℕ = length c.args.piece.now - c.runs.at in
-    let going : is_some c.runs.self.registers.stop ≡ false = ap (λ (o : Option StopCause). is_some o) (sym c.stop.ensures) ∙ sym c.is_some.ensures ∙ c.if-is_some.false in
-    fewer_left c.runs.self.registers.stop c.turn.new.self.registers.stop (calls_left c.runs.self.cutter left) (calls_left c.turn.new.self.cutter (length c.args.piece.now - c.turn.new.at)) going
+    let going : is_some c.runs.self.registers.values.stop ≡ false = ap (λ (o : Option StopCause). is_some o) (sym c.stop.ensures) ∙ sym c.is_some.ensures ∙ c.if-is_some.false in
+    fewer_left c.runs.self.registers.values.stop c.turn.new.self.registers.values.stop (calls_left c.runs.self.cutter left) (calls_left c.turn.new.self.cutter (length c.args.piece.now - c.turn.new.at)) going
     (λ none. let nearer = c.turn.ensures.goes_on c.if-turn.false none in let same = ap (λ (k : CutterState). calls_left k left) c.give.ensures.gives.cutter in omega (arith, nearer, same))
 
 pub runs-preserved : goal.runs-preserved
@@ -114,7 +114,7 @@ runs-preserved c =
     let same : c.give.new.self.taken ≡ c.runs.self.taken = c.give.ensures.gives.taken in
     record {
       takes = takes_round (with_buffer c.args.self.now c.dropping-read.result) (with_buffer c.runs.self c.runs.read) (with_buffer c.give.new.self c.give.new.read) c.turn.new.self c.args.piece.now c.runs.at c.turn.new.at
-          (going_on c.stop.result c.runs.self.registers.stop c.stop.ensures (sym c.is_some.ensures ∙ c.if-is_some.false)) c.give.ensures.gives c.turn.ensures.turned c.runs.invariant.takes;
+          (going_on c.stop.result c.runs.self.registers.values.stop c.stop.ensures (sym c.is_some.ensures ∙ c.if-is_some.false)) c.give.ensures.gives c.turn.ensures.turned c.runs.invariant.takes;
       fits = omega (arith, same, c.turn.ensures.turned.taken, c.turn.ensures.turned.forward, c.turn.ensures.turned.within, c.runs.invariant.fits);
       drops = λ part kept wrapped bytes s.
           let given = c.give.ensures.gives.given part kept wrapped (bytes ++ take c.runs.at piece) (c.runs.invariant.takes.stands part kept wrapped bytes s) in

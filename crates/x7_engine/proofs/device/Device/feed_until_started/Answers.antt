@@ -59,13 +59,13 @@ pub returns-then-not-give-clause-first : goal.returns-then-not-give-clause-first
 returns-then-not-give-clause-first c = c.runs.invariant.first
 
 pub returns-then-not-give-clause-started : goal.returns-then-not-give-clause-started
-returns-then-not-give-clause-started c = λ part kept wrapped bytes s none. absurd (omega (arith, none, some_due (due_count c.give.new.self.registers.due) c.give.result c.give.ensures.none_left c.if-not-give.true))
+returns-then-not-give-clause-started c = λ part kept wrapped bytes s none. absurd (omega (arith, none, some_due (due_count c.give.new.self.registers.values.due) c.give.result c.give.ensures.none_left c.if-not-give.true))
 
 pub returns-then-not-give-clause-answer : goal.returns-then-not-give-clause-answer
 returns-then-not-give-clause-answer c = λ part kept wrapped bytes s.
     let taken : List ℕ = bytes ++ take c.runs.at c.args.piece.now in
     let stands = c.give.ensures.gives.stands part kept wrapped taken (c.runs.invariant.takes.stands part kept wrapped bytes s) in
-    let due : 0 < due_count c.give.new.self.registers.due = some_due (due_count c.give.new.self.registers.due) c.give.result c.give.ensures.none_left c.if-not-give.true in
+    let due : 0 < due_count c.give.new.self.registers.values.due = some_due (due_count c.give.new.self.registers.values.due) c.give.result c.give.ensures.none_left c.if-not-give.true in
     (stands.stop_is ∙ ap (stop_at_place (length taken)) c.give.ensures.gives.going, due, c.give.ensures.gives.full due)
 
 pub returns-then-not-give-clause-takes : goal.returns-then-not-give-clause-takes
@@ -157,7 +157,7 @@ returns-then-turn_until_started-clause-gives c =
 pub runs-smaller : goal.runs-smaller
 runs-smaller c =
     let left : ℕ = length c.args.piece.now - c.runs.at in
-    fewer_left c.runs.self.registers.stop c.turn_until_started.new.self.registers.stop (calls_left c.runs.self.cutter left)
+    fewer_left c.runs.self.registers.values.stop c.turn_until_started.new.self.registers.values.stop (calls_left c.runs.self.cutter left)
     (calls_left c.turn_until_started.new.self.cutter (length c.args.piece.now - c.turn_until_started.new.at)) (sym (ap (λ (o : Option StopCause). is_some o) c.in_default.ensures))
     (λ going. let nearer = c.turn_until_started.ensures.took.goes_on c.if-turn_until_started.false going in let same = ap (λ (k : CutterState). calls_left k left) c.give.ensures.gives.cutter in omega (arith, nearer, same))
 

@@ -17,7 +17,7 @@ after c = record (device_in c.self.inside) { registers = registers_in c.give.new
 stands_after : (c : goal.After-give) (kept : Kept) (wrapped : Bool) (bytes : List ℕ) → DeviceStandsFor c.self.inside.part kept wrapped (device_in c.self.inside) bytes → DeviceStandsFor c.self.inside.part kept wrapped (after c) bytes
 stands_after c kept wrapped bytes s =
     let h = history_taken c.self.inside.part kept bytes in
-    let going : c.self.inside.registers.stop ≡ None = ap (λ (d : DeviceState). d.registers.stop) c.self.view_is ∙ c.requires.going in
+    let going : c.self.inside.registers.values.stop ≡ None = ap (λ (d : DeviceState). d.registers.values.stop) c.self.view_is ∙ c.requires.going in
     stands_given c.self.inside.part kept wrapped (device_in c.self.inside) (registers_in c.give.new.self) bytes c.args.read.now c.give.new.read going c.give.ensures.gave.going s
     (c.give.ensures.gave.stands kept h (length bytes) s.registers_are) (c.give.ensures.gave.given kept h (length bytes) s.registers_are)
 

@@ -49,12 +49,12 @@ passed_here c kept wrapped bytes s =
     let same : count ≡ from + count - from = omega arith in
     let prefix : take count (take (length piece - from) (drop from piece)) ≡ cut = ap (take count) (take_rest piece from) ∙ ap (λ (k : ℕ). take k (drop from piece)) same in
     passed c.self.inside.part kept wrapped (device_in c.self.inside) (device_after c) bytes cut more rest count left s
-    (ap (λ (d : DeviceState). d.registers.stop) c.self.view_is ∙ c.requires.going)
-    (ap (λ (d : DeviceState). due_count d.registers.due) c.self.view_is ∙ c.requires.no_word_due)
+    (ap (λ (d : DeviceState). d.registers.values.stop) c.self.view_is ∙ c.requires.going)
+    (ap (λ (d : DeviceState). due_count d.registers.values.due) c.self.view_is ∙ c.requires.no_word_due)
     (λ sessions place i. subst (λ (b : List ℕ). IdlesThrough c.self.inside.cutter (bytes ++ b) sessions place) prefix (c.nop_count-count.ensures.idles bytes sessions place i))
     (c.take_bytes-left.ensures.enters kept) (sym all) split (length-drop (from + count - left - from) cut ∙ omega (arith, all, few))
     c.take_bytes-left.ensures.left.goes_on c.take_bytes-left.ensures.fired refl refl refl (omega (arith, taken))
-    (ap due_count c.take_bytes-left.ensures.due ∙ ap (λ (d : DeviceState). due_count d.registers.due) c.self.view_is ∙ c.requires.no_word_due)
+    (ap due_count c.take_bytes-left.ensures.due ∙ ap (λ (d : DeviceState). due_count d.registers.values.due) c.self.view_is ∙ c.requires.no_word_due)
 
 stands_after : (c : goal.After-self-2-1) → TakesJust c.args.self.now (device_after c) (passed_bytes c)
 stands_after c = each_by_fields (device_in c.self.inside) c.args.self.now (λ p. HasPast (device_after c) (later p (passed_bytes c))) c.self.view_is (λ kept wrapped bytes s. (passed_here c kept wrapped bytes s).0)
@@ -63,7 +63,7 @@ silent_after : (c : goal.After-self-2-1) → GivesNoWord c.args.self.now (device
 silent_after c = each_by_fields (device_in c.self.inside) c.args.self.now (λ p. reads_given_at (device_after c) (later p (passed_bytes c)) ≡ reads_given_at c.args.self.now p) c.self.view_is
     (λ kept wrapped bytes s.
     given_same c.self.inside.part kept c.args.self.now (device_after c) bytes (bytes ++ passed_bytes c) c.requires.no_word_due
-    (ap due_count c.take_bytes-left.ensures.due ∙ ap (λ (d : DeviceState). due_count d.registers.due) c.self.view_is ∙ c.requires.no_word_due) (passed_here c kept wrapped bytes s).1)
+    (ap due_count c.take_bytes-left.ensures.due ∙ ap (λ (d : DeviceState). due_count d.registers.values.due) c.self.view_is ∙ c.requires.no_word_due) (passed_here c kept wrapped bytes s).1)
 
 quiet_after : (c : goal.After-self-2-1) → ForEachPast c.args.self.now (λ p. history_of (p.bytes ++ passed_bytes c) ≡ history_of p.bytes)
 quiet_after c = each_by_fields (device_in c.self.inside) c.args.self.now (λ p. history_of (p.bytes ++ passed_bytes c) ≡ history_of p.bytes) c.self.view_is (λ kept wrapped bytes s. (passed_here c kept wrapped bytes s).2)

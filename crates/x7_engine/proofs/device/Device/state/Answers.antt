@@ -30,14 +30,14 @@ returns-clause-owing c = λ given kept wrapped bytes s.
     let course : Course = course_at part kept h n in
     let all_taken : length bytes ≡ n = sym (taken_is part kept wrapped (fields_of c) bytes stands) in
     let regs : RegistersStandFor part kept (registers_in c.self.inside.registers) h n = subst (λ (k : ℕ). RegistersStandFor part kept (registers_in c.self.inside.registers) h k) all_taken stands.registers_are in
-    let shown : (r : Reg) → register_value course false (fault_of_stop c.self.inside.registers.stop) r ≡ register_value course false (fault_of_stop (why_stopped (first_stop_of_bytes part kept bytes))) r =
+    let shown : (r : Reg) → register_value course false (fault_of_stop c.self.inside.registers.values.stop) r ≡ register_value course false (fault_of_stop (why_stopped (first_stop_of_bytes part kept bytes))) r =
     λ r. ap (λ (o : Option StopCause). register_value course false (fault_of_stop o) r) (sym (why_is part kept wrapped (fields_of c) bytes stands)) in
     let taken : c.self.inside.taken ≡ n = stands.taken_is ∙ sym (taken_is part kept wrapped (fields_of c) bytes stands) in
     let phase : c.phase.result ≡ phase_by part (startup_progress h n) = c.phase.ensures.value part h n regs.clock.startup in
     let lines : c.lines.result ≡ lines_by part (startup_progress h n) = c.lines.ensures part h n regs.clock.startup in
     let end : c.end.result ≡ (state_of part kept wrapped bytes).end = c.end.ensures part kept wrapped bytes now in
     let crc : c.value.result ≡ register_value course wrapped (fault_of_stop (why_stopped (first_stop_of_bytes part kept bytes))) reg.Crc = c.value.ensures kept h n regs ∙ shown reg.Crc in
-    let due : ℕ = frames_due c.self.inside.registers.due in
+    let due : ℕ = frames_due c.self.inside.registers.values.due in
     let far : c.value-2.result ≡ far_owing part h due = c.value-2.ensures kept h n regs in
     let cmd : c.value-3.result ≡ register_value course wrapped (fault_of_stop (why_stopped (first_stop_of_bytes part kept bytes))) reg.Cmd = c.value-3.ensures kept h n regs ∙ shown reg.Cmd in
     let ctl0 : c.value-4.result ≡ register_value course wrapped (fault_of_stop (why_stopped (first_stop_of_bytes part kept bytes))) reg.Ctl0 = c.value-4.ensures kept h n regs ∙ shown reg.Ctl0 in
@@ -74,10 +74,10 @@ returns-clause-owing c = λ given kept wrapped bytes s.
       bspi = bspi i;
     } in
     all ∙ ap (λ (p : PartData). state_owing p kept wrapped bytes due) here
-    ∙ ap (λ (d : DeviceState). state_owing given kept wrapped bytes (frames_due d.registers.due)) c.self.view_is
+    ∙ ap (λ (d : DeviceState). state_owing given kept wrapped bytes (frames_due d.registers.values.due)) c.self.view_is
 
 pub returns-clause-value : goal.returns-clause-value
 returns-clause-value c = λ given kept wrapped bytes s none.
     returns-clause-owing c given kept wrapped bytes s
-    ∙ ap (state_owing given kept wrapped bytes) (none_frames c.args.self.now.registers.due none)
+    ∙ ap (state_owing given kept wrapped bytes) (none_frames c.args.self.now.registers.values.due none)
     ∙ state_now given kept wrapped bytes

@@ -37,7 +37,7 @@ run_taken c = between c.args.piece.now c.args.at.now (c.cut-run.new.at - c.take_
 
 turned_here : (c : goal.After-is_done) (kept : Kept) (wrapped : Bool) (bytes : List ℕ) → (let part : PartData = c.self.inside.part in DeviceStandsFor part kept wrapped (device_in c.self.inside) bytes
     → DeviceStandsFor part kept wrapped (device_after c) (bytes ++ run_taken c)
-    × (reads_of part kept (bytes ++ run_taken c) ≡ reads_of part kept bytes ++ words_still_due part (history_taken part kept (bytes ++ run_taken c)) c.take_run-left.new.self.due))
+    × (reads_of part kept (bytes ++ run_taken c) ≡ reads_of part kept bytes ++ words_still_due part (history_taken part kept (bytes ++ run_taken c)) c.take_run-left.new.self.values.due))
 turned_here c kept wrapped bytes s =
     let piece : List ℕ = c.args.piece.now in
     let from : ℕ = c.args.at.now in
@@ -51,7 +51,7 @@ turned_here c kept wrapped bytes s =
     let all : length cut ≡ at - from = length_between piece from at c.cut-run.ensures.forward c.cut-run.ensures.within in
     let taken : length more ≡ at - left - from = length_between piece from (at - left) forward (omega (arith, c.cut-run.ensures.within)) in
     turned c.self.inside.part kept wrapped (device_in c.self.inside) (device_after c) bytes cut more (drop (at - left - from) cut) c.cut-run.result (at - from) left (length piece - from) s
-    (ap (λ (d : DeviceState). d.registers.stop) c.self.view_is ∙ c.requires.going)
+    (ap (λ (d : DeviceState). d.registers.values.stop) c.self.view_is ∙ c.requires.going)
     (c.cut-run.ensures.adds bytes) (c.take_run-left.ensures.enters kept) (c.take_run-left.ensures.reads kept)
     (sym all) (between_prefix piece from at left forward) (length-drop (at - left - from) cut ∙ omega (arith, all, some)) c.cut-run.ensures.run c.cut-run.ensures.lent
     c.take_run-left.ensures.left.goes_on c.take_run-left.ensures.none_due_at_stop.none_due_at_stop refl refl (omega (arith, taken))
@@ -64,14 +64,14 @@ turn_taken c = record {
       (λ kept wrapped bytes s. (
       let part : PartData = c.self.inside.part in
       given_by part kept (device_after c) (bytes ++ run_taken c) (reads_of part kept bytes) (history_taken part kept (bytes ++ run_taken c)) (turned_here c kept wrapped bytes s).1
-      ∙ sym (given_by part kept c.args.self.now bytes (reads_of part kept bytes) [] (no_word_due (reads_of part kept bytes) part [] c.args.self.now.registers.due c.requires.no_word_due))));
+      ∙ sym (given_by part kept c.args.self.now bytes (reads_of part kept bytes) [] (no_word_due (reads_of part kept bytes) part [] c.args.self.now.registers.values.due c.requires.no_word_due))));
   commands = λ part kept wrapped bytes s. (
       let piece : List ℕ = c.args.piece.now in
       let from : ℕ = c.args.at.now in
       let at : ℕ = c.cut-run.new.at in
       let left : ℕ = c.take_run-left.result in
       let inside : DeviceStandsFor part kept wrapped (device_in c.self.inside) bytes = subst (λ (d : DeviceState). DeviceStandsFor part kept wrapped d bytes) (sym c.self.view_is) s in
-      let cutter : IsCutterOf c.self.inside.cutter bytes = inside.cutter_is (ap (λ (d : DeviceState). d.registers.stop) c.self.view_is ∙ c.requires.going) in
+      let cutter : IsCutterOf c.self.inside.cutter bytes = inside.cutter_is (ap (λ (d : DeviceState). d.registers.values.stop) c.self.view_is ∙ c.requires.going) in
       let some : left ≤ at - from = c.take_run-left.ensures.left.within in
       let onward : from ≤ at = c.cut-run.ensures.forward in
       prefix_commands bytes (between piece from at) (between piece from (at - left)) (drop (at - left - from) (between piece from at)) (between_prefix piece from at left (omega (arith, some, onward)))
@@ -112,7 +112,7 @@ returns c = record {
   };
   used_up = λ e. (
       let done = c.is_done.ensures.yes e in
-      let going : c.take_run-left.new.self.stop ≡ None = done.1 in
+      let going : c.take_run-left.new.self.values.stop ≡ None = done.1 in
       let need : IsNeed c.cut-run.result = c.is_need-used_up.ensures.0 done.0 in
       let all : length c.args.piece.now - c.cut-run.new.at ≡ 0 = need_goes c.cut-run.result _ _ _ need c.cut-run.ensures.nearer in
       record {

@@ -23,8 +23,8 @@ device_after c = record (device_in c.self.inside) { cutter = c.take_write.new.se
 abbrev written : goal.After-self-2-1 → List ℕ
 written c = between c.args.piece.now c.args.at.now (c.args.at.now + 8)
 
-no_word_due : (c : goal.After-self-2-1) → due_count c.write_word_to.new.self.due ≡ 0
-no_word_due c = ap due_count c.write_word_to.ensures.leaves.due ∙ ap (λ (d : DeviceState). due_count d.registers.due) c.self.view_is ∙ c.requires.no_word_due
+no_word_due : (c : goal.After-self-2-1) → due_count c.write_word_to.new.self.values.due ≡ 0
+no_word_due c = ap due_count c.write_word_to.ensures.leaves.due ∙ ap (λ (d : DeviceState). due_count d.registers.values.due) c.self.view_is ∙ c.requires.no_word_due
 
 -- the registers before the write, and after it
 abbrev wrote : goal.After-self-2-1 → Change
@@ -34,7 +34,7 @@ written_here : (c : goal.After-self-2-1) (kept : Kept) (wrapped : Bool) (bytes :
     → DeviceStandsFor part kept wrapped (device_after c) (bytes ++ written c) × (reads_of part kept (bytes ++ written c) ≡ reads_of part kept bytes) × CommandsLast bytes (written c))
 written_here c kept wrapped bytes s =
     write_at c.self.inside.part kept wrapped (device_in c.self.inside) (device_after c) bytes c.args.piece.now c.args.at.now c.in-Some.register c.in-Some.word s
-    (ap (λ (d : DeviceState). d.registers.stop) c.self.view_is ∙ c.requires.going)
+    (ap (λ (d : DeviceState). d.registers.values.stop) c.self.view_is ∙ c.requires.going)
     (c.is_idle.ensures.not_begun c.if-not-is_idle.false) (c.is_idle.ensures.no_limit c.if-not-is_idle.false)
     c.in-Some.ensures.writes (subst (λ (r : ℕ). EntersHistoryAt (wrote c) (λ place h. entry (Write r c.in-Some.word) place ∷ h)) c.numbered.ensures c.write_word_to.ensures.enters kept) c.write_word_to.ensures.counts (no_word_due c) refl refl refl
 

@@ -7,7 +7,7 @@ use Rattle.x7_engine.proofs.registers.Registers.give_due.Goals as goal
 
 pub give_frames-left-requires-clause-due : goal.give_frames-left-requires-clause-due
 give_frames-left-requires-clause-due c =
-    let h : History = frames_history c.args.self.now.stop c.requires.history.history in
+    let h : History = frames_history c.args.self.now.values.stop c.requires.history.history in
     record { history = h; stands = subst (λ (k : ℕ). FramesStandFor c.args.part.now c.args.self.now.frames h k) (ap frames_due c.in-Frames.is) c.requires.history.stands.frames.stands }
 
 pub returns-in-Frames : goal.returns-in-Frames

@@ -22,12 +22,12 @@ returns c = λ part ready. record {
         progress = c.pass.ensures part.idcode h place s.progress;
         kind = s.kind;
         before = s.before;
-        clock = clock_plain part kept (registers_in c.args.self.now).clock h c.args.plain.register c.args.word place q s.clock;
+        clock = clock_plain part kept (registers_in c.args.self.now).values.clock h c.args.plain.register c.args.word place q s.clock;
         stop = stop_of_access part kept h (Write c.args.plain.register c.args.word) place going ∙ ap (stop_at_place place) (sym (why_none part kept h c.args.plain.register c.args.word p)) ∙ sym (ap (stop_at_place place) ready.going);
-        frames = frames_none part c.args.self.now.frames c.args.self.now.stop (entry (Write c.args.plain.register c.args.word) place ∷ h) c.args.self.now.due ready.going ready.no_word_due
+        frames = frames_none part c.args.self.now.frames c.args.self.now.values.stop (entry (Write c.args.plain.register c.args.word) place ∷ h) c.args.self.now.values.due ready.going ready.no_word_due
             (other_access part c.args.self.now.frames h (entry (Write c.args.plain.register c.args.word) place)
-            (plain_asks part.idcode h c.args.plain.register c.args.word p) (standing_frames part c.args.self.now.frames c.args.self.now.stop h c.args.self.now.due ready.going ready.no_word_due s.frames));
-        due_kind = none_among c.args.self.now.due (entry (Write c.args.plain.register c.args.word) place ∷ h) ready.no_word_due;
+            (plain_asks part.idcode h c.args.plain.register c.args.word p) (standing_frames part c.args.self.now.frames c.args.self.now.values.stop h c.args.self.now.values.due ready.going ready.no_word_due s.frames));
+        due_kind = none_among c.args.self.now.values.due (entry (Write c.args.plain.register c.args.word) place ∷ h) ready.no_word_due;
       });
   counts = λ n. ap (λ (o : Option StopCause). counted_in o n) ready.going;
   leaves = record { due = refl; frames = ready.frames };

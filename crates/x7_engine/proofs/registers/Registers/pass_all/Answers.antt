@@ -39,24 +39,24 @@ returns c = record {
       let prefix : List ℕ = take k ws in
       let size : length prefix ≡ k = length-take-le k ws few in
       let same : words_of_bytes (take (k * 4) bytes) ≡ prefix = words_prefix k bytes in
-      let here : counted_in c.take_bytes-left.new.self.stop m ≡ n + c.counted_in.result = counted_after c.take_bytes-left.new.self.stop n (length bytes) left c.take_bytes-left.ensures.fired ∙ sym (ap (λ (x : ℕ). n + x) c.counted_in.ensures.value) in
-      let start : Clocked part kept (registers_in c.take_bytes-left.new.self).clock c.take_bytes-left.new.self.stop h n m = record { places = s.places; clock = t.clock; stop = t.stop } in
-      let clocked : Clocked part kept (registers_in c.take_bytes-left.new.self).clock c.take_bytes-left.new.self.stop (entered_all n (payload_steps c.args.plain.register prefix) h) (n + 4 * length prefix) m =
-      clocked_all part kept (registers_in c.take_bytes-left.new.self).clock c.take_bytes-left.new.self.stop c.args.plain.register n m prefix h p.quiet (plain_none part kept c.args.plain.register n prefix h p) (omega (arith, size, within)) start in
-      let all : until (counted_in c.take_bytes-left.new.self.stop m) (entered_all n (payload_steps c.args.plain.register ws) h) ≡ entered_all n (payload_steps c.args.plain.register prefix) h =
-      prefix_all n k (counted_in c.take_bytes-left.new.self.stop m) c.args.plain.register ws h few (omega (arith, here)) (omega (arith, here))
+      let here : counted_in c.take_bytes-left.new.self.values.stop m ≡ n + c.counted_in.result = counted_after c.take_bytes-left.new.self.values.stop n (length bytes) left c.take_bytes-left.ensures.fired ∙ sym (ap (λ (x : ℕ). n + x) c.counted_in.ensures.value) in
+      let start : Clocked part kept (registers_in c.take_bytes-left.new.self).values.clock c.take_bytes-left.new.self.values.stop h n m = record { places = s.places; clock = t.clock; stop = t.stop } in
+      let clocked : Clocked part kept (registers_in c.take_bytes-left.new.self).values.clock c.take_bytes-left.new.self.values.stop (entered_all n (payload_steps c.args.plain.register prefix) h) (n + 4 * length prefix) m =
+      clocked_all part kept (registers_in c.take_bytes-left.new.self).values.clock c.take_bytes-left.new.self.values.stop c.args.plain.register n m prefix h p.quiet (plain_none part kept c.args.plain.register n prefix h p) (omega (arith, size, within)) start in
+      let all : until (counted_in c.take_bytes-left.new.self.values.stop m) (entered_all n (payload_steps c.args.plain.register ws) h) ≡ entered_all n (payload_steps c.args.plain.register prefix) h =
+      prefix_all n k (counted_in c.take_bytes-left.new.self.values.stop m) c.args.plain.register ws h few (omega (arith, here)) (omega (arith, here))
       (subst (λ (x : ℕ). Placed (n + 4 * x) (entered_all n (payload_steps c.args.plain.register prefix) h)) size clocked.places) in
-      until_stands part kept _ (until (counted_in c.take_bytes-left.new.self.stop m) (entered_all n (payload_steps c.args.plain.register ws) h)) (entered_all n (payload_steps c.args.plain.register prefix) h) m all record {
+      until_stands part kept _ (until (counted_in c.take_bytes-left.new.self.values.stop m) (entered_all n (payload_steps c.args.plain.register ws) h)) (entered_all n (payload_steps c.args.plain.register prefix) h) m all record {
         places = placed_within (n + 4 * length prefix) m (entered_all n (payload_steps c.args.plain.register prefix) h) (omega (arith, size, within)) clocked.places;
         words = subst (λ (x : List ℕ). AreLastWords kept c.pass_all-2.new.self.last (entered_all n (payload_steps c.args.plain.register x) h)) same (c.pass_all-2.ensures kept h n t.words);
-        controls = controls_stay (controls_in c.take_bytes-left.new.self.controls) c.args.plain.register n prefix h p.quiet t.controls;
+        controls = controls_stay (controls_in c.take_bytes-left.new.self.values.controls) c.args.plain.register n prefix h p.quiet t.controls;
         progress = subst (λ (x : List ℕ). IsProgress part.idcode (progress_in c.pass_all.new.self) (entered_all n (payload_steps c.args.plain.register x) h)) same (c.pass_all.ensures part.idcode h n t.progress);
         kind = t.kind;
         before = t.before;
         clock = clocked.clock;
         stop = clocked.stop;
-        frames = plain_are part c.take_bytes-left.new.self.frames c.take_bytes-left.new.self.stop c.args.plain.register n prefix h c.take_bytes-left.new.self.due p
-            (ticks_on c.take_bytes-left.new.self.stop _ c.take_bytes-left.ensures.fired) (ap due_count c.take_bytes-left.ensures.due ∙ c.requires.may_take.no_word_due) t.frames;
-        due_kind = none_among c.take_bytes-left.new.self.due (entered_all n (payload_steps c.args.plain.register prefix) h) (ap due_count c.take_bytes-left.ensures.due ∙ c.requires.may_take.no_word_due);
+        frames = plain_are part c.take_bytes-left.new.self.frames c.take_bytes-left.new.self.values.stop c.args.plain.register n prefix h c.take_bytes-left.new.self.values.due p
+            (ticks_on c.take_bytes-left.new.self.values.stop _ c.take_bytes-left.ensures.fired) (ap due_count c.take_bytes-left.ensures.due ∙ c.requires.may_take.no_word_due) t.frames;
+        due_kind = none_among c.take_bytes-left.new.self.values.due (entered_all n (payload_steps c.args.plain.register prefix) h) (ap due_count c.take_bytes-left.ensures.due ∙ c.requires.may_take.no_word_due);
       });
 }

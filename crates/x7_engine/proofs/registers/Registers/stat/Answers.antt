@@ -21,7 +21,7 @@ pub returns : goal.returns
 returns c = λ kept h n s.
     let part : PartData = c.args.part.now in
     c.stat_word.ensures.value
-    ∙ stat_known part (fault_of_stop c.args.self.now.stop) (startup_progress h n) c.lines-lines.result c.is_crc_fault-crc_error.result c.is_id_fault.result _ c.args.self.now.progress.ghigh c.have_passed.result c.have_passed-2.result c.startup_ended.result c.phase.result c.mode.result c.bus_width.result
+    ∙ stat_known part (fault_of_stop c.args.self.now.values.stop) (startup_progress h n) c.lines-lines.result c.is_crc_fault-crc_error.result c.is_id_fault.result _ c.args.self.now.values.progress.ghigh c.have_passed.result c.have_passed-2.result c.startup_ended.result c.phase.result c.mode.result c.bus_width.result
     c.is_crc_fault-crc_error.ensures c.is_id_fault.ensures s.progress.ghigh
     (c.have_passed.ensures part h n s.clock.startup ∙ ap (λ (k : ℕ). nat_le k (ticks_of (startup_progress h n))) c.lock.ensures)
     (c.have_passed-2.ensures part h n s.clock.startup ∙ ap (λ (k : ℕ). nat_le k (ticks_of (startup_progress h n))) c.matched.ensures)

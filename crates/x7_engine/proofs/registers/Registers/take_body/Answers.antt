@@ -36,8 +36,8 @@ returns-in-Effective c =
           let same : entered_all (n + k) (payload_steps register (words_of_bytes (take (length bytes - k) (drop k bytes)))) prefix ≡ entered_all n (payload_steps register (words_of_bytes bytes)) h =
           rest_entered register n k bytes h c.take_words_at_once-taken.ensures.whole c.take_words_at_once-taken.ensures.within in
           let sum : n + k + r ≡ n + (k + r) = omega arith in
-          subst (λ (x : ℕ). RegistersStandFor part kept (registers_in c.take_words_one_by_one.new.self) (until (counted_in c.take_words_one_by_one.new.self.stop x) (entered_all n (payload_steps register (words_of_bytes bytes)) h)) x) sum
-          (subst (λ (t : History). RegistersStandFor part kept (registers_in c.take_words_one_by_one.new.self) (until (counted_in c.take_words_one_by_one.new.self.stop (n + k + r)) t) (n + k + r)) same rest));
+          subst (λ (x : ℕ). RegistersStandFor part kept (registers_in c.take_words_one_by_one.new.self) (until (counted_in c.take_words_one_by_one.new.self.values.stop x) (entered_all n (payload_steps register (words_of_bytes bytes)) h)) x) sum
+          (subst (λ (t : History). RegistersStandFor part kept (registers_in c.take_words_one_by_one.new.self) (until (counted_in c.take_words_one_by_one.new.self.values.stop (n + k + r)) t) (n + k + r)) same rest));
     }
 
 pub returns-in-Plain : goal.returns-in-Plain

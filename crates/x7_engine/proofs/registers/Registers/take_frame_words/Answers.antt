@@ -51,25 +51,25 @@ returns c = record {
       let none : first_firing part kept h n (k * 4) ≡ None = firing_less part kept h n (k * 4) c.before_firing.result (omega (arith, few)) (c.before_firing.ensures.none_fires kept h n newest s.clock) in
       let ticks : ClockTakes (course_at part kept h n) clock (k * 4) None = ticks_quiet part kept clock h n (k * 4) c.bytes.result none (c.bytes.ensures.takes kept h n newest s.clock) in
       let after = ticked part kept (registers_in c.args.self.now) clock h n (k * 4) m refl c.requires.may_take.going s ticks in
-      let are : FramesStandFor part c.args.self.now.frames h 0 = standing_frames part c.args.self.now.frames c.args.self.now.stop h c.args.self.now.due c.requires.may_take.going c.requires.may_take.no_word_due s.frames in
+      let are : FramesStandFor part c.args.self.now.frames h 0 = standing_frames part c.args.self.now.frames c.args.self.now.values.stop h c.args.self.now.values.due c.requires.may_take.going c.requires.may_take.no_word_due s.frames in
       let words = given part c.write_bytes-count.new.self h (words_to r n (take (b * 4) bytes)) c.write_bytes-count.result (c.write_bytes-count.ensures.taken n h (c.settings-settings.ensures.after part kept h n s) are) in
       let before : take _ looked ≡ prefix = ap (λ (j : ℕ). take j looked) (sym c.count_taken-taken.ensures.value) ∙ same in
       let unrefused : NoneRefused part r n prefix h = subst (λ (x : List ℕ). NoneRefused part r n x h) before words.0 in
       let frames : FramesStandFor part c.write_bytes-count.new.self all 0 = subst (λ (x : List ℕ). FramesStandFor part c.write_bytes-count.new.self (with_words_to r n x h) 0) before words.1 in
       let quiet : IsQuiet register = data_quiet r c.requires.register in
       let matched : has_idcode part.idcode h ≡ true = sym s.progress.has_idcode ∙ c.requires.has_idcode in
-      let start : Clocked part kept clock c.args.self.now.stop h n m = record { places = s.places; clock = after.clock; stop = after.stop } in
-      let clocked : Clocked part kept clock c.args.self.now.stop all (n + 4 * length prefix) m = clocked_all part kept clock c.args.self.now.stop register n m prefix h quiet (data_none part kept r n prefix h c.requires.register matched unrefused) (omega (arith, size)) start in
+      let start : Clocked part kept clock c.args.self.now.values.stop h n m = record { places = s.places; clock = after.clock; stop = after.stop } in
+      let clocked : Clocked part kept clock c.args.self.now.values.stop all (n + 4 * length prefix) m = clocked_all part kept clock c.args.self.now.values.stop register n m prefix h quiet (data_none part kept r n prefix h c.requires.register matched unrefused) (omega (arith, size)) start in
       record {
         places = placed_within (n + 4 * length prefix) m all (omega (arith, size)) clocked.places;
         words = subst (λ (x : ℕ). AreLastWords kept c.pass_all-2.new.self.last (entered_all n (payload_steps x prefix) h)) c.number-2.ensures.value (c.pass_all-2.ensures kept h n s.words);
-        controls = controls_stay (controls_in c.args.self.now.controls) register n prefix h quiet s.controls;
+        controls = controls_stay (controls_in c.args.self.now.values.controls) register n prefix h quiet s.controls;
         progress = subst (λ (x : ℕ). IsProgress part.idcode (progress_in c.pass_all.new.self) (entered_all n (payload_steps x prefix) h)) c.number.ensures.value (c.pass_all.ensures part.idcode h n s.progress);
         kind = s.kind;
         before = s.before;
         clock = clocked.clock;
         stop = clocked.stop;
-        frames = frames_none part c.write_bytes-count.new.self c.args.self.now.stop all c.args.self.now.due c.requires.may_take.going c.requires.may_take.no_word_due frames;
-        due_kind = none_among c.args.self.now.due all c.requires.may_take.no_word_due;
+        frames = frames_none part c.write_bytes-count.new.self c.args.self.now.values.stop all c.args.self.now.values.due c.requires.may_take.going c.requires.may_take.no_word_due frames;
+        due_kind = none_among c.args.self.now.values.due all c.requires.may_take.no_word_due;
       });
 }

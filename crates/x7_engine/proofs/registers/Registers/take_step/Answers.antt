@@ -43,7 +43,7 @@ returns-else-count-gt0-clause-enters c = λ kept h place next s.
 pub returns-else-count-gt0-clause-reads : goal.returns-else-count-gt0-clause-reads
 returns-else-count-gt0-clause-reads c = λ kept h place s.
     let none : (c.in-Read.count == 0) ≡ true = eq-eqb c.in-Read.count 0 (omega (arith, c.if-count-gt0.false)) in
-    rw (c.in-Read.is, none) (no_word_due (read_out c.args.part.now kept h) c.args.part.now h c.args.self.now.due c.requires.may_take.no_word_due)
+    rw (c.in-Read.is, none) (no_word_due (read_out c.args.part.now kept h) c.args.part.now h c.args.self.now.values.due c.requires.may_take.no_word_due)
 
 pub returns-in-Bad-clause-none_due_at_stop : goal.returns-in-Bad-clause-none_due_at_stop
 returns-in-Bad-clause-none_due_at_stop c = record { none_due_at_stop = λ why e. c.requires.may_take.no_word_due; frames = c.requires.may_take.frames }
@@ -61,17 +61,17 @@ returns-in-Bad-clause-enters c = λ kept h place next s.
       progress = record { check = s.progress.check; has_idcode = s.progress.has_idcode; pending = s.progress.pending; ghigh = s.progress.ghigh; iprog = s.progress.iprog };
       kind = s.kind;
       before = s.before;
-      clock = clock_other c.args.part.now kept (registers_in c.args.self.now).clock h (Bad c.in-Bad.word) place refl refl s.clock;
+      clock = clock_other c.args.part.now kept (registers_in c.args.self.now).values.clock h (Bad c.in-Bad.word) place refl refl s.clock;
       stop = stop_of_access c.args.part.now kept h (Bad c.in-Bad.word) place going;
-      frames = frames_none_at c.args.part.now c.args.self.now.frames (Some (stop.Fault (fault.Packet c.in-Bad.word))) (entry (Bad c.in-Bad.word) place ∷ h) c.args.self.now.due refl c.requires.may_take.no_word_due
-          (other_access c.args.part.now c.args.self.now.frames h (entry (Bad c.in-Bad.word) place) refl (standing_frames c.args.part.now c.args.self.now.frames c.args.self.now.stop h c.args.self.now.due c.requires.may_take.going c.requires.may_take.no_word_due s.frames));
-      due_kind = none_among c.args.self.now.due (entry (Bad c.in-Bad.word) place ∷ h) c.requires.may_take.no_word_due;
+      frames = frames_none_at c.args.part.now c.args.self.now.frames (Some (stop.Fault (fault.Packet c.in-Bad.word))) (entry (Bad c.in-Bad.word) place ∷ h) c.args.self.now.values.due refl c.requires.may_take.no_word_due
+          (other_access c.args.part.now c.args.self.now.frames h (entry (Bad c.in-Bad.word) place) refl (standing_frames c.args.part.now c.args.self.now.frames c.args.self.now.values.stop h c.args.self.now.values.due c.requires.may_take.going c.requires.may_take.no_word_due s.frames));
+      due_kind = none_among c.args.self.now.values.due (entry (Bad c.in-Bad.word) place ∷ h) c.requires.may_take.no_word_due;
     }
 
 pub returns-in-Bad-clause-reads : goal.returns-in-Bad-clause-reads
 returns-in-Bad-clause-reads c = λ kept h place s.
     rw c.in-Bad.is
-    (ap (λ (words : List ℕ). read_out c.args.part.now kept h ++ words) (sym (none_left c.args.part.now (entry (Bad c.in-Bad.word) place ∷ h) c.args.self.now.due c.requires.may_take.no_word_due)))
+    (ap (λ (words : List ℕ). read_out c.args.part.now kept h ++ words) (sym (none_left c.args.part.now (entry (Bad c.in-Bad.word) place ∷ h) c.args.self.now.values.due c.requires.may_take.no_word_due)))
 
 pub returns : goal.returns
 returns c =
@@ -80,5 +80,5 @@ returns c =
       none_due_at_stop = record { none_due_at_stop = λ why e. c.requires.may_take.no_word_due; frames = c.requires.may_take.frames };
       counts = λ n. ap (λ (o : Option StopCause). counted_in o n) c.requires.may_take.going;
       enters = λ kept h place next s. rw (stays place h) s;
-      reads = λ kept h place s. rw (stays place h) (no_word_due (read_out c.args.part.now kept h) c.args.part.now h c.args.self.now.due c.requires.may_take.no_word_due);
+      reads = λ kept h place s. rw (stays place h) (no_word_due (read_out c.args.part.now kept h) c.args.part.now h c.args.self.now.values.due c.requires.may_take.no_word_due);
     }

@@ -12,7 +12,7 @@ returns-then-is_some-clause-enters c = λ kept h n some s.
     let left : ℕ = c.take_bytes-left.result in
     let m : ℕ = n + (c.args.count - left) in
     subst (λ (t : History). RegistersStandFor c.args.part.now kept (registers_in c.take_bytes-left.new.self) t m)
-    (sym (fired_until c.take_bytes-left.new.self.stop n c.args.count left (Payload (target_number c.args.target) c.args.word) h (sym c.is_some.ensures ∙ c.if-is_some.true) c.take_bytes-left.ensures.fired s.places))
+    (sym (fired_until c.take_bytes-left.new.self.values.stop n c.args.count left (Payload (target_number c.args.target) c.args.word) h (sym c.is_some.ensures ∙ c.if-is_some.true) c.take_bytes-left.ensures.fired s.places))
     (c.take_bytes-left.ensures.enters kept h n s)
 
 pub returns-clause-left : goal.returns-clause-left
@@ -20,12 +20,12 @@ returns-clause-left c = record { within = omega arith; goes_on = λ e. omega ari
 
 pub returns-clause-enters : goal.returns-clause-enters
 returns-clause-enters c = λ kept h n some s.
-    let none : c.take_bytes-left.result ≡ 0 = c.take_bytes-left.ensures.left.goes_on (none_there c.take_bytes-left.new.self.stop (sym c.is_some.ensures ∙ c.if-is_some.false)) in
+    let none : c.take_bytes-left.result ≡ 0 = c.take_bytes-left.ensures.left.goes_on (none_there c.take_bytes-left.new.self.values.stop (sym c.is_some.ensures ∙ c.if-is_some.false)) in
     let all : n + (c.args.count - c.take_bytes-left.result) ≡ n + c.args.count = omega (arith, none) in
     let same : n + c.args.count ≡ n + (c.args.count - 0) = omega arith in
     let before : RegistersStandFor c.args.part.now kept (registers_in c.take_bytes-left.new.self) h (n + c.args.count) =
     subst (λ (m : ℕ). RegistersStandFor c.args.part.now kept (registers_in c.take_bytes-left.new.self) h m) all (c.take_bytes-left.ensures.enters kept h n s) in
-    subst (λ (m : ℕ). RegistersStandFor c.args.part.now kept (registers_in c.write_word_to.new.self) (until (counted_in c.write_word_to.new.self.stop m) (entry (Write (target_number c.args.target) c.args.word) (n + c.args.count) ∷ h)) m) same
+    subst (λ (m : ℕ). RegistersStandFor c.args.part.now kept (registers_in c.write_word_to.new.self) (until (counted_in c.write_word_to.new.self.values.stop m) (entry (Write (target_number c.args.target) c.args.word) (n + c.args.count) ∷ h)) m) same
     (all_counted c.args.part.now kept (registers_in c.write_word_to.new.self) (entry (Write (target_number c.args.target) c.args.word) (n + c.args.count) ∷ h) (n + c.args.count) (c.write_word_to.ensures.counts (n + c.args.count))
     (c.write_word_to.ensures.enters kept h (n + c.args.count) (next_at n c.args.count h some s.places) before))
 

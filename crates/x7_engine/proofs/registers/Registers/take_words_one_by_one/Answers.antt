@@ -43,7 +43,7 @@ loop-word-preserved c =
     let word : take (c.loop-word.word-index + 1) ws ≡ take c.loop-word.word-index ws ++ c.word_of.result ∷ [] =
     chunk_word c.args.bytes.now c.as_chunks.result.0.now c.loop-word.word-index c.word_of.result c.as_chunks.ensures.front c.loop-word-test.true c.word_of.ensures.value in
     let few : c.loop-word.word-index < length ws = let all : length ws ≡ length c.as_chunks.result.0.now = chunks_are c.args.bytes.now c.as_chunks.result.0.now c.as_chunks.ensures.front in omega (arith, all, c.loop-word-test.true) in
-    let going : c.take_word-left.new.self.stop ≡ None = none_there c.take_word-left.new.self.stop (sym c.is_some.ensures ∙ c.if-is_some.false) in
+    let going : c.take_word-left.new.self.values.stop ≡ None = none_there c.take_word-left.new.self.values.stop (sym c.is_some.ensures ∙ c.if-is_some.false) in
     let none : c.take_word-left.result ≡ 0 = c.take_word-left.ensures.left.goes_on going in
     record {
       going = going;

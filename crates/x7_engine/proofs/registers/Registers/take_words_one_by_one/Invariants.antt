@@ -10,9 +10,9 @@ use Rattle.x7_engine.proofs.registers.Registers.take_words_one_by_one.Given as g
 
 abbrev pub invariant-loop-word : goal.invariant-loop-word
 invariant-loop-word l = record {
-  going : l.self.stop ≡ None;
+  going : l.self.values.stop ≡ None;
   count : l.taken ≡ 4 * l.word-index;
-  due : l.self.due ≡ l.initial.self.due;
+  due : l.self.values.due ≡ l.initial.self.values.due;
   frames : FramesFit l.part l.self.frames;
   stands : (kept : Kept) (h : History) (n : ℕ) → RegistersStandFor l.part kept (registers_in l.initial.self) h n
       → RegistersStandFor l.part kept (registers_in l.self) (entered_all n (payload_steps (number_of l.reg) (take l.word-index (words_of_bytes l.bytes))) h) (n + l.taken);

@@ -1,6 +1,6 @@
 use Rattle.std.proofs.Common.{None, [], refl}
 use Rattle.x7_engine.proofs.FrameLemmas.{frames_at}
-use Rattle.x7_engine.proofs.saved.SavedRegisters.new.Goals as goal
+use Rattle.x7_engine.proofs.values.Values.new.Goals as goal
 
 pub returns-clause-stands : goal.returns-clause-stands
 returns-clause-stands c = λ part f are. record {
