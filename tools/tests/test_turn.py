@@ -1,10 +1,14 @@
 #!/usr/bin/env python3
 """Tests tools/turn: each way of turning comes back, from the file's first byte on, a few bytes later and after headers
-of all lengths; text and packed files; and what isn't taken leaves no output."""
+of all lengths; text and packed files and dumps; what it writes for a bus is the stream with its bits or bytes in
+another order, which it turns back; and what isn't taken leaves no output."""
+from __future__ import annotations
+
 from casefiles import Tally, os, put_file
 import gzip
 import shlex
 import tempfile
+from typing import Dict, List, Optional
 
 from calls import called, ran, shell_status
 import streams
@@ -14,25 +18,26 @@ tally = Tally()
 DATA = streams.data_of(streams.full())
 
 
-def in_file(data, name="file"):
+def in_file(data: bytes, name: str = "file") -> str:
     """The path of a file that holds these bytes."""
     return put_file(FOLDER, name, data)
 
 
-def turned(name, raw, wanted, said=""):
+def turned(name: str, raw: bytes, wanted: bytes, said: str = "") -> None:
     """The file gives just these bytes, and this is said."""
     status, out, err = called("turn", in_file(raw))
     tally.check(name, status == 0 and out == wanted, f"status {status}, {len(out)} bytes, {err.strip()}")
     tally.check(f"{name}: what is said", said in err, err.strip())
 
 
-def refused(name, raw, said):
-    """The file gives no stream: status 2, and one line that says why."""
-    status, out, err = called("turn", in_file(raw))
-    tally.check(name, status == 2 and not out and said in err and err.count("\n") == 1, f"status {status}, {len(out)} bytes, {err.strip()}")
+def refused(name: str, raw: bytes, said: str, *options: str) -> None:
+    """The file gives nothing: status 2, and one line that says why."""
+    status, out, err = called("turn", *options, in_file(raw))
+    is_refused = status == 2 and not out and said in err and err.count("\n") == 1
+    tally.check(name, is_refused, f"status {status}, {len(out)} bytes, {err.strip()}")
 
 
-def ways():
+def ways() -> None:
     """Every way that is known is its own inverse, so it makes the turned file too."""
     for way in x7kinds.WAYS:
         raw = way.back(DATA)
@@ -46,15 +51,36 @@ def ways():
             turned(f"{way.what}, a whole file of {len(head)} bytes more", way.back(head + DATA), head + DATA)
 
 
-def rbt(lines, bits=None):
+def rbt(lines: List[bytes], bits: Optional[int] = None) -> bytes:
     """A .rbt file of these lines, whose head says how many bits there are."""
-    head = [b"Xilinx ASCII Bitstream", b"Created by hand", b"Bits:        %d" % (32 * len(lines) if bits is None else bits)]
+    count = 32 * len(lines) if bits is None else bits
+    head = [b"Xilinx ASCII Bitstream", b"Created by hand", b"Bits:        %d" % count]
     return b"\n".join(head + lines) + b"\n"
 
 
-def texts():
+def dump(size: int, is_lowest_first: bool) -> bytes:
+    """A dump of DATA, a label and a row of 16 bytes a line, in groups of `size` bytes."""
+    text = b""
+    for at in range(0, len(DATA), 16):
+        groups = [DATA[it : it + size] for it in range(at, min(at + 16, len(DATA)), size)]
+        row = " ".join(bytes(it[::-1] if is_lowest_first else it).hex() for it in groups)
+        text += f"{at:08x} {row}\n".encode()
+    return text + f"{len(DATA):08x}\n".encode()
+
+
+def texts() -> None:
     """Streams as texts: bits, digits, dumps."""
     lines = [f"{int.from_bytes(DATA[at:at + 4], 'big'):032b}".encode() for at in range(0, len(DATA), 4)]
+    said = "turn: the digits of a dump packed\nturn: written"
+    for size in (1, 2, 4):
+        turned(f"a dump of {8 * size} bits", dump(size, size > 1), DATA, said)
+    turned("a dump with its words the other way", dump(4, False), DATA, "turn: the bytes of each word swapped")
+    digits = DATA.hex(" ", 4).upper().encode()
+    turned("words", digits, DATA, "the digits of a dump packed")
+    turned("a packed dump", gzip.compress(digits), DATA, "turn: unpacked\nturn: the digits of a dump packed\n")
+    turned("a dump of turned bytes", DATA.translate(x7kinds.MIRRORED).hex().encode(), DATA, "the bits of each byte")
+    rows = dump(1, False).splitlines(keepends=True)
+    refused("a dump that lost a line", b"".join(rows[:9] + rows[10:]), "line 10 of the dump")
     turned("a .rbt file", rbt(lines), DATA, "the digits of a .rbt file packed")
     turned("a .rbt file with 0D 0A", rbt(lines).replace(b"\n", b"\r\n"), DATA)
     turned("a gzip file", gzip.compress(DATA), DATA, "unpacked")
@@ -66,13 +92,53 @@ def texts():
     refused("a .rbt file that lost a line", rbt([*lines[:9], *lines[10:]], 32 * len(lines)), "lines were lost")
     refused("a .rbt file with a line twice", rbt([*lines[:9], *lines[8:]], 32 * len(lines)), "lines were added")
     refused("a gzip file that is cut off", gzip.compress(DATA)[:-20], "damaged")
-    for name, raw in (("nothing", b""), ("random bytes", bytes(range(7, 250)) * 9), ("a page", b"<!DOCTYPE html><html>"), ("FF", b"\xff" * 999)):
-        refused(name, raw, "no sync word")
+    for raw in (b"", bytes(range(7, 250)) * 9, b"<!DOCTYPE html><html>", b"\xff" * 999):
+        refused(f"{len(raw)} bytes", raw, "no sync word")
 
 
-def calls():
+# the data that a bus takes for each word of its way, byte for byte: from where in a group, and whether its bits are
+# swapped
+BUSES: Dict[str, tuple[List[int], bool]] = {
+    "bits": ([0], True),
+    "halves": ([1, 0], False),
+    "words": ([3, 2, 1, 0], False),
+    "bits,halves": ([1, 0], True),
+    "halves,bits": ([1, 0], True),
+    "bits,words": ([3, 2, 1, 0], True),
+}
+
+
+def as_bus(data: bytes, order: List[int], has_bits: bool) -> bytes:
+    """Data as a bus takes it, made byte by byte."""
+    moved = [data[at - at % len(order) + order[at % len(order)]] for at in range(len(data))]
+    return bytes(int(f"{it:08b}"[::-1], 2) if has_bits else it for it in moved)
+
+
+def buses() -> None:
+    """What is written for each bus, of a stream in each form, is turned back to the same stream."""
+    header = streams.header(len(DATA))
+    for way, (order, has_bits) in BUSES.items():
+        wanted = as_bus(DATA, order, has_bits)
+        forms = {"a stream": DATA, "a .bit file": header + DATA, "a gzip file": gzip.compress(DATA), "itself": wanted}
+        for name, raw in {**forms, "a dump": dump(1, False)}.items():
+            status, out, err = called("turn", "--to", way, in_file(raw))
+            tally.same(f"{way} of {name}", (status, out), (0, wanted))
+            tally.check(f"{way} of {name}: the header", ("bytes left out" in err) == (name == "a .bit file"), err)
+        turned(f"{way}, back", wanted, DATA, "swapped")
+        refused(f"{way} of no stream", bytes(64), "no sync word", "--to", way)
+        refused(f"{way} of a stream of nothing", b"\xaa\x99\x55\x66" + b"\xee" * 60, "no stream begins", "--to", way)
+        refused(f"{way} of a stream and a turned one", DATA + wanted, "such a turned stream too", "--to", way)
+        if way != "bits":
+            refused(f"{way} of an odd byte", DATA + b"\0", f"{len(DATA) + 1} bytes, and", "--to", way)
+
+
+def calls() -> None:
     """Words that the tool takes and words that it refuses."""
     path = in_file(DATA)
+    for way in ("", "bytes", "bits,bits", "words,halves", "bits,words,halves", "words,"):
+        refused(f"--to {way}", DATA, "--to takes", "--to", way)
+    for options in (["--back"], ["--to", "bits", path]):
+        refused(f"words {options[:2]}", DATA, "usage", *options)
     tally.check("help", ran("turn", "--help")[:1] == (0,))
     for words in ([], [path, path], ["/nowhere/at/all"], [FOLDER]):
         status, out, err = ran("turn", *words)
@@ -84,5 +150,6 @@ def calls():
 with tempfile.TemporaryDirectory() as FOLDER:
     ways()
     texts()
+    buses()
     calls()
 tally.end()
