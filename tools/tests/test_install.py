@@ -35,7 +35,7 @@ with tempfile.TemporaryDirectory() as folder:
             tally.same(f"the links of {page} that lead nowhere", [it for it in links if not os.path.isfile(os.path.join(pages, it))], [])
         tally.check("install says what it put", files and all(os.path.isfile(os.path.join(folder, it)) for it in files), files)
         tools = sorted(it for it in files if it.startswith("there/bin/x7-"))
-        tally.same("the tools that are put", len(tools), 9)
+        tally.same("the tools that are put", len(tools), 10)
         for tool in tools:
             tally.same(f"{tool} --help, status", run(folder, [os.path.join(folder, tool), "--help"]).status, 0)
         os.environ["PATH"] = os.path.join(folder, "there", "bin") + os.pathsep + os.environ["PATH"]
