@@ -22,9 +22,10 @@ from __future__ import annotations
 import re
 from typing import Iterator, List, NamedTuple, Optional, Sequence
 
-from x7layout import MOST_FLASH
 from x7run import Refused
 
+# the most bytes of a dump: of the largest flash that x7 takes
+MOST_BYTES = 1 << 27
 # how many bytes, and how many lines of them, tell whether a file is a dump
 JUDGED_BYTES, JUDGED_LINES = 4096, 3
 # the fewest digits of a first line without a label
@@ -220,8 +221,8 @@ def data_of(rows: List[Row], kind: Kind, base: int) -> bytes:
             continue
         if row.label is not None:
             place = int(row.label, base) - begin
-            if place > MOST_FLASH:
-                raise Refused(f"line {row.number} of the dump is past {MOST_FLASH} bytes, which no flash has")
+            if place > MOST_BYTES:
+                raise Refused(f"line {row.number} of the dump is past {MOST_BYTES} bytes, which no flash has")
             missing = place - len(data)
             data += (last * (missing // len(last) + 1))[:missing] if is_open and last else b""
             del data[place:]
