@@ -34,6 +34,8 @@ with tempfile.TemporaryDirectory() as folder:
             links = [it for it in links if not it.startswith(("bench/", "crates/"))]
             tally.same(f"the links of {page} that lead nowhere", [it for it in links if not os.path.isfile(os.path.join(pages, it))], [])
         tally.check("install says what it put", files and all(os.path.isfile(os.path.join(folder, it)) for it in files), files)
+        firmware = [os.path.join("there", "share", "x7", "firmware", it) for it in ("x7_update.h", "x7_update.c")]
+        tally.check("the firmware is put", set(firmware) <= set(files), files)
         tools = sorted(it for it in files if it.startswith("there/bin/x7-"))
         tally.same("the tools that are put", len(tools), 10)
         for tool in tools:
