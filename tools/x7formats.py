@@ -1,17 +1,24 @@
-"""What docs/FORMATS.md says, for the tools of this folder: streams and their packets, listings, checks, reports and frames
-texts. python3 (3.8) and its library alone.
+"""What docs/FORMATS.md says, for the tools of this folder: streams and their packets, listings, checks, reports and
+frames texts. python3 (3.8) and its library alone.
 
 A stream is a header, or none, and data: `stream_of(raw)`. The data are read as steps, each with its place:
 `steps(data)`. Listings, reports and frames texts have a reader here, and those that the tools write have a writer;
 x7partfile has that of part files. What can't be taken raises `Refused` with a sentence, which `run` makes one line on
 standard error and status 2.
 """
+from __future__ import annotations
+
 import functools
 import re
 import struct
-from collections import namedtuple
+from typing import TYPE_CHECKING, BinaryIO, Collection, Generator, Iterator, Mapping, NamedTuple, Sequence
 
-from x7run import CALLED, NO_PROGRAM, Refused, program, read_file, run, say, write_file, write_out  # noqa: F401  (for the tools)
+# what a tool needs of x7run beside the formats, under one name
+from x7run import CALLED as CALLED, NO_PROGRAM as NO_PROGRAM, Refused as Refused, program as program, run as run
+from x7run import read_file as read_file, say as say, write_file as write_file, write_out as write_out
+
+if TYPE_CHECKING:
+    from x7partfile import Part
 
 # ---- words, registers and commands (UG470, configuration registers; command register codes)
 
@@ -22,42 +29,43 @@ FRAME_WORDS = 101
 MOST_BYTES = 1 << 26
 
 NAMES = {
-    0: "CRC", 1: "FAR", 2: "FDRI", 3: "FDRO", 4: "CMD", 5: "CTL0", 6: "MASK", 7: "STAT", 8: "LOUT", 9: "COR0", 10: "MFWR",
-    11: "CBC", 12: "IDCODE", 13: "AXSS", 14: "COR1", 16: "WBSTAR", 17: "TIMER", 22: "BOOTSTS", 24: "CTL1", 31: "BSPI",
+    0: "CRC", 1: "FAR", 2: "FDRI", 3: "FDRO", 4: "CMD", 5: "CTL0", 6: "MASK", 7: "STAT", 8: "LOUT", 9: "COR0",
+    10: "MFWR", 11: "CBC", 12: "IDCODE", 13: "AXSS", 14: "COR1", 16: "WBSTAR", 17: "TIMER", 22: "BOOTSTS", 24: "CTL1",
+    31: "BSPI",
 }
 CRC, FAR, FDRI, FDRO, CMD, CTL0, MASK, LOUT, COR0, MFWR, CBC, IDCODE = 0, 1, 2, 3, 4, 5, 6, 8, 9, 10, 11, 12
 WBSTAR, TIMER, CTL1 = 16, 17, 24
 REGISTERS = [NAMES.get(number, f"R{number:02}") for number in range(32)]
 COMMANDS = {
     0: "NULL", 1: "WCFG", 2: "MFW", 3: "LFRM", 4: "RCFG", 5: "START", 6: "RCAP", 7: "RCRC", 8: "AGHIGH", 9: "SWITCH",
-    10: "GRESTORE", 11: "SHUTDOWN", 12: "GCAPTURE", 13: "DESYNC", 15: "IPROG", 16: "CRCC", 17: "LTIMER", 18: "BSPI_READ",
-    19: "FALL_EDGE",
+    10: "GRESTORE", 11: "SHUTDOWN", 12: "GCAPTURE", 13: "DESYNC", 15: "IPROG", 16: "CRCC", 17: "LTIMER",
+    18: "BSPI_READ", 19: "FALL_EDGE",
 }
 CODES = {name: code for code, name in COMMANDS.items()}
 NUMBERS = {name: number for number, name in enumerate(REGISTERS)}
 
 
-def word_at(data, place):
+def word_at(data: bytes, place: int) -> int:
     """The word at a place, the highest byte first."""
     return int.from_bytes(data[place : place + 4], "big")
 
 
-def words_of(data):
+def words_of(data: bytes) -> tuple[int, ...]:
     """The words of bytes."""
     return struct.unpack(f">{len(data) // 4}I", data)
 
 
-def bytes_of(words):
+def bytes_of(words: Sequence[int]) -> bytes:
     """The bytes of words."""
     return struct.pack(f">{len(words)}I", *words)
 
 
-def command_of(word):
+def command_of(word: int) -> str:
     """The name of the command that a word of CMD calls for, by its low five bits."""
     return COMMANDS.get(word & 31, "NULL")
 
 
-def write_packet(register, words):
+def write_packet(register: int, words: Sequence[int]) -> bytes:
     """The bytes of a type 1 write of at most 2,047 words."""
     return bytes_of([0x30000000 + register * 0x2000 + len(words), *words])
 
@@ -65,11 +73,27 @@ def write_packet(register, words):
 # ---- the header of a .bit file
 
 FIXED = bytes.fromhex("00090FF00FF00FF00FF0000001")
-Header = namedtuple("Header", "design part date time length size")
-Stream = namedtuple("Stream", "header data")
 
 
-def header_of(raw):
+class Header(NamedTuple):
+    """The header of a .bit file. Its four texts are as they stand, with their closing zeros."""
+
+    design: bytes  # field a: the design's name and its settings
+    part: bytes  # field b: the part's name
+    date: bytes  # field c
+    time: bytes  # field d
+    length: int  # field e: how many bytes of data follow, as the header says
+    size: int  # the bytes of the header itself
+
+
+class Stream(NamedTuple):
+    """A configuration stream: what a device takes, and what stands before it in a file."""
+
+    header: Header | None
+    data: bytes
+
+
+def header_of(raw: bytes) -> Header | None:
     """The header at the beginning of a file's bytes, or none. A header that is cut or has another letter is refused."""
     if not raw.startswith(FIXED):
         return None
@@ -83,16 +107,17 @@ def header_of(raw):
             raise Refused(f"the file ends inside its header, at byte {len(raw)}")
         texts.append(bytes(raw[first : first + size]))
         at = first + size
-    return Header(*texts[:4], int.from_bytes(texts[4], "big"), at)
+    design, part, date, time, length = texts
+    return Header(design, part, date, time, int.from_bytes(length, "big"), at)
 
 
-def stream_of(raw):
+def stream_of(raw: bytes) -> Stream:
     """The header and the data of a file's bytes."""
     header = header_of(raw)
     return Stream(header, raw[header.size :] if header else raw)
 
 
-def stream_named(path, raw):
+def stream_named(path: str, raw: bytes) -> Stream:
     """The stream of the bytes of a file, whose path stands before what is refused."""
     try:
         return stream_of(raw)
@@ -100,41 +125,53 @@ def stream_named(path, raw):
         raise Refused(f"{path}: {refused}") from None
 
 
-def stream_alone(path, raw):
+def stream_alone(path: str, raw: bytes) -> Stream:
     """The stream of the bytes of a file, which is no listing, and whose path stands before what is refused."""
     if is_listing(raw):
         raise Refused(f"{path} is a listing: x7 asm {path} > STREAM makes the stream")
     return stream_named(path, raw)
 
 
-def text_of(field):
+def text_of(field: bytes) -> str:
     """A text of a header without its closing zero."""
     return field.rstrip(b"\0").decode("ascii", "replace")
 
 
 # ---- steps: what stands in the data, in order
 
-# Kinds: 'bytes' are no words (before a sync word, after a session, the tail); 'sync' begins a session; 'nop' are
-# `count` words 20000000; 'write' and 'read' are packets of `count` words of a register, of which a write's payload has
-# `present` from `first` on; 'filler' is a word without effect, 'bad' one that is no packet. The step ends before `end`.
-Step = namedtuple("Step", "kind place word register count first present end")
 MANY = NOP * 256
 
 
-def steps(data):
+class Step(NamedTuple):
+    """What stands at a place of the data: bytes that are no words, a word alone, no-ops in a row, or a packet. Places
+    count the bytes of the data."""
+
+    # 'bytes' are no words (before a sync word, after a session, the tail); 'sync' begins a session; 'nop' are words
+    # 20000000; 'write' and 'read' are packets; 'filler' is a word without effect, 'bad' one that is no packet
+    kind: str
+    place: int  # where it begins
+    word: int  # its first word; 0 of bytes
+    register: int | None  # the number of the register that a packet writes or reads; none of all else
+    count: int  # type: ignore[assignment]  # the words of a packet as its header says, or how many no-ops
+    first: int  # where a packet's payload begins
+    present: int  # how many words of a write's payload are there
+    end: int  # the place after it
+
+
+def steps(data: bytes) -> Iterator[Step]:
     """The steps of a stream's data, which cover it."""
     place = 0
     while place < len(data):
         at = data.find(SYNC, place)
         if at != place:
-            yield Step("bytes", place, None, None, 0, place, 0, len(data) if at < 0 else at)
+            yield Step("bytes", place, 0, None, 0, place, 0, len(data) if at < 0 else at)
         if at < 0:
             return
         yield Step("sync", at, word_at(data, at), None, 0, at + 4, 0, at + 4)
         place = yield from session(data, at + 4)
 
 
-def session(data, place):
+def session(data: bytes, place: int) -> Generator[Step, None, int]:
     """The steps of a session after its sync word; answers where it ends."""
     named = None
     while place + 4 <= len(data):
@@ -150,11 +187,11 @@ def session(data, place):
         if step.kind == "write" and ends_session(data, step):
             return place
     if place < len(data):
-        yield Step("bytes", place, None, None, 0, place, 0, len(data))
+        yield Step("bytes", place, 0, None, 0, place, 0, len(data))
     return len(data)
 
 
-def end_of_nops(data, place):
+def end_of_nops(data: bytes, place: int) -> int:
     """Where the no-ops end that stand from a place on."""
     while data.startswith(MANY, place):
         place += len(MANY)
@@ -163,7 +200,7 @@ def end_of_nops(data, place):
     return place
 
 
-def packet(data, place, named):
+def packet(data: bytes, place: int, named: int | None) -> Step:
     """The step of a word in a header's place, with its payload; `named` is the register that the nearest type 1 packet
     names."""
     word = word_at(data, place)
@@ -185,12 +222,12 @@ def packet(data, place, named):
     return Step(kinds[kind_bits], place, word, register, count, first, present, end)
 
 
-def ends_session(data, step):
+def ends_session(data: bytes, step: Step) -> bool:
     """Whether the last word of a write's payload is DESYNC."""
     return step.register == CMD and step.present > 0 and data[step.end - 1] & 31 == CODES["DESYNC"]
 
 
-def payload(data, step):
+def payload(data: bytes, step: Step) -> tuple[int, ...]:
     """The words of a write's payload that are there."""
     return words_of(data[step.first : step.first + 4 * step.present])
 
@@ -198,7 +235,7 @@ def payload(data, step):
 # ---- listings
 
 
-def head_line(step):
+def head_line(step: Step) -> str:
     """The line of a word in a header's place."""
     word, register = step.word, step.register
     if word == SYNC_WORD:
@@ -210,19 +247,19 @@ def head_line(step):
     return f"word {word:08X}"
 
 
-def command_line(word):
+def command_line(word: int) -> str:
     """The line of a payload word of CMD."""
     return f"cmd {COMMANDS[word]}" if word in COMMANDS else f"data {word:08X}"
 
 
-def rows(name, digits, width, blanks):
+def rows(name: str, digits: str, width: int, blanks: int) -> Iterator[str]:
     """Lines of `width` digits at most, with a blank before every `blanks` of them."""
     for at in range(0, len(digits), width):
         row = digits[at : at + width]
         yield name + "".join(f" {row[it:it + blanks]}" for it in range(0, len(row), blanks))
 
 
-def step_lines(data, step):
+def step_lines(data: bytes, step: Step) -> Iterator[tuple[str, int, int]]:
     """The lines of a step, each with its place and the place after it."""
     if step.kind == "bytes":
         for at, line in enumerate(rows("bytes", data[step.place : step.end].hex().upper(), 64, 64)):
@@ -242,12 +279,12 @@ def step_lines(data, step):
             yield line, step.first + 32 * at, min(step.first + 32 * at + 32, step.end)
 
 
-def bit_line(header):
+def bit_line(header: Header) -> str:
     """The line of a header."""
     return " ".join(["bit", *(field.hex().upper() or "-" for field in header[:4]), str(header.length)])
 
 
-def listing_of(stream):
+def listing_of(stream: Stream) -> Iterator[str]:
     """The lines that `x7 list` writes of a stream, one after the other."""
     if stream.header:
         yield bit_line(stream.header)
@@ -259,7 +296,7 @@ def listing_of(stream):
                 yield line
 
 
-def line_at(stream, place):
+def line_at(stream: Stream, place: int) -> tuple[int, str, str] | None:
     """The line of `x7 list` that the byte before a place stands in: its number, its text, and the header of its packet
     where it is a payload's."""
     number = 1 if stream.header else 0
@@ -273,12 +310,13 @@ def line_at(stream, place):
 
 HEAD = re.compile(rb"(write|read) (\w+) (0|[1-9]\d{0,3})|(write|read)2 (0|[1-9]\d{0,8})|word ([0-9A-F]{8})")
 HEX = re.compile(rb"data(?: [0-9A-F]{8}){1,8}|bytes (?:[0-9A-F]{2}){1,32}")
-LINES = {b"sync": SYNC, b"nop": NOP, **{f"cmd {name}".encode(): code.to_bytes(4, "big") for code, name in COMMANDS.items()}}
-BIT = re.compile(rb"bit ((?:[0-9A-F]{2})+|-) ((?:[0-9A-F]{2})+|-) ((?:[0-9A-F]{2})+|-) ((?:[0-9A-F]{2})+|-) (0|[1-9]\d{0,9})")
+COMMAND_LINES = {f"cmd {name}".encode(): code.to_bytes(4, "big") for code, name in COMMANDS.items()}
+LINES = {b"sync": SYNC, b"nop": NOP, **COMMAND_LINES}
+BIT = re.compile(rb"bit" + rb" ((?:[0-9A-F]{2})+|-)" * 4 + rb" (0|[1-9]\d{0,9})")
 
 
 @functools.lru_cache(maxsize=1024)  # most lines of a long stream are equal
-def line_bytes(line):
+def line_bytes(line: bytes) -> bytes | None:
     """The bytes that a line of a listing stands for, or none."""
     if line in LINES:
         return LINES[line]
@@ -290,23 +328,25 @@ def line_bytes(line):
     if found[6]:
         return bytes.fromhex(found[6].decode())
     if found[4]:
-        return ((0x50000000 if found[4] == b"write" else 0x48000000) + int(found[5])).to_bytes(4, "big") if int(found[5]) < 1 << 27 else None
+        first, count, most = 0x50000000 if found[4] == b"write" else 0x48000000, int(found[5]), 0x7FFFFFF
+        return (first + count).to_bytes(4, "big") if count <= most else None
     number = NUMBERS.get(found[2].decode())
     if number is None or int(found[3]) > 0x7FF:
         return None
     return ((0x30000000 if found[1] == b"write" else 0x28000000) + number * 0x2000 + int(found[3])).to_bytes(4, "big")
 
 
-def header_of_line(line):
+def header_of_line(line: bytes) -> Header | None:
     """The header of a line `bit`, or none."""
     found = BIT.fullmatch(line)
     if not found or int(found[5]) >= 1 << 32:
         return None
     fields = [b"" if field == b"-" else bytes.fromhex(field.decode()) for field in found.groups()[:4]]
-    return Header(*fields, int(found[5]), len(FIXED) + 17 + sum(map(len, fields)))
+    design, part, date, time = fields
+    return Header(design, part, date, time, int(found[5]), len(FIXED) + 17 + sum(map(len, fields)))
 
 
-def blocks(file):
+def blocks(file: BinaryIO) -> Iterator[bytes]:
     """A file's bytes in blocks that end with a line, so that a large one isn't held twice."""
     while True:
         block = file.read(1 << 20)
@@ -315,21 +355,22 @@ def blocks(file):
         yield block + file.readline()
 
 
-def is_listing(raw):
+def is_listing(raw: bytes) -> bool:
     """Whether a file that begins with these bytes is a listing of `x7 list`, and no stream."""
     return bool(re.match(rb"(bit|bytes|sync|nop|write|read|write2|read2|word|data|cmd)( [^\n]*)?\r?\n", raw))
 
 
-def not_listed(path, number, line):
+def not_listed(path: str, number: int, line: bytes) -> Refused:
     """The refusal of a line that no listing has."""
     ends = ", which ends with 0D 0A (tr -d '\\r' makes the listing)" if line.endswith(b"\r") else ""
     return Refused(f"{path} is no listing of `x7 list`: line {number}{ends}")
 
 
-def read_listing(path):
+def read_listing(path: str) -> Stream:
     """The stream of a listing, or of a text for `x7 asm`: its lines `crc` are made, comments and empty lines mean
     nothing."""
-    header, data, number, made = None, bytearray(), 0, []
+    header, data, number = None, bytearray(), 0
+    made: list[int] = []  # where the words of the lines `crc` stand
     with open(path, "rb") as file:
         for block in blocks(file):
             count = block.count(b"nop\n")
@@ -355,7 +396,7 @@ def read_listing(path):
     return Stream(header, with_checks(bytes(data), made))
 
 
-def listed_line_at(path, place):
+def listed_line_at(path: str, place: int) -> tuple[int, str, str] | None:
     """The line of a listing that the byte before a place stands in: its number, its text, and the last header before it
     where it is a payload's."""
     number, at, head = 0, 0, ""
@@ -382,62 +423,73 @@ def listed_line_at(path, place):
 POLYNOMIAL = 0x82F63B78
 
 
-def shifted(value, count):
+def shifted(value: int, count: int) -> int:
     """The check after `count` bits that are 0."""
     for _ in range(count):
         value = value >> 1 ^ (POLYNOMIAL if value & 1 else 0)
     return value
 
 
-class Tables:
-    """What the two halves of a word become over the bits of a word and a register, made when first asked for."""
+class Tables(NamedTuple):
+    """What the parts of a word and a register become over the bits of both, since the check is linear."""
 
-    low, high, registers = None, None, None
-
-    @classmethod
-    def make(cls):
-        """Makes the tables of halves of a word and of registers."""
-        quarters = [[shifted(byte << shift, 37) for byte in range(256)] for shift in (0, 8, 16, 24)]
-        cls.low = [one ^ other for one in quarters[1] for other in quarters[0]]
-        cls.high = [one ^ other for one in quarters[3] for other in quarters[2]]
-        cls.registers = [shifted(number, 5) for number in range(32)]
+    low: list[int]  # of the low half of a word
+    high: list[int]  # of the high half of a word
+    registers: list[int]  # of a register's number
 
 
-def fold(check, register, words):
+@functools.lru_cache(maxsize=None)
+def tables() -> Tables:
+    """The tables, made when first asked for."""
+    quarters = [[shifted(byte << shift, 37) for byte in range(256)] for shift in (0, 8, 16, 24)]
+    low = [one ^ other for one in quarters[1] for other in quarters[0]]
+    high = [one ^ other for one in quarters[3] for other in quarters[2]]
+    return Tables(low, high, [shifted(number, 5) for number in range(32)])
+
+
+def fold(check: int, register: int, words: Sequence[int]) -> int:
     """The check after words were written to a register."""
-    if Tables.low is None:
-        Tables.make()
-    high, added = Tables.high, Tables.registers[register]
-    low = Tables.low if len(words) < 1 << 16 else [it ^ added for it in Tables.low]
-    if low is Tables.low:
+    low, high, registers = tables()
+    added = registers[register]
+    if len(words) < 1 << 16:
         for word in words:
             word ^= check
             check = low[word & 0xFFFF] ^ high[word >> 16] ^ added
         return check
+    low = [it ^ added for it in low]
     for word in words:
         word ^= check
         check = low[word & 0xFFFF] ^ high[word >> 16]
     return check
 
 
+class Compared(NamedTuple):
+    """A word that was written to CRC, beside the running check there."""
+
+    place: int  # of the word in the data
+    check: int
+    word: int
+
+
 class RunningCheck:
     """The running check of a device over the writes that it is given, in order."""
 
-    def __init__(self):
-        self.value, self.command = 0, 0
+    def __init__(self) -> None:
+        self.value = 0  # the check
+        self.command = 0  # the code in CMD
 
-    def write(self, data, step):
-        """Takes a write, and answers (place, check, word) for each word that it gives CRC."""
+    def write(self, data: bytes, step: Step) -> list[Compared]:
+        """Takes a write, and answers what was compared for each word that it gives CRC."""
         compared = []
         if step.register == CRC:
             for at, word in enumerate(payload(data, step)):
-                compared.append((step.first + 4 * at, self.value, word))
+                compared.append(Compared(step.first + 4 * at, self.value, word))
                 self.value = 0
         elif step.register == CMD:
             for word in payload(data, step):
                 self.command = word & 31
                 self.value = 0 if self.command == CODES["RCRC"] else fold(self.value, CMD, [word])
-        elif step.register != LOUT:
+        elif step.register is not None and step.register != LOUT:
             self.value = fold(self.value, step.register, payload(data, step))
             if step.register == FAR and step.present and self.command == CODES["RCRC"]:
                 # a write to FAR executes the command in CMD again
@@ -445,19 +497,16 @@ class RunningCheck:
         return compared
 
 
-Compared = namedtuple("Compared", "place check word")
-
-
-def checks_of(data):
+def checks_of(data: bytes) -> Iterator[Compared]:
     """Each comparison of the running check in the data: the place of the word, the check there, and the word."""
     check = RunningCheck()
     for step in steps(data):
         if step.kind == "write":
             for it in check.write(data, step):
-                yield Compared(*it)
+                yield it
 
 
-def with_checks(data, places):
+def with_checks(data: bytes, places: Collection[int]) -> bytes:
     """The data with the running check written at each of these places, which hold words for CRC."""
     if not places:
         return data
@@ -470,19 +519,35 @@ def with_checks(data, places):
 
 # ---- reports
 
-Attempt = namedtuple("Attempt", "number kind address ending")
+
+class Attempt(NamedTuple):
+    """An attempt of a boot."""
+
+    number: int  # from 1
+    kind: str  # 'power', 'iprog' or 'fallback'
+    address: int  # where in the flash it begins
+    ending: str  # 'started', 'iprog', or why it failed
 
 
 class Report:
-    """A report of `x7 play`, or the text of `x7 boot` or `x7 svf`. `svf` is none, 'done', or statement and bit. `end`
-    has the words after 'end'. `frames` has the digits of each frame by its address."""
+    """A report of `x7 play`, or the text of `x7 boot` or `x7 svf`."""
 
-    def __init__(self):
-        self.part, self.taken, self.end, self.attempts, self.boot_end, self.svf = "", 0, [], [], "", None
-        self.phase, self.done, self.gts, self.gwe = 0, 0, 0, 0
-        self.registers, self.reads, self.frames = {}, [], {}
+    def __init__(self) -> None:
+        self.part = ""  # the part's name
+        self.taken = 0  # the bytes taken
+        self.end: list[str] = []  # the words after 'end'
+        self.attempts: list[Attempt] = []  # of a boot
+        self.boot_end = ""  # how the boot ended, of a boot
+        self.svf: str | tuple[int, int] | None = None  # of an SVF: 'done', or the statement and the bit where it ended
+        self.phase = 0  # of startup
+        self.done = 0  # the pin DONE
+        self.gts = 0  # whether the outputs are on
+        self.gwe = 0  # whether flip-flops and memories can be written
+        self.registers: dict[str, int] = {}  # by name
+        self.reads: list[int] = []  # the words read out
+        self.frames: dict[int, str] = {}  # the digits of each frame by its address
 
-    def line(self, words):
+    def line(self, words: list[str]) -> None:
         """Takes the words of a line."""
         key = words[0]
         if key in ("part", "boot"):
@@ -509,9 +574,10 @@ class Report:
             raise ValueError
 
 
-def read_report(path):
+def read_report(path: str) -> Report:
     """The report in a file. An empty one, as where a command was refused, is refused too, as is one that is cut off."""
-    report, number, last = Report(), 0, []
+    report, number = Report(), 0
+    last: list[str] = []
     try:
         with open(path, encoding="ascii") as file:
             for number, line in enumerate(file, 1):
@@ -531,10 +597,11 @@ def read_report(path):
 # ---- frames texts
 
 
-def read_frames(path, part=None):
+def read_frames(path: str, part: Part | None = None) -> dict[int, bytes]:
     """The words of each frame of a frames text, as bytes by the address. With a part, of its addresses and its frame's
     size."""
-    frames, known = {}, set(part.addresses()) if part else None
+    frames: dict[int, bytes] = {}
+    part_addresses = set(part.addresses()) if part else set()
     for number, line in enumerate(read_file(path).split(b"\n"), 1):
         line = line[:-1] if line.endswith(b"\r") else line
         if not line or line.startswith(b"#"):
@@ -543,9 +610,10 @@ def read_frames(path, part=None):
         if not found:
             raise Refused(f"{path} is no frames text: line {number}")
         if part and len(found[2]) != 8 * part.frame_words:
-            raise Refused(f"{path}: a frame of the part {part.name} has {part.frame_words} words, and one here {len(found[2]) // 8}: line {number}")
+            wants = f"a frame of the part {part.name} has {part.frame_words} words"
+            raise Refused(f"{path}: {wants}, and one here {len(found[2]) // 8}: line {number}")
         far = int(found[1], 16)
-        if known is not None and far not in known:
+        if part and far not in part_addresses:
             raise Refused(f"{path}: the part {part.name} has no address {far:08X}: line {number}")
         if far in frames:
             raise Refused(f"{path} has the address {far:08X} twice: line {number}")
@@ -553,6 +621,6 @@ def read_frames(path, part=None):
     return frames
 
 
-def frames_text(frames):
+def frames_text(frames: Mapping[int, bytes]) -> str:
     """The frames text of bytes by the address, in number order."""
     return "".join(f"frame {far:08X} {frames[far].hex().upper()}\n" for far in sorted(frames))
