@@ -1,4 +1,6 @@
 """Runs of the tools and of x7 for their tests: in a folder of their own, with a limit of time."""
+from __future__ import annotations
+
 import os
 import random
 import runpy
@@ -8,7 +10,7 @@ import subprocess
 import sys
 import tempfile
 import traceback
-from collections import namedtuple
+from typing import Callable, Mapping, NamedTuple, Sequence
 
 from casefiles import TOOLS, Tally, made_part_text
 import x7formats as x7
@@ -21,24 +23,30 @@ if X7:
     os.environ["X7"] = X7
 # how the shell closes a standard file
 CLOSING = ("<&-", ">&-", "2>&-")
-Came = namedtuple("Came", "status out err")
 
 
-def run(folder, words, given=b"", closed=()):
+class Came(NamedTuple):
+    """What came of a run."""
+
+    status: int | None  # none where it didn't end in time
+    out: bytes
+    err: bytes
+
+
+def run(folder: str, words: Sequence[object], given: bytes = b"", closed: Sequence[int] = ()) -> Came:
     """Runs a command in a folder, with some of its standard files closed; status None where it doesn't end in time."""
-    words = [str(it) for it in words]
+    command = [str(it) for it in words]
     if closed:
         # the shell closes them: code of Python between fork and exec may hang where there are threads
-        words = ["sh", "-c", f'exec "$@" {" ".join(CLOSING[number] for number in closed)}', "sh", *words]
-    how = {"cwd": folder, "stdout": subprocess.PIPE, "stderr": subprocess.PIPE}
+        command = ["sh", "-c", f'exec "$@" {" ".join(CLOSING[number] for number in closed)}', "sh", *command]
     try:
-        done = subprocess.run(words, input=given, timeout=SECONDS, **how)
+        done = subprocess.run(command, input=given, timeout=SECONDS, cwd=folder, capture_output=True, check=False)
     except subprocess.TimeoutExpired:
         return Came(None, b"", b"")
     return Came(done.returncode, done.stdout, done.stderr)
 
 
-def run_here(folder, words):
+def run_here(folder: str, words: Sequence[str]) -> Came:
     """Runs a tool in a fork of this process, which has read the library and the shared modules by then: many runs cost
     little."""
     paths = [os.path.join(folder, name) for name in (".out", ".err")]
@@ -63,7 +71,7 @@ def run_here(folder, words):
     return Came(os.WEXITSTATUS(ended) if os.WIFEXITED(ended) else None, out, err)
 
 
-def status_of(path):
+def status_of(path: str) -> int:
     """Runs a program of Python in this process, to its status."""
     try:
         runpy.run_path(path, run_name="__main__")
@@ -75,7 +83,7 @@ def status_of(path):
     return 0
 
 
-def read_and_remove(path):
+def read_and_remove(path: str) -> bytes:
     """The bytes of a file, which is removed."""
     with open(path, "rb") as file:
         data = file.read()
@@ -86,71 +94,73 @@ def read_and_remove(path):
 class Bench:
     """A folder with a tally: tools are run in it, and what they write is put there."""
 
-    def __init__(self, folder):
-        self.folder, self.tally = str(folder), Tally()
+    def __init__(self, folder: object) -> None:
+        self.folder = str(folder)
+        self.tally = Tally()
 
-    def path(self, name):
+    def path(self, name: str) -> str:
         """The path of a file of the bench."""
         return os.path.join(self.folder, name)
 
-    def put(self, name, data):
+    def put(self, name: str, data: bytes | str) -> None:
         """Writes a file of the bench."""
         with open(self.path(name), "wb") as file:
             file.write(data.encode() if isinstance(data, str) else data)
 
-    def get(self, name):
+    def get(self, name: str) -> bytes:
         """The bytes of a file of the bench."""
         with open(self.path(name), "rb") as file:
             return file.read()
 
-    def tool(self, *words, given=b"", closed=()):
+    def tool(self, *words: str, given: bytes = b"", closed: Sequence[int] = ()) -> Came:
         """Runs a tool."""
         return run(self.folder, [sys.executable, os.path.join(TOOLS, words[0]), *words[1:]], given, closed)
 
-    def many(self, *words):
+    def many(self, *words: str) -> Came:
         """Runs a tool as one of many."""
         return run_here(self.folder, words)
 
-    def command(self, words):
+    def command(self, words: Sequence[str]) -> str:
         """A tool and its words, for a shell."""
         return " ".join(shlex.quote(it) for it in [sys.executable, os.path.join(TOOLS, words[0]), *words[1:]])
 
-    def shell(self, text):
+    def shell(self, text: str) -> Came:
         """Runs a text of the shell."""
         return run(self.folder, ["sh", "-c", text])
 
-    def x7(self, *words):
+    def x7(self, *words: str) -> Came:
         """Runs x7."""
         return run(self.folder, [X7, *words])
 
-    def make(self, name, *words):
+    def make(self, name: str, *words: str) -> None:
         """Puts what a tool, or x7, writes."""
         came = self.x7(*words[1:]) if words[0] == "x7" else self.tool(*words)
         if came.status not in (0, 1):
             self.tally.check(" ".join(words), False, f"status {came.status}, {came.err.decode(errors='replace')}")
         self.put(name, came.out)
 
-    def refuses(self, *words, what="", given=b"", closed=()):
+    def refuses(self, *words: str, what: str = "", given: bytes = b"", closed: Sequence[int] = ()) -> None:
         """A tool refuses these words: status 2, one line, nothing written."""
         before = sorted(os.listdir(self.folder))
         came = self.tool(*words, given=given, closed=closed) if given or closed else self.many(*words)
         line = came.err.decode(errors="replace")
         is_line = 2 in closed or line.count("\n") == 1 and line.startswith(words[0]) and what in line
         is_so = came.status == 2 and came.out == b"" and is_line and sorted(os.listdir(self.folder)) == before
-        self.tally.check(" ".join(words) + f" {list(closed) or ''}", is_so, f"status {came.status}, {came.out[:80]!r}, {line[:300]!r}")
+        note = f"status {came.status}, {came.out[:80]!r}, {line[:300]!r}"
+        self.tally.check(" ".join(words) + f" {list(closed) or ''}", is_so, note)
 
 
-def frame_of(seed, words=101):
+def frame_of(seed: int, words: int = 101) -> bytes:
     """The bytes of a frame from a number, the same at each run."""
     return random.Random(seed).getrandbits(32 * words).to_bytes(4 * words, "big")
 
 
-def text_of_frames(frames):
+def text_of_frames(frames: Mapping[str, bytes]) -> str:
     """The text of frames by their addresses in hexadecimal digits."""
     return x7.frames_text({int(far, 16): frame for far, frame in frames.items()})
 
 
-def run_parts(what, *parts):
+def run_parts(what: str, *parts: Callable[[Bench], None]) -> None:
     """Runs parts of a test on one bench, in a folder of its own, and ends with the tally's line; each wants x7, and
     without it `what` is skipped."""
     with tempfile.TemporaryDirectory() as folder:

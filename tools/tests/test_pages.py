@@ -91,15 +91,6 @@ def check_links(tally):
                 tally.check(f"{os.path.relpath(page, TOP)}: the link {link}#{anchor}", is_there, there)
 
 
-def check_seconds(tally):
-    """The times of the crates in bench/README are those by which ./build reckons."""
-    table = text_of("bench", "README.md").partition("| Crate | Seconds |")[2].partition("\n\n")[0]
-    row_pairs = re.findall(r"(x7\w*) \| (\d+)", table)
-    reckoned = re.findall(r'"(x7\w*)": (\d+)', text_of("build"))
-    tally.check("build has its times", len(reckoned) > 20, reckoned)
-    tally.same("the times of bench/README and those of build", sorted(row_pairs), sorted(reckoned))
-
-
 def check_pipes(tally):
     """No page's command has x7 write to `head`, or another that may leave before the end: whether that is a write fault is
     chance."""
@@ -303,7 +294,6 @@ check_map(tally)
 check_libraries(tally)
 check_lemmas(tally)
 check_links(tally)
-check_seconds(tally)
 check_pipes(tally)
 check_readme(tally)
 check_tools(tally)
