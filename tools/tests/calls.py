@@ -1,4 +1,6 @@
 """Calls a tool in this process, and plays streams by x7 where it is built."""
+from __future__ import annotations
+
 import importlib.machinery
 import importlib.util
 import io
@@ -6,28 +8,32 @@ import os
 import shlex
 import subprocess
 import sys
+from types import ModuleType
+from typing import Any, Sequence
 
 from casefiles import TOOLS
 import x7formats as x7
-from x7run import program  # noqa: F401  (for the tests)
+from x7run import program as program  # (for the tests)
 
-_LOADED = {}
+_LOADED: dict[str, ModuleType] = {}
 
 
-def tool(name):
+def tool(name: str) -> ModuleType:
     """A tool's script as a module."""
     if name not in _LOADED:
         loader = importlib.machinery.SourceFileLoader(name, os.path.join(TOOLS, name))
-        module = importlib.util.module_from_spec(importlib.util.spec_from_loader(name, loader))
+        spec = importlib.util.spec_from_loader(name, loader)
+        assert spec is not None, name
+        module = importlib.util.module_from_spec(spec)
         loader.exec_module(module)
         _LOADED[name] = module
     return _LOADED[name]
 
 
-def called(name, *words):
+def called(name: str, *words: str) -> tuple[int, bytes, str]:
     """The status, the output as bytes, and the lines on standard error of a tool that is called with these words."""
-    out, err, kept = io.TextIOWrapper(io.BytesIO()), io.StringIO(), (sys.stdout, sys.stderr)
-    sys.stdout, sys.stderr = out, err
+    written, err, kept = io.BytesIO(), io.StringIO(), (sys.stdout, sys.stderr)
+    sys.stdout, sys.stderr = io.TextIOWrapper(written), err
     try:
         status = tool(name).main(list(words)) or 0
     except x7.Refused as refused:
@@ -37,17 +43,20 @@ def called(name, *words):
         status = 2
         x7.say(f"{name}: {error.filename}: {error.strerror}")
     finally:
+        sys.stdout.flush()
+        data = written.getvalue()
         sys.stdout, sys.stderr = kept
-    return status, out.buffer.getvalue(), err.getvalue()
+    return status, data, err.getvalue()
 
 
-def ran(name, *words, **how):
+def ran(name: str, *words: str, **how: Any) -> tuple[int, bytes, str]:
     """The status, output and error of a tool that is run as a program."""
-    done = subprocess.run([sys.executable, os.path.join(TOOLS, name), *words], stdout=subprocess.PIPE, stderr=subprocess.PIPE, **how)
+    command = [sys.executable, os.path.join(TOOLS, name), *words]
+    done = subprocess.run(command, capture_output=True, check=False, **how)
     return done.returncode, done.stdout, done.stderr.decode("ascii", "replace")
 
 
-def shell_status(name, words, redirections):
+def shell_status(name: str, words: Sequence[str], redirections: str) -> int:
     """The status of a tool that the shell runs, with these redirections after its words."""
     command = " ".join(shlex.quote(it) for it in [sys.executable, os.path.join(TOOLS, name), *words])
     return subprocess.run(["sh", "-c", f"{command} {redirections}"], check=False).returncode

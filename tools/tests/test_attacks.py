@@ -1,6 +1,8 @@
 #!/usr/bin/env python3
 """Tests the wrong bodies that the prover must refuse, those of the gate and those of attacks/: each still fits its
 file."""
+from __future__ import annotations
+
 import glob
 import os
 import subprocess
@@ -9,7 +11,7 @@ import sys
 from casefiles import TOOLS, TOP, Tally
 
 
-def parts_of(edit):
+def parts_of(edit: str) -> tuple[str, list[tuple[str, str]]]:
     """What an edit changes: its file, and pairs of the line that goes and the line that comes."""
     with open(edit, encoding="utf-8") as file:
         lines = [line.rstrip("\n").partition(": ") for line in file]
@@ -19,7 +21,7 @@ def parts_of(edit):
     return next(text for key, _, text in lines if key == "file"), list(zip(olds, news))
 
 
-def check_edit(tally, crate, edit):
+def check_edit(tally: Tally, crate: str, edit: str) -> None:
     """Each line that goes stands in the file once, and another comes."""
     name, pairs = parts_of(edit)
     label = os.path.relpath(edit, TOP)
@@ -28,13 +30,13 @@ def check_edit(tally, crate, edit):
     tally.same(label, [(text.count(old), old == new) for old, new in pairs], [(1, False)] * max(1, len(pairs)))
 
 
-def check_words(tally):
+def check_words(tally: Tally) -> None:
     """The tool takes names of crates with attacks alone."""
     ran = subprocess.run([sys.executable, os.path.join(TOOLS, "attack"), "x7_nothing"], check=False, capture_output=True)
     tally.same("a crate without attacks", (ran.returncode, ran.stdout, ran.stderr.startswith(b"attack: no wrong bodies")), (2, b"", True))
 
 
-def check_folder(tally, folder):
+def check_folder(tally: Tally, folder: str) -> None:
     """A folder has at most eight edits and nothing else, and each fits its file."""
     label = os.path.relpath(folder, TOP)
     crate = label.split(os.sep)[1]

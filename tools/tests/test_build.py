@@ -1,6 +1,8 @@
 #!/usr/bin/env python3
 """Tests ./build in a small repository, with a kit whose prover is a script: the order, what is kept, an interrupt, and
 each way to fail."""
+from __future__ import annotations
+
 import fcntl
 import os
 import pty
@@ -43,7 +45,7 @@ cat "$3" > "$2"
 class Room:
     """A repository of three crates, one on another, and a kit."""
 
-    def __init__(self, folder):
+    def __init__(self, folder: str) -> None:
         self.folder, self.kit, self.top = folder, os.path.join(folder, "kit"), os.path.join(folder, "top")
         self.put("kit/KIT-ID", KIT + "\n")
         for name, text in (("bin/rt", f"#!/bin/sh\necho {self.kit}/START-HERE.md\n"), ("bin/rattle", PROVER), ("bin/rattle-link", LINKER)):
@@ -55,28 +57,28 @@ class Room:
         shutil.copy(os.path.join(TOP, "build"), os.path.join(self.top, "build"))
         self.environment = {**os.environ, "PATH": f"{self.kit}/bin:{os.environ['PATH']}"}
 
-    def path(self, name):
+    def path(self, name: str) -> str:
         """The path of a file of the room."""
         return os.path.join(self.folder, name)
 
-    def put(self, name, text, mode=0o644):
+    def put(self, name: str, text: str, mode: int = 0o644) -> None:
         """Writes a file of the room."""
         os.makedirs(os.path.dirname(self.path(name)), exist_ok=True)
         with open(self.path(name), "w", encoding="utf-8") as file:
             file.write(text)
         os.chmod(self.path(name), mode)
 
-    def get(self, name):
+    def get(self, name: str) -> str:
         """The text of a file of the room."""
         with open(self.path(name), encoding="utf-8") as file:
             return file.read()
 
-    def start(self, *words, **how):
+    def start(self, *words: str, **how: Any) -> subprocess.Popen[str]:
         """Starts a build."""
         pipes = {"stdin": subprocess.DEVNULL, "stdout": subprocess.PIPE, "stderr": subprocess.PIPE, "universal_newlines": True}
         return subprocess.Popen([sys.executable, os.path.join(self.top, "build"), *words], **{"env": self.environment, **pipes, **how})
 
-    def build(self, *words, **how):
+    def build(self, *words: str, **how: Any) -> tuple[int, str, list[str]]:
         """Builds, and gives the status, what was said, and the crates that were proved meanwhile."""
         if os.path.exists(self.path("kit/proved")):
             os.remove(self.path("kit/proved"))
@@ -84,11 +86,11 @@ class Room:
         said = started.communicate(timeout=SECONDS)[1]
         return started.returncode, said, self.proved()
 
-    def proved(self):
+    def proved(self) -> list[str]:
         """The crates that the prover was called for, in their order."""
         return self.get("kit/proved").split() if os.path.exists(self.path("kit/proved")) else []
 
-    def wait_for_half(self, crate):
+    def wait_for_half(self, crate: str) -> bool:
         """Waits until the prover has half made the library of this crate; whether it came to that."""
         library = f"top/crates/x7/out/build/{crate}/{crate}.rlib"
         for _ in range(10 * SECONDS):
@@ -97,7 +99,7 @@ class Room:
             time.sleep(0.1)
         return False
 
-    def has_prover(self):
+    def has_prover(self) -> bool:
         """Whether the prover that was called last runs."""
         try:
             os.kill(int(self.get("kit/pid")), 0)
@@ -106,7 +108,7 @@ class Room:
         return True
 
 
-def built(room, tally):
+def built(room: Room, tally: Tally) -> None:
     """What is built, in which order, and what a later call does."""
     status, said, proved = room.build()
     tally.same("a first build", (status, proved), (0, ["x7_low", "x7_high", "x7"]))
@@ -123,7 +125,7 @@ def built(room, tally):
     tally.same("the program again", room.get("top/crates/x7/out/x7"), "x7 1\n")
 
 
-def on_terminal(room, tally):
+def on_terminal(room: Room, tally: Tally) -> None:
     """On a terminal of 40 columns one line moves, and tells the minutes that are left."""
     room.put("top/crates/x7_low/src/lib.rt", "x7_low 1, on a terminal\n")
     ours, theirs = pty.openpty()
@@ -146,7 +148,7 @@ def on_terminal(room, tally):
     tally.check("on a terminal, the end", re.match("x7 was proved and built in [0-9]+ min", last), last)
 
 
-def interrupted(room, tally):
+def interrupted(room: Room, tally: Tally) -> None:
     """An interrupt leaves nothing running, and nothing half made is taken for whole."""
     room.put("top/crates/x7_high/waits", "")
     room.put("top/crates/x7_high/src/lib.rt", "x7_high 3\n")
@@ -170,7 +172,7 @@ def interrupted(room, tally):
     tally.same("its library is whole", room.get("top/crates/x7/out/build/x7_high/x7_high.rlib"), "x7_high 2\n")
 
 
-def killed(room, tally):
+def killed(room: Room, tally: Tally) -> None:
     """A call after one that was killed waits for what that one left."""
     room.put("top/crates/x7_low/waits", "")
     room.put("top/crates/x7_low/src/lib.rt", "x7_low 2\n")
@@ -187,7 +189,7 @@ def killed(room, tally):
     tally.same("and goes on", (later.returncode, room.get("top/crates/x7/out/build/x7_low/x7_low.rlib")), (0, "x7_low 2\n"))
 
 
-def failing(room, tally):
+def failing(room: Room, tally: Tally) -> None:
     """Each way to fail: status 1, why, and that a later call goes on."""
     ways = [("refuses", "x7_high was refused"), ("stops", "the prover stopped with status 3"), ("killed", "the prover was killed")]
     for way, why in ways:
@@ -208,7 +210,7 @@ def failing(room, tally):
     tally.same("the next call goes on", room.build()[2], ["x7"])
 
 
-def elsewhere(room, tally):
+def elsewhere(room: Room, tally: Tally) -> None:
     """Where the kit is missing or another one, where nothing can be written or read, and words that it doesn't take."""
     status, said, proved = room.build("--fast")
     tally.same("words, status", (status, said, proved), (2, "build: it takes no words; --help says what it does\n", []))

@@ -1,6 +1,8 @@
 #!/usr/bin/env python3
 """Tests the device without frames against every report of the repository's worked cases: taken, end, phase, and
 registers; and the whole report of a plain program, frames included, against those of short streams."""
+from __future__ import annotations
+
 from casefiles import Tally, all_cases, line_text, os, put_file
 import tempfile
 import x7formats as x7
@@ -13,18 +15,18 @@ FRAME_FAULTS = ("Address", "Overrun", "Multi")
 SHORT, MOST_READS = 20000, 100000
 
 
-def in_file(name, data):
+def in_file(name: str, data: bytes) -> str:
     """The path of a file that holds these bytes."""
     return put_file(FOLDER, name, data)
 
 
-def wanted_lines(case):
+def wanted_lines(case: Case) -> dict[str, str]:
     """The lines of a report that a case shows, by their first words."""
     lines = case.text.decode("ascii", "replace").splitlines() if case.text and case.is_plain else case.has
     return {" ".join(line.split()[:2]) if line.startswith("reg ") else line.split(" ")[0]: line for line in lines if line}
 
 
-def whole_report(name, case, part, data):
+def whole_report(name: str, case: Case, part: Part, data: bytes) -> None:
     """A case of `play` of a short stream: its status, and its text or the lines that it shows, are those of the plain
     program."""
     text, status = x7report.play(part, data)
@@ -36,7 +38,7 @@ def whole_report(name, case, part, data):
         tally.check(f"{name}, has", line_text(line) in shown, line)
 
 
-def play_case(name, case):
+def play_case(name: str, case: Case) -> None:
     """A case of `play`: what its report shows is what the device without frames comes to, where no frame's fault ends
     it."""
     lines = wanted_lines(case)

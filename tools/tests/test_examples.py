@@ -1,6 +1,8 @@
 #!/usr/bin/env python3
 """Tests that the listing and the reports in examples/ are what x7 writes, and that the tools show what README says of
 them."""
+from __future__ import annotations
+
 import os
 import tempfile
 
@@ -18,13 +20,13 @@ MADE = {
 }
 
 
-def example(name):
+def example(name: str) -> bytes:
     """The bytes of an example."""
     with open(os.path.join(EXAMPLES, name), "rb") as file:
         return file.read()
 
 
-def made(bench, commands):
+def made(bench: Bench, commands: Sequence[str]) -> bytes:
     """What the last of some commands writes; a number stands for what the one of that number wrote."""
     out = b""
     for number, command in enumerate(commands):
@@ -34,7 +36,7 @@ def made(bench, commands):
     return out
 
 
-def check_readme(bench, command, text, count):
+def check_readme(bench: Bench, command: str, text: bytes, count: int) -> None:
     """README shows a command and the first `count` lines of what it writes."""
     block = f"    $ {command}\n" + "".join(f"    {line}\n" for line in text.decode().splitlines()[:count])
     bench.tally.check(f"README shows what {command} writes", f"{block}    ..\n" in text_of("README.md"), block)

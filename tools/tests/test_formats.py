@@ -1,5 +1,7 @@
 #!/usr/bin/env python3
 """Tests the shared module against every listing, check, part file and report of the repository's worked cases."""
+from __future__ import annotations
+
 from casefiles import Tally, all_cases, put_file
 import io
 import sys
@@ -10,17 +12,17 @@ from x7partfile import read_part
 tally = Tally()
 
 
-def listing_text(raw):
+def listing_text(raw: bytes) -> bytes:
     """The text of the listing of a stream."""
     return "".join(f"{line}\n" for line in x7.listing_of(x7.stream_of(raw))).encode()
 
 
-def in_file(data):
+def in_file(data: bytes) -> str:
     """A file with these bytes, for a reader that takes a path."""
     return put_file(FOLDER, "file", data)
 
 
-def listing_case(name, case):
+def listing_case(name: str, case: Case) -> None:
     """A case of `list`: the text is the one that x7 writes, and reading it gives the stream again."""
     raw = case.bytes_of(case.words[1])
     if raw is None or case.status not in (0, 5):
@@ -41,7 +43,7 @@ def listing_case(name, case):
     tally.same(f"{name}, back", (stream.header, stream.data), tuple(x7.stream_of(raw)))
 
 
-def assembly_case(name, case):
+def assembly_case(name: str, case: Case) -> None:
     """A case of `asm` of which the text is whole: reading it gives the stream, and listing that is its own reading."""
     text = case.bytes_of(case.words[1])
     if text is None or case.status != 0 or not case.is_plain or case.has:
@@ -50,7 +52,7 @@ def assembly_case(name, case):
     tally.same(name, stream.data, x7.stream_of(case.text).data)
 
 
-def part_case(name, case):
+def part_case(name: str, case: Case) -> None:
     """A case with a part file of its own: it is taken where x7 takes it."""
     parts = [case.inputs[word] for word in case.words[1:2] if word in case.inputs]
     if case.words[:1] not in (["play"], ["boot"], ["gen"], ["debug"], ["svf"]) or not parts or case.status == 6:
@@ -66,7 +68,7 @@ def part_case(name, case):
         tally.check(name, not taken, taken)
 
 
-def report_case(name, case):
+def report_case(name: str, case: Case) -> None:
     """A case whose text is a report: it is read, and the fields are those of its lines."""
     if case.words[:1] not in (["play"], ["boot"], ["svf"]) or case.status not in (0, 1) or not case.is_plain or case.has:
         return
@@ -78,7 +80,7 @@ def report_case(name, case):
     tally.same(name, len(report.frames), sum(line.startswith("frame ") for line in lines))
 
 
-def checks():
+def checks() -> None:
     """The check of a worked example (docs/FORMATS.md, the running check), plain and with the tables for long runs."""
     data = bytes.fromhex("AA995566 30008001 00000007 30008001 00000000 30000001 20BD8EDE")
     tally.same("check", [it[1] for it in x7.checks_of(data)], [0x20BD8EDE])
@@ -94,7 +96,7 @@ def checks():
     tally.same("check of a long run", x7.fold(0, 2, words), halves)
 
 
-def names():
+def names() -> None:
     """A file's name that isn't UTF-8 is written with an escape."""
     kept, sys.stdout = sys.stdout, io.TextIOWrapper(io.BytesIO())
     try:
@@ -105,7 +107,7 @@ def names():
     tally.same("a name that isn't UTF-8", came, b"\\udcff.bit\n")
 
 
-def lines():
+def lines() -> None:
     """The line of each place of a stream is the one that holds the byte."""
     raw = bytes.fromhex("FF AA995566 20000000 20000000 30004009" + "00000001" * 9 + "30008001 0000000D 00 00")
     stream = x7.stream_of(raw)

@@ -7,6 +7,8 @@
 It says the seed of each difference, the first line that differs, and a part file and an assembly text that show it,
 with as few pieces as were found; and whether a plain program with one wrong rule is seen beside x7 on these
 histories."""
+from __future__ import annotations
+
 from casefiles import Tally
 import os
 import subprocess
@@ -32,14 +34,14 @@ class Play:
     name = "play"
     history = staticmethod(h.play_history)
 
-    def by_x7(self, part, lines):
+    def by_x7(self, part: str, lines: list[str]) -> Written:
         """What x7 writes of the streams of these lines, and its status."""
         streams = h.streams_of(lines)
         for number, stream in enumerate(streams):
             x7.write_file(in_folder(f"s{number}"), stream)
         return ran("play", part, [f"s{number}" for number in range(len(streams))])
 
-    def plainly(self, part, lines, device=r.PartDevice):
+    def plainly(self, part: str, lines: list[str], device: type[r.PartDevice] = r.PartDevice) -> Written:
         """What the plain program, or one with a wrong rule, writes of them."""
         return r.play(h.part_of(part), b"".join(h.streams_of(lines)), device)
 
@@ -50,33 +52,33 @@ class Boot:
     name = "boot"
     history = staticmethod(h.boot_history)
 
-    def flash(self, lines):
+    def flash(self, lines: list[str]) -> bytes:
         """The flash that holds the streams, each at a multiple of 256 bytes."""
         return b"".join(stream + b"\xff" * (-len(stream) % 256) for stream in h.streams_of(lines))
 
-    def by_x7(self, part, lines):
+    def by_x7(self, part: str, lines: list[str]) -> Written:
         """What x7 writes of the streams of these lines, and its status."""
         x7.write_file(in_folder("flash"), self.flash(lines))
         return ran("boot", part, ["flash"])
 
-    def plainly(self, part, lines, device=r.PartDevice):
+    def plainly(self, part: str, lines: list[str], device: type[r.PartDevice] = r.PartDevice) -> Written:
         """What the plain program, or one with a wrong rule, writes of them."""
         return r.boot(h.part_of(part), self.flash(lines), device)
 
 
-def in_folder(name):
+def in_folder(name: str) -> str:
     """The path of a file in the folder of the runs."""
     return os.path.join(FOLDER, name)
 
 
-def ran(form, part, names):
+def ran(form: str, part: str, names: list[str]) -> Written:
     """What x7 writes, and its status."""
     x7.write_file(in_folder("part"), part)
     done = subprocess.run([X7, form, "part", *names], cwd=FOLDER, stdout=subprocess.PIPE, stderr=subprocess.PIPE)
     return done.stdout.decode() + done.stderr.decode(), done.returncode
 
 
-def differs(kind, part, pieces):
+def differs(kind: Kind, part: str, pieces: list[h.Piece]) -> str | None:
     """What is said of a history where the two differ, or none."""
     lines = h.lines_of(pieces)
     (came, status), (wanted, wanted_status) = kind.by_x7(part, lines), kind.plainly(part, lines)
@@ -87,7 +89,7 @@ def differs(kind, part, pieces):
     return f"{difference}, status {status} and {wanted_status}"
 
 
-def fewest(kind, part, pieces):
+def fewest(kind: Kind, part: str, pieces: list[h.Piece]) -> list[h.Piece]:
     """The pieces without those that a difference doesn't need."""
     size = max(len(pieces) // 2, 1)
     while True:
@@ -103,7 +105,7 @@ def fewest(kind, part, pieces):
         size = max(size // 2, 1)
 
 
-def is_alike(seed):
+def is_alike(seed: int) -> bool:
     """Whether the device without frames comes to the same, where no fault of frames ends it."""
     part, pieces = h.play_history(seed)
     data, part = b"".join(h.streams_of(h.lines_of(pieces))), h.part_of(part)
@@ -112,7 +114,7 @@ def is_alike(seed):
     return whole.end[1:2] in FRAME_FAULTS or left[0] == left[1]
 
 
-def compare(kind, seed):
+def compare(kind: Kind, seed: int) -> None:
     """Compares the history of a seed; answers it with what x7 wrote."""
     part, pieces = kind.history(seed)
     difference = differs(kind, part, pieces)
@@ -129,7 +131,7 @@ def compare(kind, seed):
 class HoldsNoFrame(PartFrames):
     """Writes each frame as soon as it is whole."""
 
-    def landed(self):
+    def landed(self) -> dict[int, bytes]:
         frames = (self.frame_of_run(at) for at in range(self.count()))
         return {far: frame for far, frame in zip(self.slots_from_base(), frames) if far is not None}
 
@@ -137,7 +139,7 @@ class HoldsNoFrame(PartFrames):
 class HasNoPads(PartFrames):
     """Has no pads between its rows."""
 
-    def __init__(self, part):
+    def __init__(self, part: Part) -> None:
         super().__init__(part)
         self.slots = part.addresses()
         self.slot_of = {far: slot for slot, far in enumerate(self.slots)}
@@ -146,7 +148,7 @@ class HasNoPads(PartFrames):
 class HasNoPadFrame(PartFrames):
     """Gives no frame of zeros before the frames read back."""
 
-    def begin_run(self, base):
+    def begin_run(self, base: int) -> None:
         super().begin_run(base)
         self.given = self.size // 4 if self.command == r.RCFG else 0
 
@@ -154,7 +156,7 @@ class HasNoPadFrame(PartFrames):
 class KeepsTheSource(PartFrames):
     """Takes the source of copies also over another command."""
 
-    def store(self, register, word):
+    def store(self, register: int, word: int) -> None:
         before = self.source
         super().store(register, word)
         self.source = self.source or before
@@ -163,13 +165,13 @@ class KeepsTheSource(PartFrames):
 class MovesAtCopies(PartFrames):
     """Moves FAR at each copy."""
 
-    def copy(self):
+    def copy(self) -> tuple[str, ...]:
         fault = super().copy()
         self.base = next((it for it in self.slots_from_base()[1:2] if it is not None), self.base)
         return fault
 
 
-def with_frames(frames):
+def with_frames(frames: type[PartFrames]) -> type[r.PartDevice]:
     """A device whose frames follow a wrong rule."""
     return type(frames.__name__, (r.PartDevice,), {"frames_kind": frames, "__doc__": frames.__doc__})
 
@@ -177,11 +179,11 @@ def with_frames(frames):
 class RunsOverFar(r.PartDevice):
     """Doesn't execute the command again at a FAR load."""
 
-    def execute(self, command, after):
+    def execute(self, command: int, after: int) -> None:
         if self.is_cmd:
             super().execute(command, after)
 
-    def write(self, data, step):
+    def write(self, data: bytes, step: x7.Step) -> None:
         self.is_cmd, self.check.command = step.register == x7.CMD, 0
         super().write(data, step)
 
@@ -189,7 +191,7 @@ class RunsOverFar(r.PartDevice):
 class IgnoresMask(r.PartDevice):
     """Takes all bits of CTL0."""
 
-    def store(self, number, word, after, compared):
+    def store(self, number: int, word: int, after: int, compared: x7.Compared | None) -> None:
         kept = self.registers["MASK"]
         self.registers["MASK"] = kept if number != x7.CTL0 else 0xFFFFFFFF
         super().store(number, word, after, compared)
@@ -199,7 +201,7 @@ class IgnoresMask(r.PartDevice):
 class StartsAtOnce(r.PartDevice):
     """Begins startup at START."""
 
-    def execute(self, command, after):
+    def execute(self, command: int, after: int) -> None:
         super().execute(command, after)
         if command == x7.CODES["START"] and self.begun is None:
             self.begun, self.cor0 = after, self.registers["COR0"]
@@ -208,7 +210,7 @@ class StartsAtOnce(r.PartDevice):
 class ForgetsNoShutdown(r.PartDevice):
     """Takes a shutdown without RCRC or a right check."""
 
-    def execute(self, command, after):
+    def execute(self, command: int, after: int) -> None:
         super().execute(command, after)
         self.take_shutdown(after)
 
@@ -216,7 +218,7 @@ class ForgetsNoShutdown(r.PartDevice):
 class FoldsLout(r.PartDevice):
     """Folds LOUT into the check."""
 
-    def write(self, data, step):
+    def write(self, data: bytes, step: x7.Step) -> None:
         super().write(data, step)
         if step.register == x7.LOUT:
             self.check.value = x7.fold(self.check.value, x7.LOUT, x7.payload(data, step))
@@ -225,7 +227,7 @@ class FoldsLout(r.PartDevice):
 class CountsOneByteMore(r.PartDevice):
     """Lets the watchdog fire a byte later."""
 
-    def load_watchdog(self, after):
+    def load_watchdog(self, after: int) -> None:
         super().load_watchdog(after)
         self.deadline = self.deadline and self.deadline + 1
 
@@ -233,14 +235,14 @@ class CountsOneByteMore(r.PartDevice):
 class ForgetsTheCheck(r.PartDevice):
     """Reads CRC as 0."""
 
-    def value(self, name):
+    def value(self, name: str) -> int:
         return 0 if name == "CRC" else super().value(name)
 
 
 class AsksTooLate(r.PartDevice):
     """Asks for a matched device only where frame data are taken."""
 
-    def frame_data(self, data, step):
+    def frame_data(self, data: bytes, step: x7.Step) -> None:
         if self.matched or step.register == x7.MFWR or self.command == r.WCFG:
             super().frame_data(data, step)
         else:
@@ -250,14 +252,14 @@ class AsksTooLate(r.PartDevice):
 class ObeysIprog(r.PartDevice):
     """Obeys IPROG in a fallback."""
 
-    def execute(self, command, after):
+    def execute(self, command: int, after: int) -> None:
         super(r.PartDevice, self).execute(command, after)
 
 
 class ForgetsTheAttempt(r.PartDevice):
     """Forgets the attempt before."""
 
-    def __init__(self, part, start=r.BENCH):
+    def __init__(self, part: Part, start: r.Start = r.BENCH) -> None:
         super().__init__(part, start._replace(before=0))
 
 
@@ -269,7 +271,7 @@ WRONG = [
 ] + [(Boot(), it) for it in (ObeysIprog, ForgetsTheAttempt)]
 
 
-def is_seen(kind, device):
+def is_seen(kind: Kind, device: type[r.PartDevice]) -> bool:
     """Whether one of the histories that are tried where nothing else is said tells the plain program from one with a
     wrong rule."""
     for seed in range(1, COUNT + 1):
@@ -280,7 +282,7 @@ def is_seen(kind, device):
     return False
 
 
-def main(words):
+def main(words: list[str]) -> None:
     """COUNT plays and half as many boots, and the wrong rules."""
     if len(words) > 2 or not all(it.isdecimal() for it in words):
         sys.exit("usage: test_histories.py [COUNT [SEED]]")

@@ -1,6 +1,8 @@
 #!/usr/bin/env python3
 """Tests ./install: what it says stands there, its pages lead to one another, and an installed tool finds the installed
 program."""
+from __future__ import annotations
+
 import os
 import re
 import sys

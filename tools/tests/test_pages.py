@@ -3,6 +3,8 @@
 somewhere; that the clauses that PROOFS and the READMEs name are those of the function, the type or the record that they
 name; that the README of tools/ has the options of each tool; that crates.txt names no library that a crate doesn't
 cite, that no crate gives out lemmas that no other cites, and that no command of a page leaves its end to chance."""
+from __future__ import annotations
+
 import ast
 import functools
 import glob
@@ -14,18 +16,18 @@ from casefiles import TOP, Tally, text_of, tool_names
 CRATES = os.path.join(TOP, "crates")
 
 
-def crates():
+def crates() -> list[str]:
     """The crates, as crates.txt has them."""
     return [line.partition(":")[0] for line in text_of("crates.txt").splitlines() if line and not line.startswith("#")]
 
 
-def cells(line):
+def cells(line: str) -> list[str]:
     """The cells of a table's row, and none of its rule."""
     row = [it.strip() for it in line.strip().strip("|").split("|")]
     return [] if not line.startswith("|") or set("".join(row)) <= set("-: ") else row
 
 
-def map_rows():
+def map_rows() -> dict[str, tuple[str, str]]:
     """MAP's table of the crates: for each the text of its modules and that of its definitions."""
     rows, crate = {}, ""
     for row in (cells(line) for line in text_of("docs", "MAP.md").partition("\n## The crates\n")[2].partition("\n## ")[0].splitlines()):
@@ -36,23 +38,23 @@ def map_rows():
     return rows
 
 
-def names_in(folder, ending):
+def names_in(folder: str, ending: str) -> set[str]:
     """The files below a folder, by their paths without the ending."""
     found = glob.glob(os.path.join(CRATES, folder, "**", f"*{ending}"), recursive=True)
     return {os.path.relpath(it, os.path.join(CRATES, folder))[: -len(ending)] for it in found}
 
 
-def is_one_of(name, paths):
+def is_one_of(name: str, paths: Collection[str]) -> bool:
     """A path is named by itself or by its last parts."""
     return any(it == name or it.endswith(f"/{name}") for it in paths)
 
 
-def lists_others(path, paths):
+def lists_others(path: str, paths: Collection[str]) -> bool:
     """A file beside a folder of its name may be the list of what stands there."""
     return any(it.startswith(f"{path}/") for it in paths)
 
 
-def check_map(tally):
+def check_map(tally: Tally) -> None:
     """Each module and each specs file stands in MAP, and no other."""
     rows = map_rows()
     tally.same("the crates of MAP", sorted(rows), sorted(crates()))
@@ -70,14 +72,14 @@ def check_map(tally):
                 tally.same(f"{crate}: the specs files that MAP names and that aren't there", lost, [])
 
 
-def anchors_of(path):
+def anchors_of(path: str) -> set[str]:
     """The places in a page that a link can name: its headings, in small letters, with hyphens for spaces."""
     with open(path, encoding="utf-8") as file:
         headings = re.findall(r"^#+ (.*)$", re.sub(r"^```.*?^```", "", file.read(), flags=re.M | re.S), re.M)
     return {re.sub(r"[^\w\- ]", "", it.lower()).replace(" ", "-") for it in headings}
 
 
-def check_links(tally):
+def check_links(tally: Tally) -> None:
     """A link to a file of the tree leads to one, and one to a place in a page to a heading of it."""
     pages = [os.path.join(TOP, it) for it in ("README.md", "CHANGELOG.md")]
     for pattern in ("docs/*.md", "bench/*.md", "tools/*.md", "examples/*.md", "crates/*/README.md", "crates/*/data/*.md"):
@@ -91,7 +93,7 @@ def check_links(tally):
                 tally.check(f"{os.path.relpath(page, TOP)}: the link {link}#{anchor}", is_there, there)
 
 
-def check_pipes(tally):
+def check_pipes(tally: Tally) -> None:
     """No page's command has x7 write to `head`, or another that may leave before the end: whether that is a write fault is
     chance."""
     leaves = r"(?:head|true|grep -\w*[qm]|sed (?:-\w+ )*\S*q\b)"
@@ -100,7 +102,7 @@ def check_pipes(tally):
         tally.same(f"{page}: commands whose reader may leave", found, [])
 
 
-def check_readme(tally):
+def check_readme(tally: Tally) -> None:
     """README's table of what is proved has each crate, and each library a README of its own."""
     table = text_of("README.md").partition("## What is proved, crate by crate")[2]
     for crate in crates():
@@ -110,7 +112,7 @@ def check_readme(tally):
 
 
 @functools.lru_cache(maxsize=None)
-def says(crate):
+def says(crate: str) -> set[str]:
     """The names of clauses, fields, functions and definitions that a crate's code and definitions have."""
     found = set()
     for part, ending in (("src", ".rt"), ("specs", ".antt")):
@@ -123,12 +125,12 @@ def says(crate):
     return found
 
 
-def options_of(text):
+def options_of(text: str) -> list[str]:
     """The options that a text names, but for --help, which each tool has."""
     return sorted(set(re.findall(r"--[a-z]\w*(?:-\w+)*", text)) - {"--help"})
 
 
-def check_tools(tally):
+def check_tools(tally: Tally) -> None:
     """Each tool has a row in the README of tools/ whose forms name the options that its help names."""
     forms = re.findall(r"^\| (`.*?`) \| ", text_of("tools", "README.md"), re.M)
     for name in tool_names():
@@ -138,13 +140,13 @@ def check_tools(tally):
 
 
 @functools.lru_cache(maxsize=None)
-def crates_below():
+def crates_below() -> dict[str, list[str]]:
     """For each crate itself and, of what crates.txt names for it, the crates that are there."""
     lines = [line.partition(":") for line in text_of("crates.txt").splitlines() if not line.startswith("#")]
     return {crate: [crate] + [it for it in libraries.split() if it in crates()] for crate, _, libraries in lines}
 
 
-def clause_end(text, start):
+def clause_end(text: str, start: int) -> int:
     """Where the braces of a clause that begins there are closed."""
     depth = 0
     for place in range(start, len(text)):
@@ -154,7 +156,7 @@ def clause_end(text, start):
     return len(text)
 
 
-def clauses_of(crate):
+def clauses_of(crate: str) -> Iterator[Clause]:
     """The clauses of a crate's code, each with its function, the type or trait of that, its own name and its text."""
     owner, function = "", ""
     item = r"^(?:pub(?:\(crate\))? )?(?:impl(?:<.*?>)? (?:\w+(?:<.*?>)? for )?|trait |struct |enum )(\w+)|^\}"
@@ -174,7 +176,7 @@ def clauses_of(crate):
 
 
 @functools.lru_cache(maxsize=None)
-def definitions_in(crate):
+def definitions_in(crate: str) -> list[Definition]:
     """The definitions of a crate: of each its name, its words, and the names with which its bodies begin."""
     found = []
     for path in names_in(f"{crate}/specs", ".antt"):
@@ -186,7 +188,7 @@ def definitions_in(crate):
     return found
 
 
-def definitions_of(crate):
+def definitions_of(crate: str) -> dict[str, set[str]]:
     """The words of each definition of a crate or of one below it, by its name; of one whose body begins with another's
     name, as an abbreviation of a record, the words of that too."""
     found, bodies = {}, {}
@@ -196,7 +198,7 @@ def definitions_of(crate):
     return {name: words.union(*(found.get(it, ()) for it in bodies[name])) for name, words in found.items()}
 
 
-def named_parts(crate):
+def named_parts(crate: str) -> dict[str, set[str]]:
     """What may be named of each function, type, clause and definition of a crate: of a clause what it cites, and what the
     first definition there does that is no binder's, such as the fields of a record; of a function its clauses, and what
     is of them; of a type or a trait its functions, and what is of them; of a definition what it cites."""
@@ -213,7 +215,7 @@ def named_parts(crate):
 LIST = r"(?:`[\w:]+`(?:, and |, | and ))*`[\w:]+`"
 
 
-def claims_of(text):
+def claims_of(text: str) -> Iterator[tuple[list[str], list[str]]]:
     """What a text says to be parts of what: 'PARTS of NAMES' and 'NAMES: PARTS', where the names after a first one such
     as `Session::go` are of its type too."""
     lists = [(names, parts) for parts, names in re.findall(rf"({LIST}) of ({LIST})", text)]
@@ -224,7 +226,7 @@ def claims_of(text):
         yield re.findall(r"`([\w:]+)`", parts), names
 
 
-def check_claims(tally, page, crate, text, parts):
+def check_claims(tally: Tally, page: str, crate: str, text: str, parts: Mapping[str, dict[str, set[str]]]) -> None:
     """Each clause, field or definition that a page says to be a function's, a type's or a record's is one of that."""
     for claimed, names in claims_of(text):
         near = [parts[it].get(name, set()) for it in crates_below()[crate] for name in names]
@@ -232,7 +234,7 @@ def check_claims(tally, page, crate, text, parts):
             tally.check(f"{page}: {crate} has {it} of {' or '.join(names)}", any(it in known for known in near), names)
 
 
-def check_names(tally, page, crate, text, parts):
+def check_names(tally: Tally, page: str, crate: str, text: str, parts: Mapping[str, dict[str, set[str]]]) -> None:
     """Each name of a text in backquotes is one of a crate's, or of one below it; `TYPE::FUNCTION` is a function of it."""
     near = [parts[it] for it in crates_below()[crate]]
     known = set().union(*near, *(says(it) for it in crates_below()[crate]))
@@ -240,7 +242,7 @@ def check_names(tally, page, crate, text, parts):
         tally.check(f"{page}: {crate} has {name}", name in known or re.fullmatch(r"\d+", name), text)
 
 
-def check_clauses(tally):
+def check_clauses(tally: Tally) -> None:
     """The clauses, fields and definitions that the pages name: those of README's table and of PROOFS are of the crate of
     their row, and those of a crate's README of that, or of one below it. `specs/NAME` is a file of the crate."""
     parts = {crate: named_parts(crate) for crate in crates()}
@@ -264,7 +266,7 @@ def check_clauses(tally):
         check_names(tally, page, crate, text, parts)
 
 
-def check_libraries(tally):
+def check_libraries(tally: Tally) -> None:
     """Each library that crates.txt names for a crate is cited by its code, its definitions or its proofs."""
     for line in text_of("crates.txt").splitlines():
         crate, _, libraries = line.partition("#")[0].partition(":")
@@ -275,7 +277,7 @@ def check_libraries(tally):
             tally.check(f"{crate} cites {library}", library in words, f"no file of crates/{crate} names it")
 
 
-def check_lemmas(tally):
+def check_lemmas(tally: Tally) -> None:
     """Each file of lemmas that a crate gives out is cited by another crate."""
     cited = set()
     for crate in crates():

@@ -1,6 +1,8 @@
 #!/usr/bin/env python3
 """Tests what the program says of itself: --help and --version, and that the man page and CHANGELOG have its version and
 its forms."""
+from __future__ import annotations
+
 import re
 import tempfile
 
@@ -8,7 +10,7 @@ from casefiles import text_of
 from runs import X7, Bench, run
 
 
-def pages(bench):
+def pages(bench: Bench) -> tuple[list[str], str]:
     """What the two words write, alone and where standard output is closed or full."""
     came = run(bench.folder, [X7, "--help"])
     lines = came.out.decode().split("\n")
@@ -22,7 +24,7 @@ def pages(bench):
     return lines, version.out.decode().strip()
 
 
-def documents(bench, lines, version):
+def documents(bench: Bench, lines: list[str], version: str) -> None:
     """The forms of --help are those of the man page, and the version is its, and CHANGELOG's."""
     page = text_of("docs", "x7.1")
     shown = re.findall(r"x7 ((?:--)?[a-z]+)", " ".join(it for it in lines if re.match("(usage:|      ) x7 ", it)))
