@@ -32,8 +32,10 @@ def check_edit(tally: Tally, crate: str, edit: str) -> None:
 
 def check_words(tally: Tally) -> None:
     """The tool takes names of crates with attacks alone."""
-    ran = subprocess.run([sys.executable, os.path.join(TOOLS, "attack"), "x7_nothing"], check=False, capture_output=True)
-    tally.same("a crate without attacks", (ran.returncode, ran.stdout, ran.stderr.startswith(b"attack: no wrong bodies")), (2, b"", True))
+    command = [sys.executable, os.path.join(TOOLS, "attack"), "x7_nothing"]
+    ran = subprocess.run(command, check=False, capture_output=True)
+    said = (ran.returncode, ran.stdout, ran.stderr.startswith(b"attack: no wrong bodies"))
+    tally.same("a crate without attacks", said, (2, b"", True))
 
 
 def check_folder(tally: Tally, folder: str) -> None:
@@ -41,7 +43,8 @@ def check_folder(tally: Tally, folder: str) -> None:
     label = os.path.relpath(folder, TOP)
     crate = label.split(os.sep)[1]
     edits = sorted(glob.glob(os.path.join(folder, "*.edit")))
-    tally.same(f"{label} has edits, at most eight, and nothing else", (0 < len(edits) <= 8, len(os.listdir(folder))), (True, len(edits)))
+    found = (0 < len(edits) <= 8, len(os.listdir(folder)))
+    tally.same(f"{label} has edits, at most eight, and nothing else", found, (True, len(edits)))
     for edit in edits:
         check_edit(tally, crate, edit)
 

@@ -15,10 +15,12 @@ import sys
 import tempfile
 import termios
 import time
+from typing import Any
 
 from casefiles import TOP, Tally
 
 KIT = "rattle-kit-1 logic 0123"
+WAITS = "another call builds x7: this one waits for it\n"
 # what hasn't ended by then hangs, however busy the machine is
 SECONDS = 300
 # A prover: it says which crate it is given, does as the crate's folder asks, and writes the crate's text in place of a
@@ -46,9 +48,12 @@ class Room:
     """A repository of three crates, one on another, and a kit."""
 
     def __init__(self, folder: str) -> None:
-        self.folder, self.kit, self.top = folder, os.path.join(folder, "kit"), os.path.join(folder, "top")
+        self.folder = folder
+        self.kit = os.path.join(folder, "kit")
+        self.top = os.path.join(folder, "top")  # the repository
         self.put("kit/KIT-ID", KIT + "\n")
-        for name, text in (("bin/rt", f"#!/bin/sh\necho {self.kit}/START-HERE.md\n"), ("bin/rattle", PROVER), ("bin/rattle-link", LINKER)):
+        finder = f"#!/bin/sh\necho {self.kit}/START-HERE.md\n"
+        for name, text in (("bin/rt", finder), ("bin/rattle", PROVER), ("bin/rattle-link", LINKER)):
             self.put(f"kit/{name}", text, 0o755)
         self.put("top/crates.txt", "# crates\nx7_low: memchr\nx7_high: x7_low\nx7: x7_high x7_low\nx7_other: x7_low\n")
         self.put("top/README.md", f"It is proved with the kit that `rt version` calls `{KIT}`.\n")
@@ -75,8 +80,11 @@ class Room:
 
     def start(self, *words: str, **how: Any) -> subprocess.Popen[str]:
         """Starts a build."""
-        pipes = {"stdin": subprocess.DEVNULL, "stdout": subprocess.PIPE, "stderr": subprocess.PIPE, "universal_newlines": True}
-        return subprocess.Popen([sys.executable, os.path.join(self.top, "build"), *words], **{"env": self.environment, **pipes, **how})
+        given: dict[str, Any] = {"env": self.environment, "stdin": subprocess.DEVNULL, "stdout": subprocess.PIPE}
+        given.update({"stderr": subprocess.PIPE, "universal_newlines": True, **how})
+        command = [sys.executable, os.path.join(self.top, "build"), *words]
+        started: subprocess.Popen[str] = subprocess.Popen(command, **given)
+        return started
 
     def build(self, *words: str, **how: Any) -> tuple[int, str, list[str]]:
         """Builds, and gives the status, what was said, and the crates that were proved meanwhile."""
@@ -106,6 +114,12 @@ class Room:
         except ProcessLookupError:
             return False
         return True
+
+
+def first_line(started: subprocess.Popen[str]) -> str:
+    """The first line that a build says."""
+    assert started.stderr, "it is a pipe"
+    return started.stderr.readline()
 
 
 def built(room: Room, tally: Tally) -> None:
@@ -144,7 +158,8 @@ def on_terminal(room: Room, tally: Tally) -> None:
     tally.same("on a terminal, status", started.returncode, 0)
     tally.check("on a terminal, the line", all(len(it) < 40 for it in "".join(lines).split("\r")), lines)
     # how many minutes are left depends on the processors
-    tally.check("on a terminal, the minutes", re.search("2 of 3 crates proved, (less than a|about [0-9]+) min", lines[0]), lines)
+    minutes = re.search("2 of 3 crates proved, (less than a|about [0-9]+) min", lines[0])
+    tally.check("on a terminal, the minutes", minutes, lines)
     tally.check("on a terminal, the end", re.match("x7 was proved and built in [0-9]+ min", last), last)
 
 
@@ -156,7 +171,7 @@ def interrupted(room: Room, tally: Tally) -> None:
     started = room.start()
     tally.check("the build is under way", room.wait_for_half("x7_high"))
     waiting = room.start()
-    tally.same("a second call waits", waiting.stderr.readline(), "another call builds x7: this one waits for it\n")
+    tally.same("a second call waits", first_line(waiting), WAITS)
     waiting.send_signal(signal.SIGTERM)
     said = waiting.communicate(timeout=SECONDS)[1]
     tally.check("a second call is interrupted", waiting.returncode == 130, said)
@@ -183,22 +198,24 @@ def killed(room: Room, tally: Tally) -> None:
     started.communicate()
     os.remove(room.path("top/crates/x7_low/waits"))
     later = room.start()
-    tally.same("a call after one that was killed waits", later.stderr.readline(), "another call builds x7: this one waits for it\n")
+    tally.same("a call after one that was killed waits", first_line(later), WAITS)
     os.killpg(int(room.get("kit/pid")), signal.SIGTERM)
     later.communicate(timeout=SECONDS)
-    tally.same("and goes on", (later.returncode, room.get("top/crates/x7/out/build/x7_low/x7_low.rlib")), (0, "x7_low 2\n"))
+    library = room.get("top/crates/x7/out/build/x7_low/x7_low.rlib")
+    tally.same("and goes on", (later.returncode, library), (0, "x7_low 2\n"))
 
 
 def failing(room: Room, tally: Tally) -> None:
     """Each way to fail: status 1, why, and that a later call goes on."""
-    ways = [("refuses", "x7_high was refused"), ("stops", "the prover stopped with status 3"), ("killed", "the prover was killed")]
-    for way, why in ways:
+    ways = [("refuses", "x7_high was refused"), ("stops", "the prover stopped with status 3")]
+    for way, why in [*ways, ("killed", "the prover was killed")]:
         room.put("top/crates/x7_high/src/lib.rt", f"x7_high {way}\n")
         room.put(f"top/crates/x7_high/{way}", "")
         status, said, proved = room.build()
         last = said.split("\n")[-2]
         tally.same(f"a crate that {way}, status", (status, proved), (1, ["x7_high"]))
-        tally.check(f"a crate that {way}, why", "what is said of x7_high\n" in said and last.startswith("x7 was not built: x7_high") and why in last, said)
+        is_said = last.startswith("x7 was not built: x7_high") and why in last
+        tally.check(f"a crate that {way}, why", is_said and "what is said of x7_high\n" in said, said)
         os.remove(room.path(f"top/crates/x7_high/{way}"))
     room.put("kit/bin/no_link", "")
     before = room.get("top/crates/x7/out/x7")
@@ -221,7 +238,8 @@ def elsewhere(room: Room, tally: Tally) -> None:
     tally.same("no rt", (status, said), (1, "x7 was not built: there is no `rt`; put the kit's bin/rt on the path\n"))
     room.put("kit/KIT-ID", "rattle-kit-2 logic 0123\n")
     status, said, _ = room.build()
-    tally.check("another kit is said", status == 0 and f"the kit here is rattle-kit-2 logic 0123, and README names {KIT}: " in said, said)
+    names = f"the kit here is rattle-kit-2 logic 0123, and README names {KIT}: "
+    tally.check("another kit is said", status == 0 and names in said, said)
     closed = room.start(stderr=None, preexec_fn=lambda: os.close(2))
     tally.same("a closed standard error", closed.communicate(timeout=SECONDS) and closed.returncode, 0)
     room.put("top/crates/x7/src/main.rt", "x7 3\n")
@@ -229,7 +247,8 @@ def elsewhere(room: Room, tally: Tally) -> None:
     os.remove(room.path("top/crates/x7/out/build/x7_low.log"))
     os.mkdir(room.path("top/crates/x7/out/build/x7_low.log"))
     status, said, _ = room.build()
-    tally.check("a file that can't be written", status == 1 and said.endswith("x7_low.log: Is a directory\n") and "Traceback" not in said, said)
+    is_line = said.endswith("x7_low.log: Is a directory\n") and "Traceback" not in said
+    tally.check("a file that can't be written", status == 1 and is_line, said)
 
 
 tally = Tally()

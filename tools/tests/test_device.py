@@ -3,12 +3,14 @@
 registers; and the whole report of a plain program, frames included, against those of short streams."""
 from __future__ import annotations
 
-from casefiles import Tally, all_cases, line_text, os, put_file
+import os
 import tempfile
+
+from casefiles import DATA, Case, Tally, all_cases, line_text, put_file
 import x7formats as x7
-from x7partfile import read_part
-import x7report
 from x7device import KEPT, Device
+from x7partfile import Part, read_part
+import x7report
 
 tally = Tally()
 FRAME_FAULTS = ("Address", "Overrun", "Multi")
@@ -23,7 +25,10 @@ def in_file(name: str, data: bytes) -> str:
 def wanted_lines(case: Case) -> dict[str, str]:
     """The lines of a report that a case shows, by their first words."""
     lines = case.text.decode("ascii", "replace").splitlines() if case.text and case.is_plain else case.has
-    return {" ".join(line.split()[:2]) if line.startswith("reg ") else line.split(" ")[0]: line for line in lines if line}
+    found = {}
+    for line in filter(None, lines):
+        found[" ".join(line.split()[:2 if line.startswith("reg ") else 1])] = line
+    return found
 
 
 def whole_report(name: str, case: Case, part: Part, data: bytes) -> None:
@@ -44,18 +49,20 @@ def play_case(name: str, case: Case) -> None:
     lines = wanted_lines(case)
     part = read_part(in_file("part", case.bytes_of(case.words[1]) or TINY))
     streams = [case.bytes_of(word) for word in case.words[2:]]
-    if None in streams:
+    given = [raw for raw in streams if raw is not None]
+    if len(given) < len(streams):
         return
-    data = b"".join(x7.stream_of(raw).data for raw in streams)
+    data = b"".join(x7.stream_of(raw).data for raw in given)
     device = Device(part.idcode, part.lock, part.match).play(data)
     if len(data) <= SHORT and device.reads <= MOST_READS:
         whole_report(name, case, part, data)
     if any(fault in lines.get("end", "") for fault in FRAME_FAULTS):
         return
+    done = int(device.phase >= device.done_phase)
     came = {
         "taken": f"taken {device.taken}",
         "end": f"end {' '.join(device.end)}",
-        "phase": f"phase {device.phase} done {int(device.phase >= device.done_phase)} gts {device.gts} gwe {device.gwe}",
+        "phase": f"phase {device.phase} done {done} gts {device.gts} gwe {device.gwe}",
         **{f"reg {it}": f"reg {it} {device.registers[it]:08X}" for it in KEPT},
         "reg CRC": f"reg CRC {device.check.value:08X}",
     }
@@ -64,10 +71,9 @@ def play_case(name: str, case: Case) -> None:
             tally.same(f"{name}, {key}", line, lines[key])
 
 
-with open(os.path.join(os.path.dirname(__file__), "..", "..", "crates", "x7_cases", "data", "tiny.part"), "rb") as file:
-    TINY = file.read()
+TINY = x7.read_file(os.path.join(DATA, "tiny.part"))
 with tempfile.TemporaryDirectory() as FOLDER:
-    for file, case in all_cases():
+    for cases, case in all_cases():
         if case.words[:1] == ["play"] and len(case.words) > 2 and case.status in (0, 1):
-            play_case(f"{file}, {case.name}", case)
+            play_case(f"{cases}, {case.name}", case)
 tally.end()

@@ -5,6 +5,7 @@ from __future__ import annotations
 
 import os
 import tempfile
+from typing import Sequence
 
 from casefiles import TOP, text_of
 from runs import X7, Bench, run
@@ -47,7 +48,8 @@ with tempfile.TemporaryDirectory() as folder:
     check_readme(bench, "./x7 list examples/first.bin", example("first.list"), 5)
     check_readme(bench, "./x7 play examples/tiny.part examples/first.bin", example("first.report"), 4)
     if X7:
-        check_readme(bench, "./x7 play examples/tiny.part ~/tiny.bin", made(bench, ["plan full tiny.part tiny.frames", "play tiny.part 0"]), 4)
+        played = made(bench, ["plan full tiny.part tiny.frames", "play tiny.part 0"])
+        check_readme(bench, "./x7 play examples/tiny.part ~/tiny.bin", played, 4)
     else:
         bench.tally.skip("README's stream that starts a device")
     for name, commands in MADE.items():

@@ -2,10 +2,11 @@
 """Tests the shared module against every listing, check, part file and report of the repository's worked cases."""
 from __future__ import annotations
 
-from casefiles import Tally, all_cases, put_file
 import io
 import sys
 import tempfile
+
+from casefiles import Case, Tally, all_cases, put_file
 import x7formats as x7
 from x7partfile import read_part
 
@@ -70,7 +71,8 @@ def part_case(name: str, case: Case) -> None:
 
 def report_case(name: str, case: Case) -> None:
     """A case whose text is a report: it is read, and the fields are those of its lines."""
-    if case.words[:1] not in (["play"], ["boot"], ["svf"]) or case.status not in (0, 1) or not case.is_plain or case.has:
+    is_report = case.words[:1] in (["play"], ["boot"], ["svf"]) and case.status in (0, 1)
+    if not is_report or not case.is_plain or case.has:
         return
     report = x7.read_report(in_file(case.text))
     lines = case.text.decode().splitlines()
@@ -98,10 +100,11 @@ def checks() -> None:
 
 def names() -> None:
     """A file's name that isn't UTF-8 is written with an escape."""
-    kept, sys.stdout = sys.stdout, io.TextIOWrapper(io.BytesIO())
+    written = io.BytesIO()
+    kept, sys.stdout = sys.stdout, io.TextIOWrapper(written)
     try:
         x7.write_out("\udcff.bit\n")
-        came = sys.stdout.buffer.getvalue()
+        came = written.getvalue()
     finally:
         sys.stdout = kept
     tally.same("a name that isn't UTF-8", came, b"\\udcff.bit\n")
@@ -114,8 +117,10 @@ def lines() -> None:
     listed = list(x7.listing_of(stream))
     path = in_file(listing_text(raw))
     for place in range(1, len(raw) + 1):
-        tally.same(f"line at {place}", x7.line_at(stream, place)[:2], x7.listed_line_at(path, place)[:2])
-        tally.same(f"text at {place}", x7.line_at(stream, place)[1], listed[x7.line_at(stream, place)[0] - 1])
+        one, other = x7.line_at(stream, place), x7.listed_line_at(path, place)
+        assert one and other, f"a line holds byte {place}"
+        tally.same(f"line at {place}", one[:2], other[:2])
+        tally.same(f"text at {place}", one[1], listed[one[0] - 1])
 
 
 with tempfile.TemporaryDirectory() as FOLDER:

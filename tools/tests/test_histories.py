@@ -9,19 +9,23 @@ with as few pieces as were found; and whether a plain program with one wrong rul
 histories."""
 from __future__ import annotations
 
-from casefiles import Tally
 import os
 import subprocess
 import sys
 import tempfile
+from typing import Tuple, Union
 
+from casefiles import Tally
 from calls import program
 import histories as h
 import x7formats as x7
 import x7report as r
 from x7device import Device
-from x7frames import PartFrames
+from x7frames import WCFG, PartFrames
+from x7partfile import Part
 
+# what was written, and the status
+Written = Tuple[str, int]
 COUNT, SHOWN = 200, 3
 FRAME_FAULTS = (["Address"], ["Overrun"], ["Multi"])
 X7 = program()
@@ -66,6 +70,9 @@ class Boot:
         return r.boot(h.part_of(part), self.flash(lines), device)
 
 
+Kind = Union[Play, Boot]
+
+
 def in_folder(name: str) -> str:
     """The path of a file in the folder of the runs."""
     return os.path.join(FOLDER, name)
@@ -74,7 +81,8 @@ def in_folder(name: str) -> str:
 def ran(form: str, part: str, names: list[str]) -> Written:
     """What x7 writes, and its status."""
     x7.write_file(in_folder("part"), part)
-    done = subprocess.run([X7, form, "part", *names], cwd=FOLDER, stdout=subprocess.PIPE, stderr=subprocess.PIPE)
+    assert X7, "without x7 nothing is run"
+    done = subprocess.run([X7, form, "part", *names], cwd=FOLDER, capture_output=True, check=False)
     return done.stdout.decode() + done.stderr.decode(), done.returncode
 
 
@@ -85,8 +93,8 @@ def differs(kind: Kind, part: str, pieces: list[h.Piece]) -> str | None:
     if (came, status) == (wanted, wanted_status):
         return None
     both = zip([*came.splitlines(), "no more"], [*wanted.splitlines(), "no more"])
-    difference = next((f"x7 '{one[:200]}', plainly '{other[:200]}'" for one, other in both if one != other), "only the status")
-    return f"{difference}, status {status} and {wanted_status}"
+    lines_that_differ = (f"x7 '{one[:200]}', plainly '{other[:200]}'" for one, other in both if one != other)
+    return f"{next(lines_that_differ, 'only the status')}, status {status} and {wanted_status}"
 
 
 def fewest(kind: Kind, part: str, pieces: list[h.Piece]) -> list[h.Piece]:
@@ -107,8 +115,8 @@ def fewest(kind: Kind, part: str, pieces: list[h.Piece]) -> list[h.Piece]:
 
 def is_alike(seed: int) -> bool:
     """Whether the device without frames comes to the same, where no fault of frames ends it."""
-    part, pieces = h.play_history(seed)
-    data, part = b"".join(h.streams_of(h.lines_of(pieces))), h.part_of(part)
+    text, pieces = h.play_history(seed)
+    data, part = b"".join(h.streams_of(h.lines_of(pieces))), h.part_of(text)
     whole, bare = r.PartDevice(part).play(data), Device(part.idcode, part.lock, part.match).play(data)
     left = [(it.taken, it.end, it.phase, it.gts, it.gwe, it.ghigh, it.registers) for it in (whole, bare)]
     return whole.end[1:2] in FRAME_FAULTS or left[0] == left[1]
@@ -121,7 +129,8 @@ def compare(kind: Kind, seed: int) -> None:
     if difference and tally.failed < SHOWN:
         pieces = fewest(kind, part, pieces)
         pieces = fewest(kind, part, [[line] for line in h.lines_of(pieces)])
-        difference = "\n".join([differs(kind, part, pieces), "# the part file", part, "# the assembly text", *h.lines_of(pieces)])
+        first = differs(kind, part, pieces) or ""
+        difference = "\n".join([first, "# the part file", part, "# the assembly text", *h.lines_of(pieces)])
     tally.check(f"{kind.name} of seed {seed}", not difference, difference or "")
 
 
@@ -243,7 +252,7 @@ class AsksTooLate(r.PartDevice):
     """Asks for a matched device only where frame data are taken."""
 
     def frame_data(self, data: bytes, step: x7.Step) -> None:
-        if self.matched or step.register == x7.MFWR or self.command == r.WCFG:
+        if self.matched or step.register == x7.MFWR or self.command == WCFG:
             super().frame_data(data, step)
         else:
             self.check.write(data, step)
@@ -263,12 +272,16 @@ class ForgetsTheAttempt(r.PartDevice):
         super().__init__(part, start._replace(before=0))
 
 
-WRONG = [
-    (Play(), with_frames(it)) for it in (HoldsNoFrame, HasNoPads, HasNoPadFrame, KeepsTheSource, MovesAtCopies)
-] + [
-    (Play(), it) for it in (
-        RunsOverFar, IgnoresMask, StartsAtOnce, ForgetsNoShutdown, FoldsLout, CountsOneByteMore, ForgetsTheCheck, AsksTooLate)
-] + [(Boot(), it) for it in (ObeysIprog, ForgetsTheAttempt)]
+WRONG_FRAMES = (HoldsNoFrame, HasNoPads, HasNoPadFrame, KeepsTheSource, MovesAtCopies)
+WRONG_PLAYS = (
+    RunsOverFar, IgnoresMask, StartsAtOnce, ForgetsNoShutdown, FoldsLout, CountsOneByteMore, ForgetsTheCheck,
+    AsksTooLate,
+)
+WRONG_BOOTS = (ObeysIprog, ForgetsTheAttempt)
+WRONG: list[tuple[Kind, type[r.PartDevice]]] = [
+    *((Play(), with_frames(it)) for it in WRONG_FRAMES), *((Play(), it) for it in WRONG_PLAYS),
+    *((Boot(), it) for it in WRONG_BOOTS),
+]
 
 
 def is_seen(kind: Kind, device: type[r.PartDevice]) -> bool:
@@ -287,7 +300,8 @@ def main(words: list[str]) -> None:
     if len(words) > 2 or not all(it.isdecimal() for it in words):
         sys.exit("usage: test_histories.py [COUNT [SEED]]")
     count, first = [int(it) for it in words + [str(COUNT), "1"][len(words) :]]
-    for kind, number in ((Play(), count), (Boot(), count // 2)):
+    kinds: list[tuple[Kind, int]] = [(Play(), count), (Boot(), count // 2)]
+    for kind, number in kinds:
         for seed in range(first, first + number):
             if X7:
                 compare(kind, seed)

@@ -10,10 +10,33 @@ import functools
 import glob
 import os
 import re
+from typing import Collection, Iterator, Mapping, NamedTuple
 
 from casefiles import TOP, Tally, text_of, tool_names
 
 CRATES = os.path.join(TOP, "crates")
+# Pages whose commands are followed, and those whose links are.
+FOLLOWED = ("BOARD.md", "FLOWS.md", "FIELD.md")
+LINKED = ("docs/*.md", "bench/*.md", "tools/*.md", "examples/*.md", "crates/*/README.md", "crates/*/data/*.md")
+# The files of a crate, by the folder and the ending.
+SOURCES, DEFINITIONS, PROOFS = ("src", ".rt"), ("specs", ".antt"), ("proofs", ".antt")
+
+
+class Clause(NamedTuple):
+    """A clause of a crate's code, or a function of it."""
+
+    owner: str  # the type or the trait that it is of, or none
+    function: str  # the function that it is of, or none
+    name: str  # its own, none where it is the function
+    text: str
+
+
+class Definition(NamedTuple):
+    """A definition of a crate."""
+
+    name: str
+    words: set[str]  # the words of it
+    bodies: list[str]  # the names with which its bodies begin
 
 
 def crates() -> list[str]:
@@ -29,8 +52,9 @@ def cells(line: str) -> list[str]:
 
 def map_rows() -> dict[str, tuple[str, str]]:
     """MAP's table of the crates: for each the text of its modules and that of its definitions."""
-    rows, crate = {}, ""
-    for row in (cells(line) for line in text_of("docs", "MAP.md").partition("\n## The crates\n")[2].partition("\n## ")[0].splitlines()):
+    rows: dict[str, tuple[str, str]] = {}
+    crate, table = "", text_of("docs", "MAP.md").partition("\n## The crates\n")[2].partition("\n## ")[0]
+    for row in (cells(line) for line in table.splitlines()):
         if len(row) == 3 and row[0] != "Crate":
             crate = row[0] or crate
             one, other = rows.get(crate, ("", ""))
@@ -65,8 +89,8 @@ def check_map(tally: Tally) -> None:
         ):
             named = re.findall(r"`([A-Za-z_/0-9]+)`", text)
             for path in sorted(paths - roots):
-                is_named = any(is_one_of(it, {path}) for it in named)
-                tally.check(f"{crate}: MAP names its {what} {path}", is_named or lists_others(path, paths), sorted(named))
+                is_named = any(is_one_of(it, {path}) for it in named) or lists_others(path, paths)
+                tally.check(f"{crate}: MAP names its {what} {path}", is_named, sorted(named))
             if what == "specs file":
                 lost = [it for it in named if it[0].isupper() and not is_one_of(it, paths)]
                 tally.same(f"{crate}: the specs files that MAP names and that aren't there", lost, [])
@@ -82,7 +106,7 @@ def anchors_of(path: str) -> set[str]:
 def check_links(tally: Tally) -> None:
     """A link to a file of the tree leads to one, and one to a place in a page to a heading of it."""
     pages = [os.path.join(TOP, it) for it in ("README.md", "CHANGELOG.md")]
-    for pattern in ("docs/*.md", "bench/*.md", "tools/*.md", "examples/*.md", "crates/*/README.md", "crates/*/data/*.md"):
+    for pattern in LINKED:
         pages += glob.glob(os.path.join(TOP, pattern))
     for page in sorted(pages):
         text = text_of(page)
@@ -94,10 +118,10 @@ def check_links(tally: Tally) -> None:
 
 
 def check_pipes(tally: Tally) -> None:
-    """No page's command has x7 write to `head`, or another that may leave before the end: whether that is a write fault is
-    chance."""
+    """No page's command has x7 write to `head`, or another that may leave before the end: whether that is a write fault
+    is chance."""
     leaves = r"(?:head|true|grep -\w*[qm]|sed (?:-\w+ )*\S*q\b)"
-    for page in ("BOARD.md", "FLOWS.md", "FIELD.md"):
+    for page in FOLLOWED:
         found = re.findall(rf"^ *\$ .*\bx7 [^|\n]*\| *{leaves}.*", text_of("crates", "x7_cases", "data", page), re.M)
         tally.same(f"{page}: commands whose reader may leave", found, [])
 
@@ -114,11 +138,12 @@ def check_readme(tally: Tally) -> None:
 @functools.lru_cache(maxsize=None)
 def says(crate: str) -> set[str]:
     """The names of clauses, fields, functions and definitions that a crate's code and definitions have."""
-    found = set()
-    for part, ending in (("src", ".rt"), ("specs", ".antt")):
+    found: set[str] = set()
+    items = r"\b(?:ensures|requires|fn|ghost|struct|enum|trait|const|static|type|mod) (\w+)"
+    for part, ending in (SOURCES, DEFINITIONS):
         for path in names_in(f"{crate}/{part}", ending):
             text = text_of("crates", crate, part, path + ending)
-            found.update(re.findall(r"\b(?:ensures|requires|fn|ghost|struct|enum|trait|const|static|type|mod) (\w+)", text))
+            found.update(re.findall(items, text))
             found.update(re.findall(r"^\s*(?:pub |abbrev |unfoldable |record |data )*([\w-]+)\b.* : ", text, re.M))
             found.update(re.findall(r"\b(?:record|data) (\w+)", text))
             found.add(path.rpartition("/")[2])
@@ -136,7 +161,8 @@ def check_tools(tally: Tally) -> None:
     for name in tool_names():
         row = " ".join(it for it in forms if re.match(rf"`{name}\b", it))
         tally.check(f"the README of tools/ has {name}", row, forms)
-        tally.same(f"the options of {name}", options_of(row), options_of(ast.get_docstring(ast.parse(text_of("tools", name)))))
+        document = ast.get_docstring(ast.parse(text_of("tools", name))) or ""
+        tally.same(f"the options of {name}", options_of(row), options_of(document))
 
 
 @functools.lru_cache(maxsize=None)
@@ -170,9 +196,9 @@ def clauses_of(crate: str) -> Iterator[Clause]:
                 owner, function = found[1], ""
             elif found[2]:
                 owner, function = owner if found[0].startswith(" ") else "", found[2]
-                yield owner, function, "", ""
+                yield Clause(owner, function, "", "")
             else:
-                yield owner, function, found[3], text[found.end() : clause_end(text, found.end() - 1)]
+                yield Clause(owner, function, found[3], text[found.end() : clause_end(text, found.end() - 1)])
 
 
 @functools.lru_cache(maxsize=None)
@@ -184,14 +210,15 @@ def definitions_in(crate: str) -> list[Definition]:
         for it in re.split(r"^(?:pub |abbrev |unfoldable |record |data )+", text, flags=re.M)[1:]:
             name = it.split(maxsplit=1)[0]
             bodies = [first for whose, first in re.findall(r"^(\S+) (?:.* )?=\s+(\w+)", it, re.M) if whose == name]
-            found.append((name, set(re.findall(r"\w+", it)), bodies))
+            found.append(Definition(name, set(re.findall(r"\w+", it)), bodies))
     return found
 
 
 def definitions_of(crate: str) -> dict[str, set[str]]:
     """The words of each definition of a crate or of one below it, by its name; of one whose body begins with another's
     name, as an abbreviation of a record, the words of that too."""
-    found, bodies = {}, {}
+    found: dict[str, set[str]] = {}
+    bodies: dict[str, list[str]] = {}
     for name, words, firsts in (definition for it in crates_below()[crate] for definition in definitions_in(it)):
         found[name] = found.get(name, set()) | words
         bodies.setdefault(name, []).extend(firsts)
@@ -199,9 +226,11 @@ def definitions_of(crate: str) -> dict[str, set[str]]:
 
 
 def named_parts(crate: str) -> dict[str, set[str]]:
-    """What may be named of each function, type, clause and definition of a crate: of a clause what it cites, and what the
-    first definition there does that is no binder's, such as the fields of a record; of a function its clauses, and what
-    is of them; of a type or a trait its functions, and what is of them; of a definition what it cites."""
+    """What may be named of each function, type, clause and definition of a crate.
+
+    Of a clause it is what it cites, and what the first definition there does that is no binder's, such as the fields of
+    a record; of a function its clauses, and what is of them; of a type or a trait its functions, and what is of them;
+    of a definition what it cites."""
     known = definitions_of(crate)
     found = {name: set(words) for name, words in known.items()}
     for owner, function, name, text in clauses_of(crate):
@@ -235,16 +264,19 @@ def check_claims(tally: Tally, page: str, crate: str, text: str, parts: Mapping[
 
 
 def check_names(tally: Tally, page: str, crate: str, text: str, parts: Mapping[str, dict[str, set[str]]]) -> None:
-    """Each name of a text in backquotes is one of a crate's, or of one below it; `TYPE::FUNCTION` is a function of it."""
-    near = [parts[it] for it in crates_below()[crate]]
-    known = set().union(*near, *(says(it) for it in crates_below()[crate]))
+    """Each name of a text in backquotes is one of a crate's, or of one below it; `TYPE::FUNCTION` is a function of
+    it."""
+    known: set[str] = set()
+    for it in crates_below()[crate]:
+        known.update(parts[it], says(it))
     for name in re.findall(r"`(\w+(?:::\w+)?)`", text):
         tally.check(f"{page}: {crate} has {name}", name in known or re.fullmatch(r"\d+", name), text)
 
 
 def check_clauses(tally: Tally) -> None:
-    """The clauses, fields and definitions that the pages name: those of README's table and of PROOFS are of the crate of
-    their row, and those of a crate's README of that, or of one below it. `specs/NAME` is a file of the crate."""
+    """The clauses, fields and definitions that the pages name are there. Those of README's table and of PROOFS are of
+    the crate of their row, and those of a crate's README of that, or of one below it. `specs/NAME` is a file of the
+    crate."""
     parts = {crate: named_parts(crate) for crate in crates()}
     for crate in crates():
         if crate == "x7":
@@ -253,7 +285,8 @@ def check_clauses(tally: Tally) -> None:
         check_claims(tally, f"the README of {crate}", crate, text, parts)
         for name in re.findall(r"`specs/([A-Za-z/]+)(?:\.antt)?`", text):
             path = os.path.join(CRATES, crate, "specs", name)
-            tally.check(f"{crate}: its README's specs/{name}", os.path.isfile(f"{path}.antt") or os.path.isdir(path), name)
+            is_there = os.path.isfile(f"{path}.antt") or os.path.isdir(path)
+            tally.check(f"{crate}: its README's specs/{name}", is_there, name)
     table = text_of("README.md").partition("## What is proved, crate by crate")[2]
     rows = re.findall(r"^\| \[(x7\w*)\][^|]*\|[^|]*\|([^|]*)\|", table, re.M)
     pages = [("README", crate, text) for crate, text in rows]
@@ -270,8 +303,9 @@ def check_libraries(tally: Tally) -> None:
     """Each library that crates.txt names for a crate is cited by its code, its definitions or its proofs."""
     for line in text_of("crates.txt").splitlines():
         crate, _, libraries = line.partition("#")[0].partition(":")
-        paths = [f"{crate}/{part}/{it}{ending}" for part, ending in (("src", ".rt"), ("specs", ".antt"), ("proofs", ".antt"))
-                 for it in names_in(f"{crate}/{part}", ending)]
+        paths: list[str] = []
+        for part, ending in (SOURCES, DEFINITIONS, PROOFS):
+            paths += [f"{crate}/{part}/{it}{ending}" for it in names_in(f"{crate}/{part}", ending)]
         words = {word for path in paths for word in re.findall(r"\w+", text_of("crates", path))}
         for library in libraries.split():
             tally.check(f"{crate} cites {library}", library in words, f"no file of crates/{crate} names it")
@@ -279,16 +313,17 @@ def check_libraries(tally: Tally) -> None:
 
 def check_lemmas(tally: Tally) -> None:
     """Each file of lemmas that a crate gives out is cited by another crate."""
-    cited = set()
+    cited: set[tuple[str, str]] = set()
     for crate in crates():
-        for part, ending in (("src", ".rt"), ("specs", ".antt"), ("proofs", ".antt")):
+        for part, ending in (SOURCES, DEFINITIONS, PROOFS):
             for it in names_in(f"{crate}/{part}", ending):
                 found = re.findall(r"Rattle\.(\w+)\.proofs\.(\w+)", text_of("crates", crate, part, it + ending))
                 cited |= {name for name in found if name[0] != crate}
     for crate in crates():
         if os.path.exists(os.path.join(CRATES, crate, "proofs", "Lib.antt")):
             for module in re.findall(r"^pub mod (\w+)", text_of("crates", crate, "proofs", "Lib.antt"), re.M):
-                tally.check(f"lemmas of {crate}: {module}", (crate, module) in cited, "no other crate cites it: 'mod' is enough")
+                is_cited = (crate, module) in cited
+                tally.check(f"lemmas of {crate}: {module}", is_cited, "no other crate cites it: 'mod' is enough")
 
 
 tally = Tally()

@@ -29,7 +29,8 @@ def documents(bench: Bench, lines: list[str], version: str) -> None:
     page = text_of("docs", "x7.1")
     shown = re.findall(r"x7 ((?:--)?[a-z]+)", " ".join(it for it in lines if re.match("(usage:|      ) x7 ", it)))
     for word in shown:
-        bench.tally.check(f"the man page has {word}", re.search(rf"x7 {re.escape(word)}\b", page.replace("\\-", "-")), word)
+        is_there = re.search(rf"x7 {re.escape(word)}\b", page.replace("\\-", "-"))
+        bench.tally.check(f"the man page has {word}", is_there, word)
     bench.tally.check("the forms", len(shown) == 16, shown)
     bench.tally.check("the man page's version", f'"{version}"' in page.split("\n")[0], page.split("\n")[0])
     bench.tally.check("CHANGELOG's version", f"## {version.split(' ')[-1]}" in text_of("CHANGELOG.md"), version)
