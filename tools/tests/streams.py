@@ -78,6 +78,14 @@ def compressed() -> list[str]:
     return lines + end()
 
 
+def debug() -> list[str]:
+    """The lines of a debug stream: each frame alone, a check, and its address to LOUT."""
+    lines = [*beginning(), "write LOUT 4", *data_lines([0] * 4), *written("FAR", "00000000"), *order("WCFG")]
+    for number, far in enumerate(part().addresses()):
+        lines += [f"write FDRI {x7.FRAME_WORDS}", *data_lines(frame(number)), "crc", *written("LOUT", f"{far:08X}")]
+    return lines + end()
+
+
 def partial() -> list[str]:
     """The lines of a partial stream: one frame."""
     lines = HEAD + order("RCRC") + written("IDCODE", f"{IDCODE:08X}") + command("WCFG") + written("FAR", "00000001")

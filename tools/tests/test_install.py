@@ -45,6 +45,10 @@ with tempfile.TemporaryDirectory() as folder:
         os.environ["PATH"] = os.path.join(folder, "there", "bin") + os.pathsep + os.environ["PATH"]
         del os.environ["X7"]
         files = [os.path.join(EXAMPLES, it) for it in ("tiny.part", "first.bin")]
+        came = run(folder, ["x7-part", "--shelf", "xc7a35t"])
+        shelf = os.path.join(folder, "there", "share", "x7", "parts")
+        tally.same("an installed tool finds the shelf", came.out.decode(), os.path.join(shelf, "xc7a35t.part") + "\n")
+        tally.same("the shelf is put", sorted(os.listdir(shelf)), sorted(it for it in os.listdir(os.path.join(TOP, "parts")) if it.endswith(".part")))
         came = run(folder, ["x7-turn", "--help"])
         tally.check("an installed tool calls itself by its name", b"x7-turn FILE > STREAM" in came.out and b"tools/" not in came.out, came)
         with open(os.path.join(folder, "swapped"), "wb") as file:

@@ -86,6 +86,8 @@ def good():
     tally.check("no guess", err.endswith("; no column is a guess\n"), err)
     made("a raw file", in_file(s.data_of(SMALL), "small.bin"))
     made("a listing", in_file("".join(f"{it}\n" for it in x7.listing_of(x7.stream_of(raw))), "small.list"), "mine")
+    err = made("a debug stream", in_file(s.bit(s.debug()), "debug.bit"))
+    tally.check("no guess of a debug stream", err.endswith("; no column is a guess\n"), err)
     made("part.json", in_file(json.dumps(regions()), "part.json"))
     made("part.json, a name", in_file(json.dumps(regions(), indent=2), "part.json"), "mine")
     made("part.yaml", in_file(yaml_regions(), "part.yaml"))
@@ -102,6 +104,11 @@ def made_without(far):
     return called("part", in_file(s.bit([*SMALL[: at - 1], *SMALL[at + 3 :]]), "guess.bit"), os.path.join(FOLDER, "guess.part"))[2]
 
 
+def without_lout(lines):
+    """Lines without the addresses of frames in LOUT."""
+    return [line for line, before in zip(lines, ["", *lines]) if "write LOUT 1" not in (line, before)]
+
+
 def bad():
     """Files that give none, and what is said of each."""
     raw, data = s.bit(SMALL), s.data_of(SMALL)
@@ -115,6 +122,7 @@ def bad():
     refused("a bit of a frame", raw[: header + 400] + bytes([raw[header + 400] ^ 1]) + raw[header + 401 :], "a check fails: .*, at byte")
     refused("a text transfer", s.header(len(data)) + data.replace(b"\n", b"\r\n"), "its header tells of")
     refused("an uncompressed stream", s.bit(FULL), "all frames stand in one run")
+    refused("a debug stream without addresses", s.data_of(without_lout(s.debug())), "neither FAR nor LOUT")
     refused("a Spartan-6 by its header", s.bit(SMALL, "6slx9tqg144"), "of the family Spartan-6, and for no 7-series device")
     refused("no frames", s.data_of(s.HEAD + s.command("RCRC") + s.command("DESYNC")), "writes no IDCODE, or no frames")
     refused("no sync word", b"\xff" * 4000, "no sync word")
