@@ -8,6 +8,7 @@ import x7formats as x7
 from x7asked import Asked
 from x7partfile import MOST_MINORS, Row, fields_of_far
 from x7parts import DEVICE_BITS, family_of, idcode_of_name
+from x7run import CALLED, Refused, read_file, sign
 
 NOT_COMPRESSED = (
     "the stream isn't compressed, and names no columns (write it with BITSTREAM.GENERAL.COMPRESS TRUE, or take the "
@@ -40,30 +41,31 @@ class Rows(NamedTuple):
 
 def stream_in(path: str) -> x7.Stream:
     """The stream in a file, or the one of a listing."""
-    raw = x7.read_file(path)
-    return x7.read_listing(path) if x7.is_listing(raw) else x7.stream_named(path, raw)
+    raw = read_file(path)
+    found: x7.Stream = x7.read_listing(path) if x7.is_listing(raw) else x7.stream_named(path, raw)
+    return found
 
 
 def check_stream(path: str, stream: x7.Stream) -> None:
     """Refuses a stream that isn't whole, or is another family's by its header; warns of another family's IDCODE, and
     where there is no check."""
     part = x7.text_of(stream.header.part) if stream.header else ""
-    if family_of(part):
-        raise x7.Refused(
-            f"{path}: by its header it is for the part {part}, of the family {family_of(part)}, and for no 7-series device"
-        )
+    family = family_of(part)
+    if family:
+        why = f"by its header it is for the part {part}, of the family {family}, and for no 7-series device"
+        raise Refused(f"{path}: {why}")
     asked = Asked(stream)
     if asked.why_not_whole():
-        raise x7.Refused(f"{path}: {asked.why_not_whole()} ({x7.CALLED}why says more)")
+        raise Refused(f"{path}: {asked.why_not_whole()} ({CALLED}why says more)")
     if "IPROG" in asked.commands:
-        raise x7.Refused(f"{path} leads on to another place of a flash (IPROG), and its frames aren't all there")
+        raise Refused(f"{path} leads on to another place of a flash (IPROG), and its frames aren't all there")
     if asked.why_foreign():
-        x7.say(
-            f"part: warning: {asked.why_foreign()}: other families have other frames and addresses, and what is played "
+        sign(
+            f"warning: {asked.why_foreign()}: other families have other frames and addresses, and what is played "
             "on this part says nothing of the device"
         )
     if not asked.device.checked:
-        x7.say(f"part: warning: {path} has no check, so nothing says that it is whole")
+        sign(f"warning: {path} has no check, so nothing says that it is whole")
 
 
 class FrameRuns:
@@ -113,7 +115,7 @@ def runs_of(data: bytes) -> FrameRuns:
         if step.kind == "write" and step.present:
             found.take(data, step)
     if found.nameless:
-        raise x7.Refused(
+        raise Refused(
             "runs of frame data follow one another, and neither FAR nor LOUT (as in a debug stream) names their address"
         )
     return found
@@ -125,7 +127,7 @@ def columns_of(runs: Iterable[Tuple[int, int]]) -> Columns:
     for far, count in runs:
         block, half, row, column, minor = fields_of_far(far)
         if minor + count > MOST_MINORS:
-            raise x7.Refused(f"a run of {count} frames from {far:08X} crosses columns: {NOT_COMPRESSED}")
+            raise Refused(f"a run of {count} frames from {far:08X} crosses columns: {NOT_COMPRESSED}")
         minors = rows.setdefault((block, half, row), {}).setdefault(column, set())
         minors.update(range(minor, minor + count))
     return rows
@@ -137,16 +139,17 @@ def named_by(path: str) -> Named:
     check_stream(path, stream)
     found = runs_of(stream.data)
     if found.idcode is None or not found.runs:
-        raise x7.Refused(
-            f"{path} writes no IDCODE, or no frames: it is no stream of a 7-series device (one of words of 16 bits isn't)",
+        raise Refused(
+            f"{path} writes no IDCODE, or no frames: it is no stream of a 7-series device (one of words of 16 bits "
+            "isn't)"
         )
     if len(found.runs) == 1:
-        raise x7.Refused(f"{path}: all frames stand in one run: {NOT_COMPRESSED}")
+        raise Refused(f"{path}: all frames stand in one run: {NOT_COMPRESSED}")
     part = x7.text_of(stream.header.part) if stream.header else None
     if part and idcode_of_name(part) not in (None, found.idcode & DEVICE_BITS):
-        raise x7.Refused(
+        raise Refused(
             f"{path}: its header names a {part}, and it writes {found.idcode:08X}, the IDCODE of another device "
-            f"({x7.CALLED}why says more)",
+            f"({CALLED}why says more)",
         )
     return Named(part, found.idcode, columns_of(found.runs))
 
@@ -184,15 +187,14 @@ def merged(several: Iterable[Columns]) -> Columns:
 
 def word_count(rows: List[Row]) -> int:
     """The words of frame data in an uncompressed stream: those of all frames, and of two pads after each row."""
-    return (sum(sum(row.minors) for row in rows) + 2 * len(rows)) * x7.FRAME_WORDS
+    total = sum(sum(row.minors) for row in rows) + 2 * len(rows)
+    return total * x7.FRAME_WORDS
 
 
 def found_line(rows: List[Row]) -> str:
     """What was found as a line."""
     total = sum(sum(row.minors) for row in rows)
-    return (
-        f"{len(rows)} rows, {total} frames; an uncompressed stream of the device has `write2 {word_count(rows)}`"
-    )
+    return f"{len(rows)} rows, {total} frames; an uncompressed stream of the device has `write2 {word_count(rows)}`"
 
 
 def part_text(head: List[str], name: str, idcode: int, found: Rows) -> str:

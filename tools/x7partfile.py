@@ -1,42 +1,64 @@
 """Part files (docs/PARTS.md, what a part file says): their reader, what x7 refuses of them, and a part with its frame
 addresses and slots. python3 (3.8) and its library alone."""
-import re
-from collections import namedtuple
+from __future__ import annotations
 
-from x7formats import FRAME_WORDS, Refused, read_file
+import re
+from typing import Any, Dict, NamedTuple, Sequence
+
+from x7formats import FRAME_WORDS
+from x7run import Refused, read_file
 
 TOKEN = re.compile(r"""(?:\s|\#[^\n]*)*("(?:[^"\\\n]|\\.)*"|'[^'\n]*'|\[\[|\]\]|[\[\]{},=]|[A-Za-z0-9_+.\-]+|\Z)""")
 ROW_KEYS = {"block": (0, 2), "half": (0, 1), "row": (0, 31)}
 PART_KEYS = {"idcode": (1, 0xFFFFFFFF), "mode": (0, 7), "bus_width": (0, 3), "lock": (0, 65535), "match": (0, 65535)}
-# The bits of minor, column, row, half and block type in FAR of every 7-series device (UG470, frame address register), and
-# how few and how many x7 takes.
+# The bits of minor, column, row, half and block type in FAR of every 7-series device (UG470, frame address register),
+# and how few and how many x7 takes.
 FAR_BITS = [7, 10, 5, 1, 3]
 FAR_WIDTHS = [(7, 12), (10, 12), (5, 8), (1, 1), (2, 3)]
 MOST_FRAMES, MOST_WORDS, MOST_MINORS, MOST_COLUMNS, MOST_ROWS = 131072, 13277056, 128, 1024, 192
-Row = namedtuple("Row", "block half row minors")
+# The keys of a part file, or of one of its rows, with their values.
+Table = Dict[str, Any]
+
+
+class Row(NamedTuple):
+    """A row of one block type of a device."""
+
+    # the block type: 0 logic and interconnect, 1 contents of block memory, 2 CFG_CLB
+    block: int
+    # the half: 0 top, 1 bottom
+    half: int
+    # its number, from the middle of the device outwards
+    row: int
+    # how many frames each column has, from column 0 on
+    minors: list[int]
 
 
 class Toml:
     """A reader of the TOML that part files use: keys, whole numbers, texts, lists, and tables `[[row]]`."""
 
-    def __init__(self, text):
+    def __init__(self, text: str) -> None:
+        # the whole text, where its next token begins, and the present one
         self.text, self.at, self.token = text, 0, ""
         self.next()
 
-    def next(self):
+    def next(self) -> str:
         """Takes the present token and moves to the next one."""
         taken, found = self.token, TOKEN.match(self.text, self.at)
         if not found:
-            raise Refused(f"line {self.text.count(chr(10), 0, self.at) + 1} is no TOML that a part file has")
+            raise Refused(f"line {self.line()} is no TOML that a part file has")
         self.token, self.at = found[1], found.end()
         return taken
 
-    def want(self, token):
+    def line(self) -> int:
+        """The number of the line that the next token stands on, from 1."""
+        return self.text.count("\n", 0, self.at) + 1
+
+    def want(self, token: str) -> None:
         """Takes this token, or refuses the text."""
         if self.next() != token:
-            raise Refused(f"line {self.text.count(chr(10), 0, self.at) + 1} lacks '{token}', or has it elsewhere")
+            raise Refused(f"line {self.line()} lacks '{token}', or has it elsewhere")
 
-    def value(self):
+    def value(self) -> Any:
         """Takes a value: a text, a list, a table or a number."""
         token = self.next()
         if token[:1] in ("'", '"') and token:
@@ -51,9 +73,9 @@ class Toml:
         except ValueError:
             raise Refused(f"'{token}' is no value that a part file has") from None
 
-    def several(self, end):
+    def several(self, end: str) -> list[Any]:
         """The values up to a bracket, or the pairs up to a brace."""
-        found = []
+        found: list[Any] = []
         while self.token != end:
             found.append(self.pair() if end == "}" else self.value())
             if self.token != end:
@@ -61,15 +83,16 @@ class Toml:
         self.next()
         return found
 
-    def pair(self):
+    def pair(self) -> tuple[str, Any]:
         """Takes a key and its value."""
         key = self.next()
         self.want("=")
         return key, self.value()
 
-    def tables(self):
+    def tables(self) -> Table:
         """The pairs of the top, with those of each `[[row]]` in a list."""
-        top = table = {}
+        top: Table = {}
+        table = top
         while self.token:
             if self.token == "[[":
                 self.next()
@@ -85,49 +108,65 @@ class Toml:
         return top
 
 
-def fields_of_far(far, bits=FAR_BITS):
+def fields_of_far(far: int, bits: Sequence[int] = FAR_BITS) -> tuple[int, int, int, int, int]:
     """Block type, half, row, column and minor of a frame address."""
     found = []
     for width in bits:
         found.append(far & (1 << width) - 1)
         far >>= width
-    return tuple(reversed(found))
+    minor, column, row, half, block = found
+    return block, half, row, column, minor
 
 
 class Part:
-    """A part: its keys, and its rows in the order of their addresses."""
+    """A part, of the keys of its file."""
 
-    def __init__(self, table):
-        self.name, self.idcode = table["name"], table["idcode"]
-        self.mode, self.bus_width = table.get("mode", 0), table.get("bus_width", 0)
-        self.lock, self.match = table.get("lock", 0), table.get("match", 0)
-        self.frame_words, self.start_unit = table.get("frame_words", FRAME_WORDS), table.get("start_unit", 1)
-        self.far = table.get("far", FAR_BITS)
+    def __init__(self, table: Table) -> None:
+        # the name in reports
+        self.name: str = table["name"]
+        # the IDCODE, its version in bits 31:28
+        self.idcode: int = table["idcode"]
+        # the mode pins M2 M1 M0, as STAT shows them
+        self.mode: int = table.get("mode", 0)
+        # the code of the bus width in STAT: 0 x1, 1 x8, 2 x16, 3 x32
+        self.bus_width: int = table.get("bus_width", 0)
+        # ticks of four bytes until the clocks are locked
+        self.lock: int = table.get("lock", 0)
+        # ticks until the impedance is matched
+        self.match: int = table.get("match", 0)
+        # words of a frame
+        self.frame_words: int = table.get("frame_words", FRAME_WORDS)
+        # bytes that one step of the address in WBSTAR stands for: 1 or 256
+        self.start_unit: int = table.get("start_unit", 1)
+        # bits of minor, column, row, half and block type in FAR
+        self.far: list[int] = table.get("far", FAR_BITS)
+        # the rows in the order of their addresses
         self.rows = sorted(Row(it["block"], it["half"], it["row"], it["minors"]) for it in table["row"])
 
-    def address(self, block, half, row, column, minor):
+    def address(self, block: int, half: int, row: int, column: int, minor: int) -> int:
         """The frame address of these."""
         low = self.far
         return (((block << low[3] | half) << low[2] | row) << low[1] | column) << low[0] | minor
 
-    def fields(self, far):
+    def fields(self, far: int) -> tuple[int, int, int, int, int]:
         """Block type, half, row, column and minor of a frame address of the part."""
         return fields_of_far(far, self.far)
 
-    def row_addresses(self, row):
+    def row_addresses(self, row: Row) -> list[int]:
         """The addresses of a row, in number order."""
-        return [self.address(*row[:3], column, minor) for column, minors in enumerate(row.minors) for minor in range(minors)]
+        places = ((column, minor) for column, minors in enumerate(row.minors) for minor in range(minors))
+        return [self.address(row.block, row.half, row.row, column, minor) for column, minor in places]
 
-    def addresses(self):
+    def addresses(self) -> list[int]:
         """All addresses, in number order."""
         return [far for row in self.rows for far in self.row_addresses(row)]
 
-    def slots(self):
+    def slots(self) -> list[int | None]:
         """The slots in the order of writing: an address, or none at the two pads after each row."""
         return [it for row in self.rows for it in [*self.row_addresses(row), None, None]]
 
 
-def check_number(table, key, least, most, where=""):
+def check_number(table: Table, key: str, least: int, most: int, where: str = "") -> None:
     """Refuses a value that is no whole number of a range."""
     if key not in table:
         raise Refused(f"the key {key}{where} is missing")
@@ -135,7 +174,7 @@ def check_number(table, key, least, most, where=""):
         raise Refused(f"{key}{where} is {str(table[key])[:40]!r}, and no whole number from {least} to {most}")
 
 
-def check_list(values, count, least, most, what):
+def check_list(values: Any, count: tuple[int, int], least: int, most: int, what: str) -> None:
     """Refuses what is no list of `count[0]` to `count[1]` whole numbers of a range."""
     if not isinstance(values, list) or not count[0] <= len(values) <= count[1]:
         raise Refused(f"{what} is no list of {count[0]} to {count[1]} whole numbers")
@@ -144,7 +183,7 @@ def check_list(values, count, least, most, what):
             raise Refused(f"{what} has {str(value)[:40]!r}, and no whole number from {least} to {most}")
 
 
-def check_part(table):
+def check_part(table: Table) -> None:
     """Refuses a part that x7 refuses."""
     name = table.get("name")
     if not isinstance(name, str) or not re.fullmatch("[!-~]{1,64}", name):
@@ -160,7 +199,8 @@ def check_part(table):
         raise Refused("start_unit is neither 1 nor 256")
     if "far" in table:
         check_list(table["far"], (5, 5), 1, 12, "far")
-        if sum(table["far"]) > 32 or not all(least <= it <= most for it, (least, most) in zip(table["far"], FAR_WIDTHS)):
+        are_taken = all(least <= it <= most for it, (least, most) in zip(table["far"], FAR_WIDTHS))
+        if sum(table["far"]) > 32 or not are_taken:
             raise Refused("far has a width that x7 doesn't take, or more than 32 bits in all")
     unknown = set(table) - {*PART_KEYS, "name", "far", "frame_words", "start_unit", "row"}
     if unknown:
@@ -168,9 +208,10 @@ def check_part(table):
     check_rows(table.get("row"), table.get("frame_words", FRAME_WORDS))
 
 
-def check_rows(given, frame_words):
+def check_rows(given: Any, frame_words: int) -> None:
     """Refuses rows that x7 refuses."""
-    if not isinstance(given, list) or not 1 <= len(given) <= MOST_ROWS or not all(isinstance(row, dict) for row in given):
+    are_tables = isinstance(given, list) and all(isinstance(row, dict) for row in given)
+    if not are_tables or not 1 <= len(given) <= MOST_ROWS:
         raise Refused(f"there are none, or more than {MOST_ROWS}, tables [[row]]")
     seen, frames = set(), 0
     for number, row in enumerate(given, 1):
@@ -180,10 +221,10 @@ def check_rows(given, frame_words):
         check_list(row.get("minors"), (1, MOST_COLUMNS), 1, MOST_MINORS, f"minors{where}")
         if set(row) - {*ROW_KEYS, "minors"}:
             raise Refused(f"the key {min(set(row) - {*ROW_KEYS, 'minors'})}{where} is none that a row has")
-        key = (row["block"], row["half"], row["row"])
-        if key in seen:
+        place = (row["block"], row["half"], row["row"])
+        if place in seen:
             raise Refused(f"row {number} has the block type, half and row of an earlier one")
-        seen.add(key)
+        seen.add(place)
         frames += sum(row["minors"])
     if frames > MOST_FRAMES:
         raise Refused(f"there are {frames} frames, and x7 takes {MOST_FRAMES} at most")
@@ -191,14 +232,14 @@ def check_rows(given, frame_words):
         raise Refused(f"frames and pads have more than {MOST_WORDS} words")
 
 
-def part_of(text):
+def part_of(text: str) -> Part:
     """The part that the text of a part file says."""
     table = Toml(text).tables()
     check_part(table)
     return Part(table)
 
 
-def read_part(path):
+def read_part(path: str) -> Part:
     """The part that a part file says."""
     try:
         return part_of(read_file(path).decode("utf-8"))

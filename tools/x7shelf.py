@@ -5,9 +5,9 @@ from __future__ import annotations
 import os
 import re
 
-from x7formats import IDCODE, Refused, is_listing, read_file, read_listing, steps, stream_named, word_at
+from x7formats import IDCODE, is_listing, read_listing, steps, stream_named, word_at
 from x7parts import IDCODES, bare, name_of_idcode
-from x7run import CALLED, IS_INSTALLED, TOP
+from x7run import CALLED, IS_INSTALLED, TOP, Refused, read_file
 
 # The folder of the part files: in the repository its `parts`; where the tools were installed, what `./install` makes
 # beside their folder lib/x7.
@@ -51,27 +51,28 @@ def idcode_of(data: bytes) -> int | None:
 
 
 def part_of_data(data: bytes) -> str | None:
-    """The path of the part file of the device whose IDCODE the data of a stream write first; none where they write none,
-    or the shelf lacks it."""
+    """The path of the part file of the device whose IDCODE the data of a stream write first; none where they write
+    none, or the shelf lacks it."""
     idcode = idcode_of(data)
     return None if idcode is None else part_of_idcode(idcode)
 
 
 def part_of_stream(path: str) -> str | None:
-    """The path of the part file for the stream in a file, or in its listing, by the IDCODE that it writes first; none as
-    of its data. A file that can't be read, or whose header is cut, is refused."""
+    """The path of the part file for the stream in a file, or in its listing, by the IDCODE that it writes first; none
+    as of its data. A file that can't be read, or whose header is cut, is refused."""
     raw = read_file(path)
     return part_of_data((read_listing(path) if is_listing(raw) else stream_named(path, raw)).data)
 
 
 def part_file(word: str) -> str:
-    """The path of a part file that a user names: a file, or a device of the shelf. A name that is neither is refused."""
+    """The path of a part file that a user names: a file, or a device of the shelf. Another name is refused."""
     if os.path.exists(word):
         return word
     path = part_of_device(word)
     if path:
         return path
-    raise Refused(f"{word}: there is no such file, and no device of the shelf has that name ({CALLED}part --shelf names all)")
+    why = "there is no such file, and no device of the shelf has that name"
+    raise Refused(f"{word}: {why} ({CALLED}part --shelf names all)")
 
 
 def path_of(device: str) -> str | None:

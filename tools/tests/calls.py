@@ -32,8 +32,8 @@ def tool(name: str) -> ModuleType:
 
 def called(name: str, *words: str) -> tuple[int, bytes, str]:
     """The status, the output as bytes, and the lines on standard error of a tool that is called with these words."""
-    written, err, kept = io.BytesIO(), io.StringIO(), (sys.stdout, sys.stderr)
-    sys.stdout, sys.stderr = io.TextIOWrapper(written), err
+    written, err, kept = io.BytesIO(), io.StringIO(), (sys.stdout, sys.stderr, sys.argv)
+    sys.stdout, sys.stderr, sys.argv = io.TextIOWrapper(written), err, [os.path.join(TOOLS, name), *words]
     try:
         status = tool(name).main(list(words)) or 0
     except x7.Refused as refused:
@@ -45,7 +45,7 @@ def called(name: str, *words: str) -> tuple[int, bytes, str]:
     finally:
         sys.stdout.flush()
         data = written.getvalue()
-        sys.stdout, sys.stderr = kept
+        sys.stdout, sys.stderr, sys.argv = kept
     return status, data, err.getvalue()
 
 

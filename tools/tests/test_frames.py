@@ -184,6 +184,76 @@ def others(bench):
     bench.refuses("frames", "vendor", "vendor", what="no stream of")
 
 
+def at_bit(frame, word, bit):
+    """A frame with a bit of a word turned."""
+    return (int.from_bytes(frame, "big") ^ 1 << 32 * (100 - word) + bit).to_bytes(404, "big")
+
+
+def stream_of_frames(idcode, frames):
+    """A stream that writes these frames, each with a pad."""
+    packets = [x7.write_packet(x7.FAR, [int(far, 16)]) + x7.write_packet(x7.FDRI, [*x7.words_of(frame), *[0] * 101]) for far, frame in frames.items()]
+    packets = [command("RCRC"), x7.write_packet(x7.IDCODE, [idcode]), command("WCFG"), *packets, command("DESYNC")]
+    return x7.SYNC + b"".join(packets)
+
+
+def streams(bench):
+    """Streams in place of reports, on a part that is named, or on the shelf's; and what differs, bit by bit."""
+    same, tool = bench.tally.same, bench.tool
+    one = {"00000000": frame_of(1), "00000080": frame_of(2), "00400001": frame_of(3)}
+    other = {"00000000": at_bit(at_bit(one["00000000"], 45, 12), 45, 31), "00000080": one["00000080"], "00000101": at_bit(bytes(404), 100, 0)}
+    gone = [f"00400001 word {word} bit {bit} 1 0" for word, value in enumerate(x7.words_of(one["00400001"])) for bit in range(32) if value >> bit & 1]
+    was = [x7.words_of(one["00000000"])[45] >> bit & 1 for bit in (12, 31)]
+    bits = [f"00000000 word 45 bit 12 {was[0]} {1 - was[0]}", f"00000000 word 45 bit 31 {was[1]} {1 - was[1]}", "00000101 word 100 bit 0 0 1", *gone]
+    differs = {"00000000": other["00000000"], "00000101": other["00000101"], "00400001": bytes(404)}
+    for name, frames in (("a", one), ("b", other)):
+        bench.put(f"{name}.bin", stream_of_frames(0x0362D093, frames))
+        bench.put(f"{name}.report", report_of(frames, "xc7a35t"))
+    for part in ([], ["--part", "xc7a35t"], ["--part=7a35tcpg236-1"]):
+        same(f"of a stream {part}", lines_of(tool("frames", *part, "of", "a.bin")), text_of_frames(one).splitlines())
+        same(f"differ of streams {part}", lines_of(tool("frames", "differ", *part, "a.bin", "b.bin")), text_of_frames(differs).splitlines())
+        same(f"bits of streams {part}", lines_of(tool("frames", "differ", "a.bin", "b.bin", "--bits", *part)), bits)
+    same("bits of reports", lines_of(tool("frames", "differ", "--bits", "a.report", "b.report")), bits)
+    same("bits of a report and a stream", lines_of(tool("frames", "differ", "--bits", "a.report", "b.bin")), bits)
+    came = tool("frames", "differ", "--bits", "a.bin", "a.bin")
+    same("bits of the same", (came.status, came.out), (0, b"# 0 bits in 0 frames of the part xc7a35t differ\n"))
+    bench.put("a50.bin", stream_of_frames(0x0362C093, one))
+    bench.refuses("frames", "differ", "--bits", "a.bin", "a50.bin", what="different parts, xc7a35t and xc7a50t")
+    bench.refuses("frames", "differ", "--bits", "a.bin", "a50.bin", "--part", "xc7a35t", what="IDCODE 0362C093, and the part xc7a35t")
+    bench.put("zynq.bin", stream_of_frames(0x03727093, one))
+    bench.refuses("frames", "of", "zynq.bin", what="is for the IDCODE 03727093, of which the shelf has no part file: give one by --part")
+    bench.refuses("frames", "of", "a.bin", "--part", "xc7z020", what="xc7z020: there is no such file, and no device of the shelf")
+    came = tool("frames", "touch", "a.bin", "half=0")
+    same("touch on the shelf", (came.status, lines_of(came)[-1]), (1, "outside 00400001 to 00400001, 1"))
+    came = tool("frames", "touch", "-", given=bench.get("a.bin"))
+    same("touch of standard input", lines_of(came)[0], "writes 3 frames")
+
+
+def database_texts(bench):
+    """Texts of the open database's tools: to one and back, and what is none."""
+    same, tool = bench.tally.same, bench.tool
+    frames = {far: frame_of(far) for far in PARTS}
+    bench.put("one.report", report_of(frames))
+    came = tool("frames", "of", "--frm", "one.report")
+    words = [",".join(f"0x{it:08X}" for it in x7.words_of(frames[far])) for far in sorted(frames)]
+    same("of --frm", came.out.decode().splitlines(), [f"0x{far} {it}" for far, it in zip(sorted(frames), words)])
+    bench.put("one.frm", came.out)
+    same("from", lines_of(tool("frames", "from", "one.frm")), text_of_frames(frames).splitlines())
+    same("from, with a part", lines_of(tool("frames", "from", "one.frm", "--part", "made.part")), text_of_frames(frames).splitlines())
+    bench.put("windows.frm", came.out.replace(b"\n", b"\r\n").lower() + b"# a comment\n\n")
+    same("from, in lower case", lines_of(tool("frames", "from", "windows.frm")), text_of_frames(frames).splitlines())
+    for name, text, what in (
+        ("a text", "words\n", "line 1"), ("no comma", "0x00000000 0x1 0x2\n", "line 1"), ("no address", ",0x1\n", "line 1"),
+        ("a long word", "0x00000000 0x123456789\n", "line 1"), ("twice", "0x0 0x1\n0x00000000 0x1\n", "00000000 twice: line 2"),
+        ("another size", "0x0 0x1,0x2\n0x1 0x1\n", "has 1 words, and not 2: line 2"), ("a frames text", text_of_frames(frames), "line 1"),
+    ):  # fmt: skip
+        bench.put("bad.frm", text)
+        bench.refuses("frames", "from", "bad.frm", what=what)
+    bench.put("far.frm", f"0x00000004 {words[0]}\n")
+    bench.refuses("frames", "from", "far.frm", "--part", "made.part", what="the part has no address 00000004: line 1")
+    bench.put("short.frm", "0x00000000 0x1,0x2\n")
+    bench.refuses("frames", "from", "short.frm", "--part", "made.part", what="has 2 words, and not 101: line 1")
+
+
 def command(name):
     """The bytes of a write of a command."""
     return x7.write_packet(x7.CMD, [x7.CODES[name]])
@@ -221,11 +291,14 @@ def refused_frames(bench):
     bench.refuses("frames", "touch", "made.part", "bad after IPROG", what="fault: Crc")
 
 
-def parts_refused(bench):
-    """The forms that have no use for a part file refuse one."""
+def options_refused(bench):
+    """The forms that have no use for a part file, or for an option, refuse it."""
     bench.put("kept", stream_of(command("NULL")))
-    for words in (["of", "one"], ["differ", "one", "other"], ["touch", "made.part", "kept"], ["vendor", "kept"]):
-        bench.refuses("frames", *words, "--part", "made.part", what=f"{words[0]} takes no --part")
+    bench.put("renamed.part", DEVICE.replace('"made"', '"renamed"'))
+    for option, words in (("part=made.part", ["vendor", "kept"]), ("frm", ["differ", "one", "other"]), ("bits", ["of", "one"]), ("bits", ["ecc", "frames"])):
+        bench.refuses("frames", *words, f"--{option}", what=f"{words[0]} takes no --{option.split('=')[0]}: usage: frames {words[0]} ")
+    bench.refuses("frames", "of", "one", "--part", "renamed.part", what="one is the report of a play on made, and --part names renamed")
+    bench.refuses("frames", "touch", "made.part", "kept", "--part", "made.part", what="'kept' is no region")
 
 
 def main(folder):
@@ -235,7 +308,9 @@ def main(folder):
     texts(bench)
     ecc(bench)
     refused_frames(bench)
-    parts_refused(bench)
+    options_refused(bench)
+    streams(bench)
+    database_texts(bench)
     if X7:
         planned(bench)
         others(bench)

@@ -1,7 +1,7 @@
 #!/usr/bin/env python3
-"""Tests the shelf: its part files agree with the table of devices and with the guide's bitstream lengths, and each way to
-one leads there. Where Debian's package openfpgaloader is at hand, in /usr/share/openFPGALoader or in the folder that the
-variable OPENFPGALOADER names, the part files are made again and compared, and its streams are played on them."""
+"""Tests the shelf: its part files agree with the table of devices and with the guide's bitstream lengths, and each way
+to one leads there. Where Debian's package openfpgaloader is at hand, in /usr/share/openFPGALoader or in the folder that
+OPENFPGALOADER in the environment names, the files are made again and compared, and its streams are played on them."""
 from __future__ import annotations
 
 import glob
@@ -22,8 +22,9 @@ from x7parts import IDCODES
 
 # Bits of an uncompressed stream (UG470, bitstream lengths); parts/make has them by their devices.
 LENGTHS = {
-    "xc7a12t": 9934432, "xc7a25t": 9934432, "xc7s25": 9934432, "xc7a15t": 17536096, "xc7a35t": 17536096, "xc7a50t": 17536096,
-    "xc7s50": 17536096, "xc7a75t": 30606304, "xc7a100t": 30606304, "xc7k160t": 53540576, "xc7k325t": 91548896,
+    "xc7a12t": 9934432, "xc7a25t": 9934432, "xc7s25": 9934432, "xc7a15t": 17536096, "xc7a35t": 17536096,
+    "xc7a50t": 17536096, "xc7s50": 17536096, "xc7a75t": 30606304, "xc7a100t": 30606304, "xc7k160t": 53540576,
+    "xc7k325t": 91548896,
 }  # fmt: skip
 PACKAGE = os.environ.get("OPENFPGALOADER") or "/usr/share/openFPGALoader"
 MAKE = os.path.join(TOP, "parts", "make")
@@ -43,7 +44,7 @@ def part_files() -> None:
 def ways() -> None:
     """The ways to a part file, and where there is none."""
     a35 = os.path.join(x7shelf.FOLDER, "xc7a35t.part")
-    for name in ("xc7a35t", "7a35t", "XC7A35T", "7a35tcpg236", "xc7a35tcpg236-1", "xa7a35tcsg324-2I", "7a35ticsg324-1L"):
+    for name in "xc7a35t 7a35t XC7A35T 7a35tcpg236 xc7a35tcpg236-1 xa7a35tcsg324-2I 7a35ticsg324-1L".split():
         tally.same(f"the part of {name}", x7shelf.part_of_device(name), a35)
         tally.same(f"the part file {name}", x7shelf.part_file(name), a35)
     for name in ("", "xc7a35", "xc7z020", "6slx9", "xc7a35t.part", "xc7a35t_mine", "xc7a35t/x", "a35t"):
@@ -82,7 +83,8 @@ def the_tool() -> None:
     """What `part --shelf` shows."""
     path = f"{x7shelf.part_of_device('xc7s50')}\n".encode()
     tally.same("part --shelf of a device", called("part", "--shelf", "7s50csga324"), (0, path, ""))
-    tally.same("part --shelf", called("part", "--shelf"), (0, "".join(f"{it}\n" for it in sorted(LENGTHS)).encode(), ""))
+    names = "".join(f"{it}\n" for it in sorted(LENGTHS)).encode()
+    tally.same("part --shelf", called("part", "--shelf"), (0, names, ""))
     for words in (["xc7z020"], ["xc7s50", "more"], ["design.bit"]):
         status, out, err = called("part", "--shelf", *words)
         tally.check(f"part --shelf {words}", status == 2 and not out and err.count("\n") == 1, err)

@@ -18,6 +18,7 @@ import x7formats as x7
 FORMS = [
     "allow_fallback F", "check_update F F F", "check_update good.part F good", "check_update good.part image F", "flash_steps F F", "flash_steps image F", "follow F",
     "frame_map F F", "frame_map F F F", "frame_map good.part F", "frames of F", "frames differ F F", "frames region F column=1",
+    "frames of --frm F", "frames from F", "frames differ --bits F F", "frames touch F", "frames of F --part good.part",
     "frames move F half=0,row=0", "frames ecc F", "frames mend F", "frames touch F F", "frames touch good.part F", "frames touch F good",
     "frames vendor F", "part F new", "svf F", "svf --partial F", "svf --read F F F", "svf --read good.part F F", "turn F", "why F",
     "why F F", "why F report", "why good F", "why --stat F", "why --stat 0000990C --cor0 F",
@@ -135,7 +136,7 @@ def usages(bench):
     """Words that a form can't take are answered by the form's own line; a part file that is made anew, by what it
     is; and words of a board by the first one that is none, whatever stands before it."""
     bench.refuses("frames", "move", "a", "b", "c", what="usage: frames move FRAMES half=1,row=0 > FRAMES\n")
-    bench.refuses("frames", "touch", "x", what="usage: frames touch PART STREAM [REGION..]\n")
+    bench.refuses("frames", "touch", what="usage: frames touch STREAM [REGION..]\n")
     bench.refuses("part", "good.part", "new", what="good.part is a part file already\n")
     for words, what in ((["--foo", "1"], "usage: why "), (["--cor0", "XYZ"], "XYZ is no word"), (["--cor0"], "usage: why ")):
         bench.refuses("why", "--stat", "0000990C", *words, what=what)

@@ -1,0 +1,89 @@
+#!/usr/bin/env python3
+"""Tests the words of a command line: options at any place and in both forms, standard input, and what is refused."""
+from __future__ import annotations
+
+import os
+import subprocess
+import sys
+import tempfile
+
+from casefiles import TOOLS, Tally, put_file
+import streams as s
+from x7options import given
+from x7run import Refused, asks_help
+
+FORMS = ("A B", "--bits A")
+
+tally = Tally()
+
+
+def taken(words: str) -> tuple[list[str], dict[str, str]]:
+    """What words give, of a tool that takes `--part P`, `--size N` and `--bits`."""
+    them = given(words.split(" "), FORMS, valued=["part", "size"], plain=["bits"])
+    return them.words, them.options
+
+
+def refused(words: str) -> str:
+    """Why words are refused, or nothing."""
+    try:
+        taken(words)
+    except Refused as why:
+        return str(why)
+    return ""
+
+
+def places() -> None:
+    """Options stand at any place, and their value after a blank or '='."""
+    for words in ("--part p a b", "a --part p b", "a b --part p", "--part=p a b", "a --part=p b", "a b --part=p"):
+        tally.same(words, taken(words), (["a", "b"], {"part": "p"}))
+    tally.same("two options", taken("--bits a --size=3 b"), (["a", "b"], {"bits": "", "size": "3"}))
+    tally.same("a value with '='", taken("--part=a=b c"), (["c"], {"part": "a=b"}))
+    tally.same("an empty value", taken("--part= c"), (["c"], {"part": ""}))
+    tally.same("a value that looks like an option", taken("--part --bits"), ([], {"part": "--bits"}))
+    tally.same("'--' ends the options", taken("--bits -- --part -x"), (["--part", "-x"], {"bits": ""}))
+    tally.same("'-' is a word", taken("- --part -"), (["-"], {"part": "-"}))
+
+
+def wrong() -> None:
+    """Words that are refused."""
+    for words in ("--other a", "-p a", "-bits a", "a --part", "--bits=1 a", "--", "--=p"):
+        said = refused(words)
+        is_so = said.startswith("usage: ") and said.count(" --help says more") == 1 if words != "--" else not said
+        tally.check(f"{words} is refused", is_so, said)
+    tally.same("an option twice", refused("--part p --part=q"), "--part stands twice")
+
+
+def helps() -> None:
+    """Where help is asked for."""
+    cases = (("--help", True), ("-h", True), ("a --help", True), ("--part -h", True), ("-- -h", False), ("help", False))
+    for words, is_so in cases:
+        tally.same(f"help in '{words}'", asks_help(words.split()), is_so)
+
+
+def standard_input(folder: str) -> None:
+    """A stream that comes through a pipe, and one that is named twice."""
+    path, out = put_file(folder, "small.bit", s.bit(s.compressed())), os.path.join(folder, "small.part")
+    how_each = {"capture_output": True, "env": {**os.environ, "TMPDIR": os.path.join(folder, "temporary")}}
+    os.mkdir(os.path.join(folder, "temporary"))
+    with open(path, "rb") as file:
+        data = file.read()
+    for words, how in ((["-", out], {"input": data}), (["-", "-", "small"], {"input": data})):
+        done = subprocess.run([sys.executable, os.path.join(TOOLS, "part"), *words], **how_each, **how)
+        tally.check(f"part {words}", done.returncode == 0 and b"3 rows, 25 frames" in done.stderr, done.stderr)
+        text = done.stdout.decode()
+    with open(out, encoding="ascii") as file:
+        tally.same("a part file of standard output", text.replace("small", "7a35tcpg236"), file.read())
+    done = subprocess.run([sys.executable, os.path.join(TOOLS, "part"), "-", out], input=data[:99], **how_each)
+    is_so = done.returncode == 2 and done.stderr.startswith(b"part: -: its header tells of ")
+    tally.check("standard input that is cut", is_so, done.stderr)
+    done = subprocess.run([sys.executable, os.path.join(TOOLS, "frames"), "differ", "-", "-"], input=b"x", **how_each)
+    tally.check("standard input twice", done.returncode == 2 and b"(-) is named twice" in done.stderr, done.stderr)
+    tally.same("no copy is left", os.listdir(os.path.join(folder, "temporary")), [])
+
+
+places()
+wrong()
+helps()
+with tempfile.TemporaryDirectory() as place:
+    standard_input(place)
+tally.end()
