@@ -1,5 +1,5 @@
-"""The frames of the open database's tools (Project X-Ray): texts of lines `0x00400080 0x00000000,0x..`, a frame address and
-the words of its frame, which fasm2frames writes and xc7frames2bit reads. python3 (3.8) and its library alone."""
+"""The frames of the open database's tools (Project X-Ray): texts of lines `0x00400080 0x00000000,0x..`, a frame address
+and the words of its frame, which fasm2frames writes and xc7frames2bit reads. python3 (3.8) and its library alone."""
 from __future__ import annotations
 
 import re
@@ -19,8 +19,8 @@ def frm_text(frames: Mapping[int, bytes]) -> str:
 
 
 def read_frm(path: str, part: Part | None) -> dict[int, bytes]:
-    """The bytes of each frame of a text by its address. With a part, of its addresses and its frame's size; a frame that
-    stands twice, and one of another size than the first, are refused."""
+    """The bytes of each frame of a text by its address. With a part, of its addresses and its frame's size; a frame
+    that stands twice, and one of another size than the first, are refused."""
     frames: dict[int, bytes] = {}
     known, size = set(part.addresses()) if part else None, part.frame_words if part else None
     for number, line in enumerate(read_file(path).split(b"\n"), 1):

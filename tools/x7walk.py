@@ -82,8 +82,8 @@ def part_for(path: str, asked: Asked) -> Part:
 
 
 def walk_stream(path: str, part: Part | None) -> Walked:
-    """The frames that the stream in a file writes, on a part, or where none is given on that of the shelf. A stream that
-    isn't whole, is for another device, or stops at a fault is refused."""
+    """The frames that the stream in a file writes, on a part, or where none is given on that of the shelf. A stream
+    that isn't whole, is for another device, or stops at a fault is refused."""
     asked = asked_of(path)
     if asked.wrong:
         raise Refused(f"{path}: {asked.wrong}")
