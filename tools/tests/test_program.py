@@ -1,6 +1,6 @@
 #!/usr/bin/env python3
-"""Tests what the program says of itself: --help and --version, and that the man page and CHANGELOG have its version and
-its forms."""
+"""Tests what the program says of itself: --help (-h, help) and --version, and that the man page and CHANGELOG have its
+version and its forms."""
 from __future__ import annotations
 
 import re
@@ -16,9 +16,12 @@ def pages(bench: Bench) -> tuple[list[str], str]:
     lines = came.out.decode().split("\n")
     bench.tally.same("--help, status", (came.status, came.err), (0, b""))
     bench.tally.check("--help is a page", len(lines) < 60 and max(map(len, lines)) < 80, len(lines))
+    for word in ("-h", "help"):
+        bench.tally.same(f"{word} is --help", run(bench.folder, [X7, word]), came)
+    bench.tally.same("no word", run(bench.folder, [X7]), (2, b"", b"x7: usage\n"))
     version = run(bench.folder, [X7, "--version"])
     bench.tally.same("--version, status", (version.status, version.err), (0, b""))
-    for word in ("--help", "--version"):
+    for word in ("--help", "-h", "help", "--version"):
         bench.tally.same(f"{word}, closed", run(bench.folder, [X7, word], closed=[1]).status, 7)
         bench.tally.same(f"{word} and more", run(bench.folder, [X7, word, "more"]), (2, b"", b"x7: usage\n"))
     return lines, version.out.decode().strip()

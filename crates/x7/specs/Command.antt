@@ -1,5 +1,5 @@
 -- What the program does for its words, and the number with which it ends (this project's choice).
-use Rattle.std.specs.Prelude.{◌≡◌, ◌⊎◌, ℕ, List, [], ◌∷◌, Option, None, Some, codes, if◌then◌else◌}
+use Rattle.std.specs.Prelude.{◌≡◌, ◌⊎◌, ℕ, List, [], ◌∷◌, Option, None, Some, Bool, true, codes, if◌then◌else◌}
 use Rattle.std.specs.Str.{bytes_eq}
 use Rattle.x7_words.specs.Sink.{PutsAll, PutsSome, SinkFails, SinkState}
 use Rattle.x7_forms.specs.declared.status.Status.{Status}
@@ -11,10 +11,14 @@ use Rattle.x7_tool.specs.Calls.{ObjectStates, outside_of}
 use Rattle.x7_tool.specs.Runs.{Runs}
 use Rattle.x7.specs.declared.page.TheConstants.{HELP, VERSION}
 
--- the page that the words ask for: `--help` or `--version`, as the only word
+-- whether a word asks for help: `--help`, `-h` or `help`
+unfoldable pub asks_help : List ℕ → Bool
+asks_help word = if bytes_eq word (codes "--help") then true else if bytes_eq word (codes "-h") then true else bytes_eq word (codes "help")
+
+-- the page that the words ask for, as the only word: of help, or by `--version`
 abbrev pub page_of : List (List ℕ) → Option (List ℕ)
 page_of [] = None
-page_of (word ∷ []) = if bytes_eq word (codes "--help") then Some HELP.now else if bytes_eq word (codes "--version") then Some VERSION.now else None
+page_of (word ∷ []) = if asks_help word then Some HELP.now else if bytes_eq word (codes "--version") then Some VERSION.now else None
 page_of (word ∷ next ∷ more) = None
 
 -- a page was written whole, and the number is 0; or a prefix of it was, the output failed, and the number is 7

@@ -1,8 +1,8 @@
 //! What the program says of itself.
 ghost use Rattle.std.specs.Prelude.{◌≡◌, MatchOption, None, Some, map, string_bytes};
-ghost use Rattle.x7.specs.Command.{page_of};
+ghost use Rattle.x7.specs.Command.{asks_help, page_of};
 
-/// What `x7 --help` writes: the forms, the statuses, and where to read on.
+/// What `x7 --help`, `x7 -h` and `x7 help` write: the forms, the statuses, and where to read on.
 pub(crate) const HELP: &str = "\
 usage: x7 list STREAM
        x7 asm TEXT
@@ -52,7 +52,18 @@ The forms, the texts that they read and write, and each reason: man x7
 /// What `x7 --version` writes. docs/x7.1 and CHANGELOG.md have this number too (`bench/version`).
 pub(crate) const VERSION: &str = "x7 0.9.0\n";
 
-/// The page that the words ask for: `--help` or `--version`, as the only word.
+/// Whether a word asks for help: `--help`, `-h` or `help`.
+#[tactic(auto, unfolding(crate::specs::Command::asks_help))]
+fn asks_help(word: &str) -> bool
+    ensures { result ≡ asks_help word.now }
+{
+    match word {
+        "--help" | "-h" | "help" => true,
+        _ => false,
+    }
+}
+
+/// The page that the words ask for, as the only word: by `--help`, `-h` or `help`, or by `--version`.
 pub(crate) fn page_of(words: &Vec<String>) -> Option<&'static str>
     ensures { MatchOption result (page_of (map string_bytes words.now.items) ≡ None) (λ page. page_of (map string_bytes words.now.items) ≡ Some page.now) }
 {
@@ -62,8 +73,10 @@ pub(crate) fn page_of(words: &Vec<String>) -> Option<&'static str>
     if !more.is_empty() {
         return None;
     }
+    if asks_help(word.as_str()) {
+        return Some(HELP);
+    }
     match word.as_str() {
-        "--help" => Some(HELP),
         "--version" => Some(VERSION),
         _ => None,
     }
