@@ -67,22 +67,24 @@ module _ (all stream : List ℕ) (target : UpdateTarget) (finds : IsTargetIn (le
       let blank = erasing_happens (target.place / sector_size) (sectors_from target.place (length all)) spent.0 in
       let written = programmed target.place stream blank.0 in
       let replaces : IsHistory (replacing (length all) stream target) all written =
-          happens_on (spending target.slots.open_slot) (erasing (target.place / sector_size) (sectors_from target.place (length all)) ++ Programmed target.place stream ∷ []) all spent.0 written spent.1
-          (happens_on (erasing (target.place / sector_size) (sectors_from target.place (length all))) (Programmed target.place stream ∷ []) spent.0 blank.0 written blank.1 (written, refl, refl)) in
+      happens_on (spending target.slots.open_slot) (erasing (target.place / sector_size) (sectors_from target.place (length all)) ++ Programmed target.place stream ∷ []) all spent.0 written spent.1
+      (happens_on (erasing (target.place / sector_size) (sectors_from target.place (length all))) (Programmed target.place stream ∷ []) spent.0 blank.0 written blank.1 (written, refl, refl)) in
       let r = replaced_by all stream target finds fits bytes written replaces in
       let size : length written ≡ length all = (replaced_between all target finds stream written fits r).size in
       let place = flash_slot_size * target.slots.next in
       let opened = programmed place open_switch written in
       let whole : opened ≡ replaced place open_switch written = ap (λ w. replaced place w written) (opens_whole all stream target finds fits bytes written r) in
       let reads : IsHistory (verifying (length all) stream target) written written =
-          subst (λ n. IsHistory (reading n stream target.place (target.place / sector_size) (sectors_from target.place (length all))) written written) size
-          (reading_happens stream target.place (target.place / sector_size) (sectors_from target.place (length all)) written (omega (arith, finds.update, finds.has.place.whole)) (omega (arith, size, finds.update, finds.has.place.whole, finds.has.place.most, finds.sized.whole)) (omega (arith, size, fits))
-          (replaced_wanted all target finds stream written fits r)) in
+      subst (λ n. IsHistory (reading n stream target.place (target.place / sector_size) (sectors_from target.place (length all))) written written) size
+      (reading_happens stream target.place (target.place / sector_size) (sectors_from target.place (length all)) written (omega (arith, finds.update, finds.has.place.whole)) (omega (arith, size, finds.update, finds.has.place.whole, finds.has.place.most, finds.sized.whole)) (omega (arith, size, fits))
+      (replaced_wanted all target finds stream written fits r)) in
       let word : open_switch ≡ slice_range opened place (place + 4) =
-          subst (λ f. open_switch ≡ slice_range f place (place + 4)) (sym whole) (opened_reads place open_switch written (next_within all stream target finds fits bytes written r)) in
-      (opened, happens_on (calls_to_open (length all) first_sector stream target) (opening target.slots.next) all written opened
-      (all, (refl, gave), happens_on (replacing (length all) stream target) (verifying (length all) stream target) all written written replaces reads)
-      (opened, refl, (opened, (refl, word), refl)))
+      subst (λ f. open_switch ≡ slice_range f place (place + 4)) (sym whole) (opened_reads place open_switch written (next_within all stream target finds fits bytes written r)) in (
+        opened,
+        happens_on (calls_to_open (length all) first_sector stream target) (opening target.slots.next) all written opened
+            (all, (refl, gave), happens_on (replacing (length all) stream target) (verifying (length all) stream target) all written written replaces reads)
+            (opened, refl, (opened, (refl, word), refl)),
+      )
 
 -- ---- what such a flash answers is determined, but for writes that fail
 

@@ -29,7 +29,7 @@ erases_to place sector (suc count) end all now new from is within so h =
     let next : sector * sector_size + sector_size ≡ suc sector * sector_size = omega arith in
     let long : sector * sector_size + sector_size ≤ length now = omega (arith, so.size) in
     let more : ErasedTo place (suc sector * sector_size) all h.0 = subst (λ n. ErasedTo place n all h.0) next
-        (subst (λ l. ErasedTo place (sector * sector_size + sector_size) all l) (sym h.1) (erased_more place sector all now from long so)) in
+    (subst (λ l. ErasedTo place (sector * sector_size + sector_size) all l) (sym h.1) (erased_more place sector all now from long so)) in
     erases_to place (suc sector) count end all h.0 new (omega arith) (omega arith) within more h.2
 
 pub erasing_keeps : (place sector count : ℕ) (all now found : List ℕ) → place ≤ sector * sector_size → (sector + count) * sector_size ≤ length all → KeepsBelow place all now → MayLeave (erasing sector count) now found
@@ -39,7 +39,7 @@ erasing_keeps place sector (suc count) all now found from within keeps (inl torn
 erasing_keeps place sector (suc count) all now found from within keeps (inr m) =
     let long : sector * sector_size + length erased_sector ≤ length now = omega (arith, length_erased_sector, keeps.size) in
     let mid : KeepsBelow place all m.0 = subst (λ l. KeepsBelow place all l) (sym m.1)
-        (torn_keeps place (sector * sector_size) erased_sector all now (erased sector now) from keeps (target_is_torn (sector * sector_size) erased_sector now long)) in
+    (torn_keeps place (sector * sector_size) erased_sector all now (erased sector now) from keeps (target_is_torn (sector * sector_size) erased_sector now long)) in
     erasing_keeps place (suc sector) count all m.0 found (omega arith) (omega arith) mid m.2
 
 -- ---- reading
@@ -175,7 +175,7 @@ module _ (all stream : List ℕ) (target : UpdateTarget) (finds : IsTargetIn (le
       let parts = history_on (replacing (length all) stream target) (verifying (length all) stream target) h.0 now h.2 in
       let r = replaced_by parts.0 (subst (λ f. IsHistory (replacing (length all) stream target) f parts.0) h.1.0 parts.1) in
       let same : now ≡ parts.0 = reading_leaves (length all) stream target.place (target.place / sector_size) (sectors_from target.place (length all)) parts.0 now
-          (history_leaves (verifying (length all) stream target) parts.0 now parts.2) in
+      (history_leaves (verifying (length all) stream target) parts.0 now parts.2) in
       subst (λ f. UpdateReplaced target.place stream all f) (sym same) r
 
   -- a power loss at whatever moment

@@ -110,7 +110,7 @@ reading_was at size stream place sector zero from within fits h k = absurd (omeg
 reading_was at size stream place sector (suc count) from within fits h k = elim (cases_lt at (sector * sector_size + sector_size)) [
   | inl here ↦
       let long : length (slice_range (padded stream (size - place)) (sector_place sector - place) (sector_place sector - place + sector_size)) ≡ sector_size =
-          length_slice_range (padded stream (size - place)) (sector_place sector - place) sector_size (omega (arith, length_padded stream (size - place) fits)) in
+      length_slice_range (padded stream (size - place)) (sector_place sector - place) sector_size (omega (arith, length_padded stream (size - place) fits)) in
       let there : place + (sector_place sector - place + (at - sector_place sector)) ≡ at = omega arith in
       record {
         before = [];

@@ -173,11 +173,11 @@ module _ (stream : List ℕ) (bytes : AreBytes stream) (old new : FlashHistory) 
       let t = honest_target s.first_sector flash s.whole s.sized s.has size h.1.1 in
       let done = update_happens flash stream target t (omega (arith, t.update, s.fits, size)) bytes s.first_sector h.1.1 in
       let plan_of : calls_after (length flash) stream target ≡ s.stops.before ++ Read b.place b.wanted ∷ s.stops.after =
-          ap (λ n. calls_after n stream target) size ∙ s.stops.is ∙ ap (λ c. s.stops.before ++ c ∷ s.stops.after) b.is_next in
+      ap (λ n. calls_after n stream target) size ∙ s.stops.is ∙ ap (λ c. s.stops.before ++ c ∷ s.stops.after) b.is_next in
       let whole : AreWhole (s.stops.before ++ Read b.place b.wanted ∷ s.stops.after) = subst AreWhole plan_of (calls_whole (length flash) s.first_sector stream target) in
       let answers : IsHistory (s.stops.before ++ Read b.place b.wanted ∷ s.stops.after) flash done.0 =
-          subst (λ l. IsHistory l flash done.0) plan_of (subst (λ f. IsHistory (calls_after (length flash) stream target) f done.0) done.1.1.0 done.1.2) in
+      subst (λ l. IsHistory l flash done.0) plan_of (subst (λ f. IsHistory (calls_after (length flash) stream target) f done.0) done.1.1.0 done.1.2) in
       let gave : IsHistory (s.stops.before ++ Read b.place b.bytes ∷ []) flash now =
-          subst (λ c. IsHistory (s.stops.before ++ c ∷ []) flash now) b.is (subst (λ f. IsHistory (s.stops.before ++ s.stops.call ∷ []) f now) h.1.0 h.2) in
+      subst (λ c. IsHistory (s.stops.before ++ c ∷ []) flash now) b.is (subst (λ f. IsHistory (s.stops.before ++ s.stops.call ∷ []) f now) h.1.0 h.2) in
       let same : b.bytes ≡ b.wanted = reads_as_planned s.stops.before s.stops.after b.place b.wanted b.bytes flash now done.0 b.long whole answers gave in
       b.differs (b.wants ∙ sym (ap (λ l. get_or l b.i 0) same) ∙ sym b.gave)

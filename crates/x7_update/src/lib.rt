@@ -12,7 +12,10 @@ mod switch;
 mod verify;
 mod write;
 
-pub use call_laws::{honest_flashes_are_updated, update_calls_leave, update_calls_of_three_sectors, update_calls_write_once};
+pub use call_laws::{
+    honest_flashes_are_updated, update_calls_leave, update_calls_of_three_sectors,
+    update_calls_write_once,
+};
 pub use fault::UpdateFault;
 pub use laws::{
     flashes_between_slots_hold_no_sync_word, left_flashes_are_updatable,
