@@ -140,6 +140,8 @@ def text_of(field: bytes) -> str:
 # ---- steps: what stands in the data, in order
 
 MANY = NOP * 256
+# words without effect that stand in runs: bytes of an erased, and of an empty flash
+FILLERS = (b"\xff" * 4, bytes(4))
 
 
 class Step(NamedTuple):
@@ -147,12 +149,13 @@ class Step(NamedTuple):
     count the bytes of the data."""
 
     # 'bytes' are no words (before a sync word, after a session, the tail); 'sync' begins a session; 'nop' are words
-    # 20000000; 'write' and 'read' are packets; 'filler' is a word without effect, 'bad' one that is no packet
+    # 20000000; 'write' and 'read' are packets; 'filler' is a word without effect, or words FFFFFFFF or 00000000 in a
+    # row; 'bad' is one that is no packet
     kind: str
     place: int  # where it begins
     word: int  # its first word; 0 of bytes
     register: int | None  # the number of the register that a packet writes or reads; none of all else
-    count: int  # type: ignore[assignment]  # the words of a packet as its header says, or how many no-ops
+    count: int  # type: ignore[assignment]  # the words of a packet as its header says, or how many words in a row
     first: int  # where a packet's payload begins
     present: int  # how many words of a write's payload are there
     end: int  # the place after it
@@ -180,6 +183,11 @@ def session(data: bytes, place: int) -> Generator[Step, None, int]:
             yield Step("nop", place, 0x20000000, None, (end - place) // 4, end, 0, end)
             place = end
             continue
+        end = end_of_fillers(data, place)
+        if end > place:
+            yield Step("filler", place, word_at(data, place), None, (end - place) // 4, end, 0, end)
+            place = end
+            continue
         step = packet(data, place, named)
         named = named if step.register is None else step.register
         yield step
@@ -196,6 +204,19 @@ def end_of_nops(data: bytes, place: int) -> int:
     while data.startswith(MANY, place):
         place += len(MANY)
     while data.startswith(NOP, place):
+        place += 4
+    return place
+
+
+def end_of_fillers(data: bytes, place: int) -> int:
+    """Where the words FFFFFFFF or 00000000 end that stand from a place on: an erased or an empty flash has millions."""
+    word = data[place : place + 4]
+    if word not in FILLERS:
+        return place
+    many = word * 1024
+    while data.startswith(many, place):
+        place += len(many)
+    while data.startswith(word, place):
         place += 4
     return place
 
@@ -268,6 +289,10 @@ def step_lines(data: bytes, step: Step) -> Iterator[tuple[str, int, int]]:
     if step.kind == "nop":
         for at in range(step.place, step.end, 4):
             yield "nop", at, at + 4
+        return
+    if step.kind == "filler":
+        for at in range(step.place, step.end, 4):
+            yield head_line(step), at, at + 4
         return
     yield head_line(step), step.place, step.place + 4
     if step.register == CMD:
