@@ -1,21 +1,43 @@
 """The fields of the words that a board gives (UG470, status, boot history status, configuration options and control
 registers)."""
-from collections import namedtuple
+from __future__ import annotations
 
-Field = namedtuple("Field", "name low width meaning")
-MODES = ["000 master serial", "001 master SPI", "010 master BPI", "011", "100 master SelectMAP", "101 JTAG only", "110 slave SelectMAP", "111 slave serial"]
+from typing import Dict, List, NamedTuple, Optional, Tuple
+
+
+class Field(NamedTuple):
+    """A field of a word."""
+
+    name: str
+    low: int  # its lowest bit
+    width: int  # in bits
+    meaning: Optional[List[str]]  # of each of its values, or none where a value is a number
+
+
+MODES = [
+    "000 master serial", "001 master SPI", "010 master BPI", "011", "100 master SelectMAP", "101 JTAG only",
+    "110 slave SelectMAP", "111 slave serial",
+]  # fmt: skip
 BUS_WIDTHS = ["x1", "x8", "x16", "x32"]
+CLOCKS = [
+    "startup runs on CCLK", "startup runs on a clock of the design (UserClk)", "startup runs on TCK (JtagClk)",
+    "startup runs on TCK (JtagClk)",
+]  # fmt: skip
+SECURITY = [
+    "frames may be read and written", "frames may not be read", "frames may be neither read nor written",
+    "frames may be neither read nor written",
+]  # fmt: skip
 # the codes of STARTUP_STATE in the phases 0 to 7
 STARTUP_STATES = [0b000, 0b001, 0b011, 0b010, 0b110, 0b111, 0b101, 0b100]
 PHASE_OF_STATE = {state: phase for phase, state in enumerate(STARTUP_STATES)}
 
 
-def field_of(low, width, word):
+def field_of(low: int, width: int, word: int) -> int:
     """The number in `width` bits of a word, from bit `low` up."""
     return word >> low & (1 << width) - 1
 
 
-def cycle(name):
+def cycle(name: str) -> List[str]:
     """The meaning of the codes of a _CYCLE field of COR0."""
     if name in ("LOCK_CYCLE", "MATCH_CYCLE"):
         return [*(f"waits in phase {code}" for code in range(7)), "no wait"]
@@ -24,7 +46,7 @@ def cycle(name):
     return [*(f"phase {code + 1}" for code in range(6)), "with DONE", "never (KEEP)"]
 
 
-FIELDS = {
+FIELDS: Dict[str, List[Field]] = {
     "STAT": [
         Field("CRC_ERROR", 0, 1, ["no check failed", "a check failed"]),
         Field("PART_SECURED", 1, 1, ["no decryption is set", "decryption is set"]),
@@ -51,7 +73,7 @@ FIELDS = {
         Field("LOCK_CYCLE", 6, 3, cycle("LOCK_CYCLE")),
         Field("MATCH_CYCLE", 9, 3, cycle("MATCH_CYCLE")),
         Field("DONE_CYCLE", 12, 3, cycle("DONE_CYCLE")),
-        Field("SSCLKSRC", 15, 2, ["startup runs on CCLK", "startup runs on a clock of the design (UserClk)", "startup runs on TCK (JtagClk)", "startup runs on TCK (JtagClk)"]),
+        Field("SSCLKSRC", 15, 2, CLOCKS),
         Field("OSCFSEL", 17, 6, None),
         Field("SINGLE", 23, 1, ["readback may be repeated", "readback is a single shot"]),
         Field("DRIVE_DONE", 24, 1, ["DONE is open drain", "DONE is driven high"]),
@@ -60,7 +82,7 @@ FIELDS = {
     "CTL0": [
         Field("GTS_USER_B", 0, 1, ["all outputs are off", "the outputs are as startup says"]),
         Field("PERSIST", 3, 1, ["the configuration pins become the design's", "the configuration pins stay so"]),
-        Field("SBITS", 4, 2, ["frames may be read and written", "frames may not be read", "frames may be neither read nor written", "frames may be neither read nor written"]),
+        Field("SBITS", 4, 2, SECURITY),
         Field("DEC", 6, 1, ["not encrypted", "encrypted"]),
         Field("FARSRC", 7, 1, ["FAR shows its own address", "FAR shows the address of an error (EFAR)"]),
         Field("GLUTMASK_B", 8, 1, ["readback masks memories in logic", "readback shows memories in logic"]),
@@ -82,11 +104,12 @@ BOOT_FLAGS = [
     ("HMAC_ERROR", "no error of authentication", "an error of authentication"),
 ]
 FIELDS["BOOTSTS"] = [
-    Field(f"{name}_{number}", 8 * number + bit, 1, list(meanings)) for number in (0, 1) for bit, (name, *meanings) in enumerate(BOOT_FLAGS)
-]
+    Field(f"{name}_{number}", 8 * number + bit, 1, [unset, set_])
+    for number in (0, 1) for bit, (name, unset, set_) in enumerate(BOOT_FLAGS)
+]  # fmt: skip
 
 
-def fields_of(register, word):
+def fields_of(register: str, word: int) -> List[Tuple[str, str, int, str]]:
     """The fields of a word of STAT, BOOTSTS, COR0 or CTL0: each with its bits, its value, and what it means."""
     found = []
     for field in FIELDS[register]:

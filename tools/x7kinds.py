@@ -1,70 +1,191 @@
 """What a file is that isn't a stream as it stands: packed, a text, of another tool, or a stream whose bytes were
 turned."""
+from __future__ import annotations
+
 import gzip
 import re
 import zlib
-from collections import namedtuple
+from typing import Callable, List, NamedTuple, Optional, Sequence
 
 import x7formats as x7
+from x7dumps import is_dump
 
 # ---- files of other kinds, by their first bytes
 
+
+class Other(NamedTuple):
+    """A file of another kind."""
+
+    what: str  # it is, as a sentence
+    remedy: str  # what to do
+
+
+class Magic(NamedTuple):
+    """How a kind of file is known."""
+
+    place: int  # of the bytes by which it is known
+    begins: bytes
+    what: str  # it is
+    remedy: str  # what to do
+
+
+# A byte order mark of UTF-8, which some editors write.
+MARK = b"\xef\xbb\xbf"
+TAKE_BIT = "give the .bit or .bin file"
+TURN = f"{x7.CALLED}turn FILE > NEW"
 MAGIC = [
-    (b"\x1f\x8b", "it is a gzip file", "gzip -dc FILE > NEW"),
-    (b"\xfd7zXZ\0", "it is an xz file", "xz -dc FILE > NEW"),
-    (b"BZh", "it is a bzip2 file", "bzip2 -dc FILE > NEW"),
-    (b"\x28\xb5\x2f\xfd", "it is a zstd file", "zstd -dc FILE > NEW"),
-    (b"PK\x03\x04", "it is a zip file", "unzip it"),
-    (b"7z\xbc\xaf\x27\x1c", "it is a 7z file", "7z x FILE"),
-    (b"\x7fELF", "it is a program (ELF)", "take the .bit or .bin file"),
-    (b"Xilinx ASCII Bitstream", "it is a .rbt file, digits 0 and 1 as text", f"{x7.CALLED}turn FILE > NEW"),
-    (b"version https://git-lfs", "it is a pointer of git-lfs, and not the file", "git lfs pull"),
+    Magic(0, b"\x1f\x8b", "it is a gzip file", "gzip -dc FILE > NEW"),
+    Magic(0, b"\xfd7zXZ\0", "it is an xz file", "xz -dc FILE > NEW"),
+    Magic(0, b"\x5d\0\0\x80\0\xff\xff\xff\xff", "it is an lzma file", "xz -dc --format=lzma FILE > NEW"),
+    Magic(0, b"BZh", "it is a bzip2 file", "bzip2 -dc FILE > NEW"),
+    Magic(0, b"\x28\xb5\x2f\xfd", "it is a zstd file", "zstd -dc FILE > NEW"),
+    Magic(0, b"\x04\x22\x4d\x18", "it is an lz4 file", "lz4 -dc FILE > NEW"),
+    Magic(0, b"LZIP", "it is an lzip file", "lzip -dc FILE > NEW"),
+    Magic(0, b"PK\x03\x04", "it is a zip file", "unzip it"),
+    Magic(0, b"7z\xbc\xaf\x27\x1c", "it is a 7z file", "7z x FILE"),
+    Magic(0, b"Rar!\x1a\x07", "it is a rar file", "unrar x FILE"),
+    Magic(257, b"ustar", "it is a tar file, in which a stream may be one of several files", "tar -xf FILE"),
+    Magic(0, b"070701", "it is a cpio file", "cpio -i < FILE"),
+    Magic(0, b"!<arch>\n", "it is an archive of ar", "ar x FILE"),
+    Magic(0, b"\x7fELF", "it is a program (ELF)", TAKE_BIT),
+    Magic(0, b"\xd0\x0d\xfe\xed", "it is a device tree (dtb), or a FIT image, in which a stream may be one of "
+                                  "several files", "dumpimage -T flat_dt -p N -o NEW FILE, or " + TAKE_BIT),
+    Magic(0, b"\x27\x05\x19\x56", "it is an image of U-Boot (mkimage), whose header of 64 bytes stands before the "
+                                  "file", "tail -c +65 FILE > NEW"),
+    Magic(0, b"SOF\0", "it is a .sof file of Intel's (Altera's) devices", "x7 reads streams of 7-series devices"),
+    Magic(0, b"POF\0", "it is a .pof file of Intel's (Altera's) devices", "x7 reads streams of 7-series devices"),
+    Magic(0, b"\x89PNG\r\n\x1a\n", "it is a picture (PNG)", TAKE_BIT),
+    Magic(0, b"\xff\xd8\xff\xe0", "it is a picture (JPEG)", TAKE_BIT),
+    Magic(0, b"%PDF-", "it is a PDF", TAKE_BIT),
+    Magic(0, b"Xilinx ASCII Bitstream", "it is a .rbt file, digits 0 and 1 as text", TURN),
+    Magic(0, b"version https://git-lfs", "it is a pointer of git-lfs, and not the file", "git lfs pull"),
 ]
+
+
+class Text(NamedTuple):
+    """How a kind of text is known."""
+
+    pattern: bytes  # what its first bytes match
+    what: str  # it is
+    remedy: str  # what to do
+
+
 TEXTS = [
-    (rb"x7: ", "it is the line with which x7 refused something", "mend what it says: x7 --help has the statuses"),
-    (rb"(?i)\s*<(!doctype html|html|\?xml|head|body)", "it is a page of HTML, as a server sends in place of a file", "take the file again: look at what was downloaded"),
-    (rb":[0-9A-F]{10}", "it seems to be Intel HEX", "x7 unmcs FILE > NEW"),
-    (rb"S[0-9][0-9A-F]{6}", "it is a file of S-records", "srec_cat FILE -o NEW -binary"),
-    (rb"(?i)[0-9a-f]{4,16}(:|  ?)[ 0-9a-f]", "it is a hex dump", "xxd -r FILE NEW"),
-    (rb"(?:[!/][^\n]*\n|[ \t\r]*\n)*[ \t]*(?:STATE|SIR|HIR|TRST|ENDIR|FREQUENCY)\s", "it is an SVF text", "x7 svf PART FILE"),
-    (rb"(?i)[0-9A-F\s]{64}", "it is hexadecimal digits as text", "xxd -r -p FILE NEW"),
-    (rb"([01]{32}\r?\n){2}", "it is digits 0 and 1 as text", f"{x7.CALLED}turn FILE > NEW"),
-    (rb"[A-Za-z0-9+/\r\n]{64}", "it is base64", "base64 -d FILE > NEW"),
+    Text(rb"x7: ", "it is the line with which x7 refused something", "mend what it says: x7 --help has the statuses"),
+    Text(
+        rb"(?i)\s*<(!doctype html|html|head|body)",
+        "it is a page of HTML, as a server sends in place of a file",
+        "take the file again: look at what was downloaded",
+    ),
+    Text(
+        rb"(?i)\s*<\?xml[^>]*>\s*<(!doctype )?html",
+        "it is a page of HTML, as a server sends in place of a file",
+        "take the file again: look at what was downloaded",
+    ),
+    Text(rb"\s*<\?xml", "it is XML, such as a server's answer or a tool's settings", "take the file again: look at "
+                                                                                     "what was downloaded"),
+    Text(
+        rb"\s*[{\[]\s*[\"{\[\]}]",
+        "it is JSON, such as a server's answer or a tool's settings",
+        "take the file again: look at what was downloaded",
+    ),
+    Text(rb":[0-9A-F]{10}", "it seems to be Intel HEX", "x7 unmcs FILE > NEW"),
+    Text(rb"S[0-9][0-9A-F]{6}", "it is a file of S-records", "srec_cat FILE -o NEW -binary"),
+    Text(
+        rb"(?:[!/][^\n]*\n|[ \t\r]*\n)*[ \t]*(?:STATE|SIR|HIR|TRST|ENDIR|FREQUENCY)\s",
+        "it is an SVF text",
+        "x7 svf PART FILE",
+    ),
+    Text(rb"(?:#[^\n]*\n|\s*\n)*(?:frame [0-9A-F]{8} )", "it is a frames text", "x7 plan full PART FILE > STREAM"),
+    Text(
+        rb"(?:#[^\n]*\n|\s*\n)*name\s*=\s*\"[^\n]*\n(?:#[^\n]*\n|\s*\n)*idcode\s*=",
+        "it is a part file",
+        "give the stream, and this file after --part",
+    ),
+    Text(rb"begin [0-7]{3} ", "it is a file of uuencode", "uudecode -o NEW FILE"),
+    Text(
+        rb"(?s)(?:/\*.*?\*/|//[^\n]*\n|#[^\n]*\n|\s)*"
+        rb"(?:(?:static|const|unsigned|signed|char|int|uint8_t|uint32_t)\s+)+\w+\s*\[",
+        "it is C source, an array of bytes",
+        "compile it, or " + TAKE_BIT,
+    ),
+    Text(rb"([01]{32}\r?\n){2}", "it is digits 0 and 1 as text", TURN),
 ]
+# Texts of digits, after dumps.
+DIGITS = [
+    Text(rb"(?i)[0-9A-F\s]{64}", "it is hexadecimal digits as text", "xxd -r -p FILE NEW"),
+    Text(rb"[A-Za-z0-9+/\r\n]{64}", "it is base64", "base64 -d FILE > NEW"),
+]
+# what `xxd` writes where nothing is asked of it: a place, a colon, halfwords, and characters
+OF_XXD = re.compile(rb"[0-9a-f]{8}: (?:[0-9A-Fa-f]{4} ){1,7}[0-9A-Fa-f]{2,4} +.{1,16}\r?\n")
 RECODED = [
-    (b"\xc2\xaa\xc2\x99\x55\x66", "its bytes were recoded as a text, from Latin-1 to UTF-8", "iconv -f UTF-8 -t LATIN1 FILE > NEW; or take it again, as binary"),
-    (b"\xef\xbf\xbd\xef\xbf\xbdUf", "its bytes were recoded as a text, and those that no text has are lost", "take the file again, as binary"),
-    (b"\x2a\x19\x55\x66", "the highest bit of each byte is lost, as on a line of seven bits", "take the file again, over a line of eight bits"),
-]
-Kind = namedtuple("Kind", "what remedy")
+    Magic(
+        0,
+        b"\xc2\xaa\xc2\x99\x55\x66",
+        "its bytes were recoded as a text, from Latin-1 to UTF-8",
+        "iconv -f UTF-8 -t LATIN1 FILE > NEW; or take it again, as binary",
+    ),
+    Magic(0, b"\xaa\0\x99\0\x55\0\x66\0", "its bytes were recoded as a text, to UTF-16", "iconv -f UTF-16LE -t "
+                                                                                         "LATIN1 FILE > NEW; or take "
+                                                                                         "it again, as binary"),
+    Magic(
+        0,
+        b"\xef\xbf\xbd\xef\xbf\xbdUf",
+        "its bytes were recoded as a text, and those that no text has are lost",
+        "take the file again, as binary",
+    ),
+    Magic(
+        0,
+        b"\x2a\x19\x55\x66",
+        "the highest bit of each byte is lost, as on a line of seven bits",
+        "take the file again, over a line of eight bits",
+    ),
+]  # fmt: skip
+# how many of its first bytes a file is searched in for these
+SEARCHED = 65536
 
 
-def is_text(data):
+def is_text(data: bytes) -> bool:
     """Whether data begin as a text of ASCII."""
     return bool(data) and all(32 <= byte < 127 or byte in b"\t\r\n" for byte in data[:4096])
 
 
-def packed_kind_of(raw):
-    """What a file is by the first bytes that its kind has, or none."""
-    return next((Kind(what, remedy) for begin, what, remedy in MAGIC if raw.startswith(begin)), None)
+def packed_kind_of(raw: bytes) -> Optional[Other]:
+    """What a file is by the bytes that its kind has at a place, or none."""
+    return next((Other(it.what, it.remedy) for it in MAGIC if raw.startswith(it.begins, it.place)), None)
 
 
-def kind_of(raw):
+def kind_of(raw: bytes) -> Optional[Other]:
     """What a file is by its first bytes, where it is no stream: what, and the remedy; or none."""
-    if packed_kind_of(raw):
-        return packed_kind_of(raw)
+    packed = packed_kind_of(raw)
+    if packed:
+        return packed
     if raw[0x24:0x28] in (b"XNLX", b"XLNX"):
-        return Kind("it is a boot image of a Zynq-7000 (BOOT.BIN), in which a stream is one of several partitions", "give the .bit file that the image was made from")
-    for sequence, what, remedy in RECODED:
-        if sequence in raw[:65536] and x7.SYNC not in raw[:65536]:
-            return Kind(what, remedy)
-    if not is_text(raw):
-        return None
-    for pattern, what, remedy in TEXTS:
-        if re.match(pattern, raw[:4096]):
-            return Kind(what, remedy)
+        what = "it is a boot image of a Zynq-7000 (BOOT.BIN), in which a stream is one of several partitions"
+        return Other(what, "give the .bit file that the image was made from")
+    for it in RECODED:
+        if it.begins in raw[:SEARCHED] and x7.SYNC not in raw[:SEARCHED]:
+            return Other(it.what, it.remedy)
+    if raw.startswith(MARK) and is_text(raw[len(MARK) :]):
+        inner = text_kind_of(raw[len(MARK) :])
+        return Other(f"{inner.what}, after a byte order mark", f"tail -c +4 FILE > NEW, and then: {inner.remedy}")
+    return text_kind_of(raw) if is_text(raw) else None
+
+
+def text_kind_of(raw: bytes) -> Other:
+    """What a text is."""
+    for it in TEXTS:
+        if re.match(it.pattern, raw[:4096]):
+            return Other(it.what, it.remedy)
+    if OF_XXD.match(raw):
+        return Other("it is a hex dump of xxd", f"xxd -r FILE NEW, or {TURN}")
+    if is_dump(raw) and not re.match(rb"(?i)(?:[0-9a-f]{2})+(?:\r?\n|\Z)", raw):
+        return Other("it is a dump as text, digits of bytes or of words", TURN)
+    for it in DIGITS:
+        if re.match(it.pattern, raw[:4096]):
+            return Other(it.what, it.remedy)
     line = raw.split(b"\n")[0][:60].decode("ascii", "replace").strip()
-    return Kind(f"it is a text, which begins '{line}'", "give the .bit or .bin file")
+    return Other(f"it is a text, which begins '{line}'", TAKE_BIT)
 
 
 # ---- bytes that were turned
@@ -77,7 +198,7 @@ INVERTED = bytes(255 - byte for byte in range(256))
 JUDGED = 1 << 18
 
 
-def exchanged(data, size, order):
+def exchanged(data: bytes, size: int, order: Sequence[int]) -> bytes:
     """The data with the bytes of each group of `size` in another order; bytes of no whole group stay."""
     whole = len(data) // size * size
     turned = bytearray(data)
@@ -86,23 +207,45 @@ def exchanged(data, size, order):
     return bytes(turned)
 
 
-# What was turned, how, in groups of how many bytes, and the way back.
-Way = namedtuple("Way", "what how size back")
+class Way(NamedTuple):
+    """How bits, bytes or words were turned."""
+
+    what: str  # was turned
+    how: str  # it was
+    size: int  # of the groups of bytes in which it was; 0 of the file as a whole
+    back: Callable[[bytes], bytes]  # the way back
+
+
 WAYS = [
     Way("the bits of each byte", "swapped", 1, lambda data: data.translate(MIRRORED)),
     Way("the bytes of each word", "swapped", 4, lambda data: exchanged(data, 4, (3, 2, 1, 0))),
     Way("the bytes of each halfword", "swapped", 2, lambda data: exchanged(data, 2, (1, 0))),
-    Way("the bits of each byte and the bytes of each word", "swapped", 4, lambda data: exchanged(data.translate(MIRRORED), 4, (3, 2, 1, 0))),
-    Way("the bits of each byte and the bytes of each halfword", "swapped", 2, lambda data: exchanged(data.translate(MIRRORED), 2, (1, 0))),
+    Way(
+        "the bits of each byte and the bytes of each word",
+        "swapped",
+        4,
+        lambda data: exchanged(data.translate(MIRRORED), 4, (3, 2, 1, 0)),
+    ),
+    Way(
+        "the bits of each byte and the bytes of each halfword",
+        "swapped",
+        2,
+        lambda data: exchanged(data.translate(MIRRORED), 2, (1, 0)),
+    ),
     Way("the halfwords of each word", "swapped", 4, lambda data: exchanged(data, 4, (2, 3, 0, 1))),
     Way("the bytes of each 64 bits", "swapped", 8, lambda data: exchanged(data, 8, (7, 6, 5, 4, 3, 2, 1, 0))),
     Way("the words of each 64 bits", "swapped", 8, lambda data: exchanged(data, 8, (4, 5, 6, 7, 0, 1, 2, 3))),
     Way("the halves of each byte", "swapped", 1, lambda data: data.translate(NIBBLES)),
     Way("all bits", "inverted", 1, lambda data: data.translate(INVERTED)),
 ]
+# The file as a whole, its last byte first: the order in which texts for a test access port have it.
+WHOLE_WAYS = [
+    Way("the bytes of the whole file", "reversed", 0, lambda data: data[::-1]),
+    Way("the bits of the whole file", "reversed", 0, lambda data: data[::-1].translate(MIRRORED)),
+]
 
 
-def reads(data):
+def reads(data: bytes) -> bool:
     """Whether the data have a sync word, and after it begins what a stream begins with: packets, one of which is of CMD
     or IDCODE."""
     at = data.find(x7.SYNC)
@@ -119,20 +262,24 @@ def reads(data):
     return known > 0 or seen > 0 and len(data) < at + 64 or len(data) < at + 8
 
 
-Turned = namedtuple("Turned", "way offset")
+class Turned(NamedTuple):
+    """How data were turned."""
+
+    way: Way
+    offset: int  # from which byte on
 
 
-def turning_of(data):
+def turning_of(data: bytes) -> Optional[Turned]:
     """The way back, and from which byte on, that makes a stream of data, or none."""
     beginning = data[:JUDGED]
     for way in WAYS:
         for offset in range(way.size):
             if reads(beginning[:offset] + way.back(beginning[offset:])):
                 return Turned(way, offset)
-    return None
+    return next((Turned(way, 0) for way in WHOLE_WAYS if reads(way.back(data[-JUDGED:]))), None)
 
 
-def late_by(data):
+def late_by(data: bytes) -> Optional[int]:
     """By how many bits the data are late, or none."""
     beginning = data[:4096]
     for bits in range(1, 8):
@@ -141,10 +288,12 @@ def late_by(data):
     return None
 
 
-def of_digits(raw):
+def of_digits(raw: bytes) -> bytes:
     """The data of a .rbt file: its lines of 32 digits, after some lines of text. A line that is damaged is refused, and
     `Bits:` compared."""
-    count, lines, begun = None, [], False
+    count: Optional[int] = None
+    lines: List[int] = []
+    begun = False
     for number, line in enumerate(raw.rstrip(b"\r\n").split(b"\n"), 1):
         line = line.rstrip(b"\r")
         if re.fullmatch(b"[01]{32}", line):
@@ -152,7 +301,8 @@ def of_digits(raw):
             lines.append(int(line, 2))
         elif begun:
             raise x7.Refused(
-                f"line {number} of the .rbt file has {len(line)} characters, and isn't 32 digits 0 and 1: it is damaged, or cut "
+                f"line {number} of the .rbt file has {len(line)} characters, and isn't 32 digits 0 and 1: it is "
+                "damaged, or cut "
                 "off",
             )
         elif re.fullmatch(rb"Bits:\s*\d+\s*", line):
@@ -167,7 +317,7 @@ def of_digits(raw):
     return x7.bytes_of(lines)
 
 
-def unpacked(raw):
+def unpacked(raw: bytes) -> bytes:
     """The bytes of a gzip file."""
     try:
         return gzip.decompress(raw)

@@ -1,27 +1,12 @@
 """What a word that a board gives tells at once, and where the page BOARD has more."""
 from __future__ import annotations
 
-from enum import Enum
 from typing import NamedTuple
 
+from x7cause import Section
 from x7fields import PHASE_OF_STATE, field_of
 
 HELD_LOW = "the device has released DONE, and the pin is low: something on the board holds it"
-
-
-class Section(Enum):
-    """The sections of the page BOARD to which a word leads."""
-
-    NO_ANSWER = "A board that doesn't answer"
-    OTHER_DEVICE = "A stream for another device"
-    CHECK = "A check fails"
-    FURTHER = "Further faults"
-    NO_SYNC = "No sync word"
-    WAITS = "Startup waits"
-    STARTED = "Phase 7, and the board doesn't run"
-    FALLBACK = "It falls back"
-    NO_FALLBACK = "It doesn't fall back"
-    PARTIAL = "A partial stream that is damaged"
 
 
 class Reading(NamedTuple):
@@ -119,6 +104,8 @@ def reading_of_ctl0(word: int) -> Reading:
     """What CTL0 says (UG470, control register 0), the first that holds."""
     if word >> 6 & 1:
         return Reading("the stream is encrypted", Section.FURTHER)
+    if not word & 1:
+        return Reading("all outputs are off (GTS_USER_B is 0), though startup ends", Section.STARTED)
     if word >> 5 & 1:
         return Reading("frames may not be written any more: a partial stream changes nothing", Section.PARTIAL)
     if word >> 10 & 1:

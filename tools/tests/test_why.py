@@ -84,7 +84,7 @@ BAD = [
     ("AGHIGH after startup", [RAW, s.data_of(["sync", *s.command("AGHIGH"), *s.command("DESYNC")])], "GHIGH_B is 0"),
     ("full, then IPROG", [RAW, s.data_of(["sync", "write WBSTAR 1", "data 00400000", *s.command("IPROG")])], r"it starts \(phase 7\), and then the stream leads on to flash address 00400000"),
     ("SBITS, then a partial one", [s.bit(s.replaced(FULL, "data 00000501", "data 00000521", 3)), s.bit(PARTIAL)], "SBITS 1x"),
-    ("a watchdog", [s.bit(s.with_data(FULL, "TIMER", "40000010"))], "the watchdog fires: startup hasn't ended 64 bytes"),
+    ("a watchdog", [s.bit(s.with_data(FULL, "TIMER", "40000010"))], "the watchdog fires before startup has ended"),
     ("full and a damaged partial", [RAW, flipped(s.bit(PARTIAL), HEADER + 180)], "s1.bit: it runs .phase 7., but after startup a fault came: a check fails"),
     ("partial and a damaged full", [s.bit(PARTIAL), flipped(RAW, HEADER + FDRI + 40)], "s1.bit: a check fails"),
     ("damaged full and partial", [flipped(RAW, HEADER + FDRI + 40), s.bit(PARTIAL)], "s0.bit: a check fails"),
@@ -153,13 +153,13 @@ def table(cases, status):
     """Each case alone, and with its part where x7 is at hand."""
     for name, raws, *pattern in cases:
         pattern, paths = pattern[0] if pattern else GOOD, files_of(raws)
-        asked(name, paths, pattern, status)
+        asked(name, ["--alone", *paths], pattern, status)
         if program() and all(raws):
             part = in_file(s.PART.encode(), "small.part")
             asked(f"{name}, played", ["--part", part, *paths], pattern, status)
         lists = lists_of(paths, raws)
         if all(os.path.getsize(it) for it in lists) and not re.search("empty|boot image|it is damaged|packets follow", pattern):
-            asked(f"{name}, listed", lists, pattern, status)
+            asked(f"{name}, listed", ["--alone", *lists], pattern, status)
 
 
 def report_text(device, end="searching", extra=()):
@@ -178,7 +178,7 @@ def with_reports():
     good, other = Device(s.IDCODE).play(DATA), s.data_of(s.with_data(FULL, "COR0", "02003EE5"))
     report = in_file(report_text(good).encode(), "good.report")
     full, cut, two = in_file(RAW, "full.bit"), in_file(RAW[:-3000], "cut.bit"), in_file(other, "other.bin")
-    asked("a report", [full, report], "^it starts: phase 7\nnext: .*why --stat W\nread on: BOARD, Phase 7", 0)
+    asked("a report", [full, report], "^it starts: phase 7; 7a35tcpg236 of 2026/11/29 10:00:00\nnext: .*why --stat W\nread on: BOARD, Phase 7", 0)
     asked("a report of a longer stream", [cut, report], "the report is of other streams than these: it took", 1)
     asked("a report of another stream", [two, report], "the report is of other streams than these: it has COR0", 1)
     asked("a report of one of two", [full, full, report], "the report is of other streams than these", 1)

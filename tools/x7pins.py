@@ -1,0 +1,184 @@
+"""What wires do to a stream, told by its known beginning (words FFFFFFFF, then the sync word AA995566) and by what
+holds of every byte: data lines that are stuck, exchanged, inverted or joined, address lines that are stuck, and half
+of a bus. python3 (3.8) and its library alone."""
+from __future__ import annotations
+
+from itertools import combinations
+from typing import Iterator, List, NamedTuple, Optional
+
+import x7formats as x7
+import x7kinds
+
+# how many of its first bytes a file is searched in for its beginning, and judged by
+SEARCHED, JUDGED = 4096, 65536
+# what stands right before a sync word, as bytes, in every stream that is known
+LEAD = b"\xff" * 8
+# fewer values of a byte than this tell nothing of wires
+FEWEST_VALUES = 5
+# The fewest bytes that tell of stuck address lines.
+FEWEST_BYTES = 256
+# What remains of the bus width pattern, and of a sync word and its no-op, where every second byte, or halfword, is
+# missing.
+HALVES = [
+    ("byte", ("00001100FFFFFFFFAA55", "00BB2244FFFFFFFF9966", "FFFFFFFFAA552000", "FFFFFFFF99660000")),
+    ("halfword", ("00001122FFFFFFFFAA99", "00BB0044FFFFFFFF5566", "FFFFFFFFAA992000", "FFFFFFFF55660000")),
+]  # fmt: skip
+
+
+class Wires(NamedTuple):
+    """What wires did."""
+
+    text: str  # as a sentence without its point
+    remedy: str
+
+
+def listed(bits: List[int]) -> str:
+    """Bits as a text."""
+    if len(bits) == 1:
+        return f"bit {bits[0]}"
+    return f"bits {', '.join(map(str, bits[:-1]))} and {bits[-1]}"
+
+
+def verb(bits: List[int]) -> str:
+    """What is said of one or more bits."""
+    return "is" if len(bits) == 1 else "are"
+
+
+def has_beginning(data: bytes, turn: bytes) -> bool:
+    """Whether the known beginning, each byte turned by a table, stands in the first bytes of data."""
+    return (LEAD + x7.SYNC).translate(turn) in data[:SEARCHED]
+
+
+def table_of(keep: int, put: int) -> bytes:
+    """The table of bytes of which some bits are kept, and others put in."""
+    return bytes(byte & keep | put for byte in range(256))
+
+
+def stuck(data: bytes) -> Optional[Wires]:
+    """Data lines that are the same in every byte, or none."""
+    values = set(data)
+    ones, zeros = 0, 255
+    for value in values:
+        ones, zeros = ones | value, zeros & value
+    if len(values) < FEWEST_VALUES or (ones == 255 and not zeros) or not has_beginning(data, table_of(ones, zeros)):
+        return None
+    low = [bit for bit in range(8) if not ones >> bit & 1]
+    high = [bit for bit in range(8) if zeros >> bit & 1]
+    said = [f"{listed(it)} of each byte {verb(it)} always {to}" for it, to in ((low, 0), (high, 1)) if it]
+    bits = sorted(low + high)
+    lines = "a data line is stuck" if len(bits) == 1 else "data lines are stuck"
+    if len(bits) == 2 and bits[1] - bits[0] == 4:
+        lines = "a line of a bus of four is stuck"
+    return Wires(f"{' and '.join(said)}: {lines}", "look at that line: a short, an open pin, another driver")
+
+
+def joined(data: bytes) -> Optional[Wires]:
+    """Two data lines that carry the same bits in every byte, or none."""
+    values = set(data)
+    if len(values) < FEWEST_VALUES:
+        return None
+    for one, other in combinations(range(8), 2):
+        if any((it >> one ^ it >> other) & 1 for it in values):
+            continue
+        both = 1 << one | 1 << other
+        drives = (
+            lambda it: it >> one & it >> other & 1,
+            lambda it: (it >> one | it >> other) & 1,
+            lambda it: it >> one & 1,
+            lambda it: it >> other & 1,
+        )
+        for drive in drives:
+            table = bytes(byte & ~both | both * drive(byte) for byte in range(256))
+            if has_beginning(data, table):
+                text = (
+                    f"bits {one} and {other} of each byte are always the same: two data lines are joined, or one "
+                    "is read twice"
+                )
+                return Wires(text, "look at these two lines for a short")
+    return None
+
+
+def swaps() -> Iterator[List[int]]:
+    """Two lines of eight that are exchanged, and two of four: the pairs of bits."""
+    for one, other in combinations(range(8), 2):
+        yield [one, other]
+    for one, other in combinations(range(4), 2):
+        yield [one, other, one + 4, other + 4]
+
+
+def swap_table(pairs: List[int]) -> bytes:
+    """The table of bytes with bits exchanged, by pairs."""
+    found = []
+    for byte in range(256):
+        for one, other in zip(pairs[::2], pairs[1::2]):
+            differs = (byte >> one ^ byte >> other) & 1
+            byte ^= differs << one | differs << other
+        found.append(byte)
+    return bytes(found)
+
+
+def exchanged(data: bytes) -> Optional[Wires]:
+    """Two data lines that are exchanged, or none."""
+    for pairs in swaps():
+        table = swap_table(pairs)
+        if has_beginning(data, table) and x7kinds.reads(data[:JUDGED].translate(table)):
+            lines = " and ".join(f"bits {one} and {other}" for one, other in zip(pairs[::2], pairs[1::2]))
+            of_four = ": two lines of a bus of four" if len(pairs) == 4 else ": two data lines"
+            return Wires(f"{lines} of each byte are exchanged{of_four}", "exchange these two lines")
+    return None
+
+
+def inverted(data: bytes) -> Optional[Wires]:
+    """Data lines that are inverted, one of eight or of four, or none."""
+    for bits in [[bit] for bit in range(8)] + [[bit, bit + 4] for bit in range(4)]:
+        mask = sum(1 << bit for bit in bits)
+        table = bytes(byte ^ mask for byte in range(256))
+        if has_beginning(data, table) and x7kinds.reads(data[:JUDGED].translate(table)):
+            are = "is" if len(bits) == 1 else "are"
+            return Wires(f"{listed(bits)} of each byte {are} inverted: a data line", "look at that line")
+    return None
+
+
+def half(data: bytes) -> Optional[Wires]:
+    """Every second byte, or halfword, of a stream, or none."""
+    for what, patterns in HALVES:
+        if any(bytes.fromhex(it) in data[:SEARCHED] for it in patterns):
+            text = (
+                f"every second {what} of a stream stands in it alone, as in one of two flashes, or where half of "
+                "a bus is read"
+            )
+            return Wires(text, "read the other half too, and put both together")
+    return None
+
+
+def is_repeated(data: bytes, size: int) -> bool:
+    """Whether each second block of this size repeats the one before; bytes of no whole pair don't count."""
+    pairs = len(data) // (2 * size)
+    if size <= 16:
+        whole = data[: 2 * size * pairs]
+        return all(whole[at :: 2 * size] == whole[at + size :: 2 * size] for at in range(size))
+    return all(data[at : at + size] == data[at + size : at + 2 * size] for at in range(0, 2 * size * pairs, 2 * size))
+
+
+def repeated(data: bytes) -> Optional[Wires]:
+    """Blocks each of which stands twice, in all of the data, or none."""
+    size = 1
+    while len(data) >= FEWEST_BYTES and 2 * size <= len(data):
+        if is_repeated(data, size) and len(set(data)) >= FEWEST_VALUES:
+            what = "byte" if size == 1 else f"block of {size} bytes"
+            if 4 * size > len(data):
+                return Wires(
+                    f"the {size} bytes from byte {size} on repeat those before them", "give the first half alone",
+                )
+            text = (
+                f"each {what} stands twice, as where an address line is stuck, and every second {what} may be "
+                "missing"
+            )
+            return Wires(text, "look at that address line, or at how the file was read")
+        size *= 2
+    return None
+
+
+def wires_of(data: bytes) -> Optional[Wires]:
+    """What wires did to a stream that has no sync word, or none."""
+    return repeated(data) or stuck(data) or joined(data) or exchanged(data) or inverted(data) or half(data)

@@ -1,0 +1,84 @@
+"""The watchdog of a stream, judged by seconds. x7's watchdog counts bytes, a device's counts time: so a stream that x7
+ends by its watchdog may start on a board, and another one may not. python3 (3.8) and its library alone."""
+from __future__ import annotations
+
+from typing import List, Optional
+
+import x7formats as x7
+from x7cause import Cause, Kind, Section
+from x7subject import Source, Subject
+from x7times import CFG_MON, Verdict, Watch, watch
+
+BSPI = x7.NUMBERS["BSPI"]
+# the verdicts by which the watchdog fires where x7's does
+TOO_SHORT = (Verdict.SHORT, Verdict.DOUBTFUL)
+REMEDY = "give TIMER a larger number, or write LTIMER now and then"
+
+
+def end_of_startup(source: Source) -> int:
+    """The place in the data of a stream where startup ends, four bytes a phase after the last DESYNC; else its end."""
+    begun = source.alone.begun
+    return min(begun + 32, len(source.data)) if begun is not None else len(source.data)
+
+
+def last_word(source: Source, register: int) -> int:
+    """The last word that a stream writes to a register; 0 where it writes none."""
+    return next((it.word for it in reversed(source.writes(register))), 0)
+
+
+def watch_of(source: Source) -> Optional[Watch]:
+    """The last watchdog that a stream arms, beside the load of what follows, or none."""
+    armed = [it for it in source.writes(x7.TIMER) if it.word & CFG_MON]
+    if not armed:
+        return None
+    left = end_of_startup(source) - (armed[-1].after - source.first)
+    return watch(armed[-1].word, left, last_word(source, x7.COR0), last_word(source, BSPI))
+
+
+def is_reported(subject: Subject) -> bool:
+    """Whether a report ends by the watchdog."""
+    return subject.report is not None and subject.report.end[:2] == ["fault", "Watchdog"]
+
+
+def cause_of_watchdog(subject: Subject) -> Optional[Cause]:
+    """The cause where a watchdog fires before the load ends, or none: surely, or where a report ends by it, at nominal
+    clocks."""
+    for source in subject.sources:
+        found = watch_of(source)
+        short = TOO_SHORT if is_reported(subject) else TOO_SHORT[:1]
+        if found and found.verdict in short:
+            count = 4 * (source.writes(x7.TIMER)[-1].word & CFG_MON - 1)
+            how = "" if not is_reported(subject) else f" (x7's, {count} bytes after the write to TIMER)"
+            text = f"the watchdog fires before startup has ended{how}: {found.text}"
+            after = subject.fate.taken if is_reported(subject) else source.writes(x7.TIMER)[-1].after
+            return Cause(Kind.WATCHDOG, text, REMEDY, Section.WATCHDOG, after, source)
+    return None
+
+
+def notes_of_watchdog(subject: Subject) -> List[str]:
+    """What is worth saying of a watchdog that isn't the cause."""
+    notes = []
+    for source in subject.sources:
+        found = watch_of(source)
+        if found and is_reported(subject) and found.verdict not in TOO_SHORT:
+            notes.append(f"x7's watchdog counts bytes, and fires; a board's counts time, and may not: {found.text}")
+        elif found and found.verdict in (Verdict.DOUBTFUL, Verdict.CLOSE):
+            notes.append(f"the watchdog may fire before startup has ended: {found.text}")
+    return notes
+
+
+def is_long_enough(source: Source) -> bool:
+    """Whether a stream arms a watchdog that is long enough at nominal clocks."""
+    found = watch_of(source)
+    return found is not None and found.verdict in (Verdict.ENOUGH, Verdict.CLOSE)
+
+
+def disarmed(data: bytes) -> bytes:
+    """The data with CFG_MON 0 in each word of TIMER. Checks that held hold, and the places of all words stay."""
+    held = [it.place for it in x7.checks_of(data) if it.check == it.word]
+    new = bytearray(data)
+    for step in x7.steps(data):
+        if step.kind == "write" and step.register == x7.TIMER:
+            for at in range(step.first, step.end, 4):
+                new[at : at + 4] = (x7.word_at(data, at) & ~CFG_MON).to_bytes(4, "big")
+    return x7.with_checks(bytes(new), held)
