@@ -45,6 +45,9 @@ def check_readme(bench: Bench, command: str, text: bytes, count: int) -> None:
 
 with tempfile.TemporaryDirectory() as folder:
     bench = Bench(folder)
+    figure = "ten minutes to half an hour, and more on slower machines"
+    has_it = [it for it in ("README.md", "x7") if figure in text_of(it)]
+    bench.tally.same("README and ./x7 say how long a build takes", has_it, ["README.md", "x7"])
     check_readme(bench, "./x7 list examples/first.bin", example("first.list"), 5)
     check_readme(bench, "./x7 play examples/tiny.part examples/first.bin", example("first.report"), 4)
     if X7:

@@ -10,7 +10,7 @@ import os
 import sys
 import tempfile
 
-from casefiles import TOP, Tally, put_file
+from casefiles import TOP, Tally, put_file, text_of
 from calls import called
 import runs
 import streams as s
@@ -28,6 +28,8 @@ LENGTHS = {
 }  # fmt: skip
 PACKAGE = os.environ.get("OPENFPGALOADER") or "/usr/share/openFPGALoader"
 MAKE = os.path.join(TOP, "parts", "make")
+# The stream that stands for a user's own in README.
+SHOWN = "spiOverJtag_xc7a35tcsg324.bit"
 
 tally = Tally()
 
@@ -114,6 +116,9 @@ def of_the_package(folder: str) -> None:
             came = runs.run(folder, [runs.X7, "play", part, stream])
             is_started = came.status == 0 and b"\nphase 7 done 1 gts 1 gwe 1\n" in came.out
             tally.check(f"{os.path.basename(stream)} starts on {os.path.basename(part)}", is_started, came.out[:200])
+            if os.path.basename(stream) == SHOWN:
+                lines = "".join(f"    {line}\n" for line in came.out.decode().splitlines()[:4])
+                tally.check("README shows its play", f" design.bit\n{lines}    ..\n" in text_of("README.md"), lines)
 
 
 with tempfile.TemporaryDirectory() as place:
