@@ -15,8 +15,8 @@ class Given(NamedTuple):
 
     # the words that are no options, in their order
     words: list[str]
-    # the value of each option that is given, by its name without dashes; empty where it takes none
-    options: dict[str, str]
+    # the values of each option that is given, by its name without dashes, in their order; empty where it takes none
+    options: dict[str, list[str]]
 
     def has(self, name: str) -> bool:
         """Whether an option is given."""
@@ -24,13 +24,24 @@ class Given(NamedTuple):
 
     def value(self, name: str) -> str | None:
         """The value of an option, or none where it isn't given."""
-        return self.options.get(name)
+        values = self.values(name)
+        return values[0] if values else None
+
+    def values(self, name: str) -> list[str]:
+        """The values of an option that may stand more than once."""
+        return self.options.get(name, [])
 
 
-def given(words: Sequence[str], forms: Sequence[str], valued: Sequence[str] = (), plain: Sequence[str] = ()) -> Given:
-    """What the words of a command line give, of a tool with these options: such that take a value, and such that take
-    none. Any other option, one without its value and one that stands twice are refused; `forms` are what the tool
-    takes, for the line that says so."""
+def given(
+    words: Sequence[str],
+    forms: Sequence[str],
+    valued: Sequence[str] = (),
+    plain: Sequence[str] = (),
+    many: Sequence[str] = (),
+) -> Given:
+    """What the words of a command line give, of a tool with these options: such that take a value, such that take none,
+    and such that take a value and may stand more than once. Any other option, one without its value and one that
+    stands twice are refused; `forms` are what the tool takes, for the line that says so."""
     rest, found = list(words), Given([], {})
     while rest:
         word = rest.pop(0)
@@ -41,15 +52,16 @@ def given(words: Sequence[str], forms: Sequence[str], valued: Sequence[str] = ()
             found.words.append(word)
             continue
         name, is_joined, value = word[2:].partition("=")
-        if not word.startswith("--") or name not in (*valued, *plain) or name in plain and is_joined:
+        if not word.startswith("--") or name not in (*valued, *plain, *many) or name in plain and is_joined:
             raise usage(*forms)
-        if name in found.options:
+        if name in found.options and name not in many:
             raise Refused(f"--{name} stands twice")
-        if name in valued and not is_joined:
+        if name not in plain and not is_joined:
             if not rest:
                 raise usage(*forms)
             value = rest.pop(0)
-        found.options[name] = value
+        values = found.options.setdefault(name, [])
+        values += [] if name in plain else [value]
     return found
 
 

@@ -18,9 +18,9 @@ tally = Tally()
 
 
 def taken(words: str) -> tuple[list[str], dict[str, str]]:
-    """What words give, of a tool that takes `--part P`, `--size N` and `--bits`."""
-    them = given(words.split(" "), FORMS, valued=["part", "size"], plain=["bits"])
-    return them.words, them.options
+    """What words give, of a tool that takes `--part P`, `--size N`, `--bits` and several `--header N`; of these all."""
+    them = given(words.split(" "), FORMS, valued=["part", "size"], plain=["bits"], many=["header"])
+    return them.words, {name: " ".join(values) for name, values in them.options.items()}
 
 
 def refused(words: str) -> str:
@@ -37,6 +37,7 @@ def places() -> None:
     for words in ("--part p a b", "a --part p b", "a b --part p", "--part=p a b", "a --part=p b", "a b --part=p"):
         tally.same(words, taken(words), (["a", "b"], {"part": "p"}))
     tally.same("two options", taken("--bits a --size=3 b"), (["a", "b"], {"bits": "", "size": "3"}))
+    tally.same("several", taken("--header 4 a --header=6"), (["a"], {"header": "4 6"}))
     tally.same("a value with '='", taken("--part=a=b c"), (["c"], {"part": "a=b"}))
     tally.same("an empty value", taken("--part= c"), (["c"], {"part": ""}))
     tally.same("a value that looks like an option", taken("--part --bits"), ([], {"part": "--bits"}))
