@@ -81,7 +81,7 @@ def text_of(*path: str) -> str:
 
 def troff(text: str) -> str:
     """A text of a page for troff: what stands in backticks bold, and of a link its text."""
-    text = re.sub(r"\[([^][]*)\]\([^)]*\)", r"\1", text).replace("\\", r"\e").replace("-", r"\-")
+    text = re.sub(r"\[([^][]*)\]\([^)]*\)", r"\1", text).replace(r"\|", "|").replace("\\", r"\e").replace("-", r"\-")
     text = re.sub(r"`([^`]*)`", r"\\fB\1\\fR", text)
     return re.sub(r"^([.'])", r"\\&\1", text, flags=re.M)
 

@@ -48,11 +48,11 @@ def given(
         if word == END:
             found.words.extend(rest)
             break
-        if not word.startswith("-") or word == STANDARD_INPUT:
+        if not word.startswith("--"):
             found.words.append(word)
             continue
         name, is_joined, value = word[2:].partition("=")
-        if not word.startswith("--") or name not in (*valued, *plain, *many) or name in plain and is_joined:
+        if name not in (*valued, *plain, *many) or name in plain and is_joined:
             raise usage(*forms)
         if name in found.options and name not in many:
             raise Refused(f"--{name} stands twice")

@@ -72,7 +72,7 @@ def manual(place: str) -> None:
     tools = sorted({it for row in rows for it in re.findall(r"\\fBx7-(\w+)", row)})
     tally.same("the tools of the manual page", tools, [it for it in tool_names() if it not in STAY])
     for tool in tools:
-        named = {it for row in rows if rf"\fBx7-{tool}" in row for it in re.findall(OPTION, row)}
+        named = {it for row in rows if re.search(rf"\\fBx7-{tool}\b", row) for it in re.findall(OPTION, row)}
         came = subprocess.run([sys.executable, os.path.join(TOP, "tools", tool), "--help"], stdout=subprocess.PIPE)
         wanted = set(re.findall(OPTION, came.stdout.decode())) - {"--help"}
         tally.same(f"the options of {tool} in the manual page", named, wanted)

@@ -42,14 +42,15 @@ def places() -> None:
     tally.same("an empty value", taken("--part= c"), (["c"], {"part": ""}))
     tally.same("a value that looks like an option", taken("--part --bits"), ([], {"part": "--bits"}))
     tally.same("'--' ends the options", taken("--bits -- --part -x"), (["--part", "-x"], {"bits": ""}))
+    tally.same("one dash is a word", taken("-p a -1:b"), (["-p", "a", "-1:b"], {}))
     tally.same("'-' is a word", taken("- --part -"), (["-"], {"part": "-"}))
 
 
 def wrong() -> None:
     """Words that are refused."""
-    for words in ("--other a", "-p a", "-bits a", "a --part", "--bits=1 a", "--", "--=p"):
+    for words in ("--other a", "a --part", "--bits=1 a", "--=p"):
         said = refused(words)
-        is_so = said.startswith("usage: ") and said.count(" --help says more") == 1 if words != "--" else not said
+        is_so = said.startswith("usage: ") and said.count(" --help says more") == 1
         tally.check(f"{words} is refused", is_so, said)
     tally.same("an option twice", refused("--part p --part=q"), "--part stands twice")
 
