@@ -45,9 +45,9 @@ def pages(place: str) -> None:
         links = re.findall(r"\]\(([^)]*)\)", text)
         tally.check(f"{page} has links", links or page == "CHANGELOG.md", text[:80])
         for link in links:
-            file, _, section = (page + link if link.startswith("#") else link).partition("#")
-            is_so = link.startswith("https:") or os.path.isfile(os.path.join(place, file))
-            is_so = is_so and (not section or section in sections(texts[file]))
+            target, _, section = (page + link if link.startswith("#") else link).partition("#")
+            is_so = link.startswith("https:") or os.path.isfile(os.path.join(place, target))
+            is_so = is_so and (not section or section in sections(texts[target]))
             tally.check(f"{page}: the link {link} leads somewhere", is_so)
     first = texts["README.md"].partition("## Where to go on")[0]
     tally.check("README names the tools as they are called", "$ x7-why " in first and "tools/" not in first, first)

@@ -7,7 +7,7 @@ import subprocess
 import sys
 import tempfile
 
-from casefiles import TOOLS, Tally, put_file
+from casefiles import TOOLS, Tally
 import streams as s
 from x7options import given
 from x7run import Refused, asks_help
@@ -62,25 +62,28 @@ def helps() -> None:
         tally.same(f"help in '{words}'", asks_help(words.split()), is_so)
 
 
+def piped(words: list[str], data: bytes, folder: str) -> subprocess.CompletedProcess[bytes]:
+    """A run of a tool that gets data through a pipe, with a folder for its temporary files."""
+    where = {**os.environ, "TMPDIR": folder}
+    words = [sys.executable, os.path.join(TOOLS, words[0]), *words[1:]]
+    return subprocess.run(words, input=data, stdout=subprocess.PIPE, stderr=subprocess.PIPE, env=where)
+
+
 def standard_input(folder: str) -> None:
     """A stream that comes through a pipe, and one that is named twice."""
-    path, out = put_file(folder, "small.bit", s.bit(s.compressed())), os.path.join(folder, "small.part")
-    how_each = {"capture_output": True, "env": {**os.environ, "TMPDIR": os.path.join(folder, "temporary")}}
-    os.mkdir(os.path.join(folder, "temporary"))
-    with open(path, "rb") as file:
-        data = file.read()
-    for words, how in ((["-", out], {"input": data}), (["-", "-", "small"], {"input": data})):
-        done = subprocess.run([sys.executable, os.path.join(TOOLS, "part"), *words], **how_each, **how)
-        tally.check(f"part {words}", done.returncode == 0 and b"3 rows, 25 frames" in done.stderr, done.stderr)
-        text = done.stdout.decode()
+    data, out, temporary = s.bit(s.compressed()), os.path.join(folder, "small.part"), os.path.join(folder, "temporary")
+    os.mkdir(temporary)
+    for words in (["part", "-", out], ["part", "-", "-", "small"]):
+        done = piped(words, data, temporary)
+        tally.check(f"{words}", done.returncode == 0 and b"3 rows, 25 frames" in done.stderr, done.stderr)
     with open(out, encoding="ascii") as file:
-        tally.same("a part file of standard output", text.replace("small", "7a35tcpg236"), file.read())
-    done = subprocess.run([sys.executable, os.path.join(TOOLS, "part"), "-", out], input=data[:99], **how_each)
+        tally.same("standard output", done.stdout.decode().replace("small", "7a35tcpg236"), file.read())
+    done = piped(["part", "-", out], data[:99], temporary)
     is_so = done.returncode == 2 and done.stderr.startswith(b"part: -: its header tells of ")
     tally.check("standard input that is cut", is_so, done.stderr)
-    done = subprocess.run([sys.executable, os.path.join(TOOLS, "frames"), "differ", "-", "-"], input=b"x", **how_each)
+    done = piped(["frames", "differ", "-", "-"], b"x", temporary)
     tally.check("standard input twice", done.returncode == 2 and b"(-) is named twice" in done.stderr, done.stderr)
-    tally.same("no copy is left", os.listdir(os.path.join(folder, "temporary")), [])
+    tally.same("no copy is left", os.listdir(temporary), [])
 
 
 places()

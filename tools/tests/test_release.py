@@ -36,8 +36,8 @@ def shown_commands(page: str) -> list[tuple[str, list[str]]]:
 def is_shown(shown: list[str], came: list[str]) -> bool:
     """Whether lines came as they are shown; how many bytes of a user's own design were taken may differ."""
     lines = shown[:-1] if shown[-1:] == [".."] else shown
-    of_no_count = [re.sub(r"^taken \d+$", "taken", it) for it in came[: len(lines)]]
-    return of_no_count == [re.sub(r"^taken \d+$", "taken", it) for it in lines] and (".." in shown or len(came) == len(shown))
+    first, wanted = ([re.sub(r"^taken \d+$", "taken", it) for it in them] for them in (came[: len(lines)], lines))
+    return first == wanted and (len(lines) < len(shown) or len(came) == len(shown))
 
 
 def made(folder: str) -> str:
@@ -78,8 +78,10 @@ def check_sums(place: str) -> None:
     wrong = [it for it in listed if hashlib.sha256(open(plain[it], "rb").read()).hexdigest() != listed[it]]
     tally.same("files with another sum", wrong, [])
     proved = open(os.path.join(place, "PROVED"), encoding="utf-8").read()
-    tally.check("PROVED has the commit and the kit", re.search(r"(?m)^commit [0-9a-f]{40}\b.*\nkit \S+ ", proved), proved)
-    tally.check("PROVED says whose program it is", "given by X7" in proved or "proved and built by ./build" in proved, proved)
+    is_so = re.search(r"(?m)^commit [0-9a-f]{40}\b.*\nkit \S+ ", proved) is not None
+    tally.check("PROVED has the commit and the kit", is_so, proved)
+    is_so = "given by X7" in proved or "proved and built by ./build" in proved
+    tally.check("PROVED says whose program it is", is_so, proved)
 
 
 def first_screen(place: str, home: str) -> None:
@@ -97,15 +99,17 @@ def first_screen(place: str, home: str) -> None:
     commands = shown_commands(open(os.path.join(pages, "README.md"), encoding="utf-8").read())
     tally.check("README shows commands", len(commands) >= 5 and any("design.bit" in it for it, _ in commands), commands)
     for command, shown in commands:
-        how = {"stdin": subprocess.DEVNULL, "stdout": subprocess.PIPE, "stderr": subprocess.STDOUT}
-        came = subprocess.run(["/bin/sh", "-c", command], cwd=work, env=own, check=False, **how).stdout.decode()
+        words, out = ["/bin/sh", "-c", command], subprocess.PIPE
+        done = subprocess.run(words, cwd=work, env=own, stdin=subprocess.DEVNULL, stdout=out, stderr=subprocess.STDOUT)
+        came = done.stdout.decode()
         tally.check(command, is_shown(shown, came.splitlines()), came[:400])
 
 
 with tempfile.TemporaryDirectory() as name:
-    for words in ([], ["a", "b"], ["--other", "a"]):
-        refused = run(name, [RELEASE, *words])
-        tally.same(f"release {words}", (refused.status, refused.err.count(b"\n"), refused.out), (2, 1, b""))
+    wrong: list[list[str]] = [[], ["a", "b"], ["--other", "a"]]
+    for given in wrong:
+        refused = run(name, [RELEASE, *given])
+        tally.same(f"release {given}", (refused.status, refused.err.count(b"\n"), refused.out), (2, 1, b""))
     if not X7:
         tally.skip("a release: x7 isn't built")
     elif not shutil.which("rt") or not shutil.which("git"):
