@@ -34,9 +34,11 @@ def shown_commands(page: str) -> list[tuple[str, list[str]]]:
 
 
 def is_shown(shown: list[str], came: list[str]) -> bool:
-    """Whether lines came as they are shown; how many bytes of a user's own design were taken may differ."""
+    """Whether lines came as they are shown; how many bytes of a user's own design were taken, and its date, may
+    differ."""
     lines = shown[:-1] if shown[-1:] == [".."] else shown
-    first, wanted = ([re.sub(r"^taken \d+$", "taken", it) for it in them] for them in (came[: len(lines)], lines))
+    own = r"(?<=^taken )\d+$|(?<= of )[0-9/]{10} [0-9:]{8}$"
+    first, wanted = ([re.sub(own, "", it) for it in them] for them in (came[: len(lines)], lines))
     return first == wanted and (len(lines) < len(shown) or len(came) == len(shown))
 
 
