@@ -1,9 +1,9 @@
-"""How long a device takes to read a stream from an SPI flash, and how long its watchdog waits, in seconds. python3 (3.8)
-and its library alone.
+"""How long a device takes to read a stream from an SPI flash, and how long its watchdog waits, in seconds. python3
+(3.8) and its library alone.
 
-Clocks are known at their nominal rates, and each may be slower or faster by a half: the data sheets of the family give 50 %
-for both. So a time is a `Seconds`, with the least and the most that it may be. `watch` compares the watchdog's time with
-that of a load.
+Clocks are known at their nominal rates, and each may be slower or faster by a half: the data sheets of the family
+give 50 % for both. So a time is a `Seconds`, with the least and the most that it may be. `watch` compares the
+watchdog's time with that of a load.
 """
 from __future__ import annotations
 
@@ -12,7 +12,8 @@ from typing import NamedTuple, Optional
 
 # The rates of CCLK in MHz that the vendor's tool offers (UG908, BITSTREAM.CONFIG.CONFIGRATE).
 RATES = (3, 6, 9, 12, 16, 22, 26, 33, 40, 50, 66)
-# The rate of CCLK as power comes, and the most that a device takes, also of an external clock (data sheets of the family).
+# The rate of CCLK as power comes, and the most that a device takes, also of an external clock (data sheets of the
+# family).
 POWER_UP_RATE, MOST_RATE = 3, 100
 # How far a clock of the device may be off, as a part of its nominal rate (data sheets of the family).
 TOLERANCE = 0.5
@@ -52,8 +53,8 @@ class Watch(NamedTuple):
 def rate_of(cor0: int) -> Optional[int]:
     """The nominal rate of CCLK in MHz that OSCFSEL of COR0 asks for, or none where the code isn't known.
 
-    No guide lists the codes. Seen in streams of the vendor's tool are 0, of its default of 3 MHz, and 33. So a code that
-    is one of the vendor's rates is read as that rate (this project's reading).
+    No guide lists the codes. Seen in streams of the vendor's tool are 0, of its default of 3 MHz, and 33. So a code
+    that is one of the vendor's rates is read as that rate (this project's reading).
     """
     code = cor0 >> 17 & 0x3F
     if code == 0:
@@ -81,7 +82,8 @@ def has_long_address(bspi: int) -> bool:
 
 
 def load_seconds(byte_count: int, cor0: int = 0, bspi: int = 0) -> Seconds:
-    """How long a device of mode 1, master SPI, reads so many bytes of a flash at the clock of COR0 and on the lines of BSPI.
+    """How long a device of mode 1, master SPI, reads so many bytes of a flash at the clock of COR0 and on the lines
+    of BSPI.
 
     Without both it is the time as power comes: one line, 3 MHz. Since no field that is known tells of an external clock
     (BITSTREAM.CONFIG.EXTMASTERCCLK_EN), `least` counts the fastest clock that a device takes.
@@ -101,7 +103,9 @@ def timer_seconds(timer: int) -> Optional[Seconds]:
 
 def shown(seconds: float) -> str:
     """A time as a text: two digits that count, in seconds, or whole ones from ten on."""
-    return f"{seconds:.0f} s" if seconds >= 9.95 else f"{seconds:#.2g} s" if seconds >= 0.001 else f"{seconds * 1000:#.2g} ms"
+    if seconds < 0.001:
+        return f"{seconds * 1000:#.2g} ms"
+    return f"{seconds:.0f} s" if seconds >= 9.95 else f"{seconds:#.2g} s"
 
 
 def clock_text(cor0: int, bspi: int) -> str:

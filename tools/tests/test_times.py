@@ -17,12 +17,15 @@ def near(name: str, came: float, wanted: float) -> None:
 
 def fields() -> None:
     """Rates, lines and opcodes of words."""
-    for word, rate in ((DEFAULT, 3), (FAST, 33), (0x02003FE5 | 50 << 17, 50), (0x02003FE5 | 2 << 17, None), (0x02003FE5 | 63 << 17, None)):
+    for code, rate in ((0, 3), (33, 33), (50, 50), (2, None), (63, None)):
+        word = DEFAULT | code << 17
         TALLY.same(f"rate of {word:08X}", times.rate_of(word), rate)
     for word, lines in ((0, 1), (ONE_LINE, 1), (0x13B, 2), (FOUR_LINES, 4), (0x36B, 4)):
         TALLY.same(f"lines of {word:08X}", times.lines_of(word), lines)
-    for word, is_long in ((0, False), (3, False), (0x0B, False), (0x6B, False), (0x13, True), (0x0C, True), (0x13C, True), (0x26C, True)):
-        TALLY.same(f"32 address bits of {word:08X}", times.has_long_address(word), is_long)
+    for word in (0, 0x03, 0x0B, 0x13B, 0x26B):
+        TALLY.same(f"24 address bits of {word:08X}", times.has_long_address(word), False)
+    for word in (0x13, 0x0C, 0x13C, 0x26C):
+        TALLY.same(f"32 address bits of {word:08X}", times.has_long_address(word), True)
 
 
 def loads() -> None:
@@ -63,7 +66,8 @@ def verdicts() -> None:
         (0x40001556, FAST, FOUR_LINES, Verdict.SHORT),
         (0x40001600, FAST, FOUR_LINES, Verdict.DOUBTFUL),
     ):
-        TALLY.same(f"TIMER {timer:08X} beside COR0 {cor0:08X}, BSPI {bspi:08X}", times.watch(timer, BYTES, cor0, bspi).verdict, verdict)
+        found = times.watch(timer, BYTES, cor0, bspi)
+        TALLY.same(f"TIMER {timer:08X} beside COR0 {cor0:08X}, BSPI {bspi:08X}", found.verdict, verdict)
 
 
 def texts() -> None:

@@ -15,6 +15,18 @@ SIZE = 5 * SECTOR
 NO_TEXTS = [""] * 4
 # a header for data of length 0
 EMPTY_HEADER = header(0, *NO_TEXTS)
+BAD_WORDS_OF_CHECKS = (
+    [], ["made.part", "flash"], ["--size", "x", "made.part", "flash", "next"], ["--x7", "/nowhere", "made.part", "flash", "next"],
+    ["nowhere", "flash", "next"], ["made.part", "nowhere", "next"], ["flash", "flash", "next"], ["--none", "made.part", "flash", "next"],
+    ["--end", "made.part", "flash", "next"], ["--end", "00020001", "made.part", "flash", "next"],
+    ["--end", "00010000", "made.part", "flash", "next"], ["--end", "00060000", "made.part", "flash", "next"],
+    ["--end", "end", "made.part", "flash", "next"],
+)  # fmt: skip
+BAD_WORDS_OF_STEPS = (
+    [], ["flash"], ["--page", "flash", "next"], ["--page", "x", "flash", "next"], ["flash", "nowhere"], ["nowhere", "next"],
+    ["flash", "next", "next"], ["--end", "00020001", "flash", "next"], ["--size", "327680", "flash", "next"],
+    ["--start-unit", "2", "flash", "next"], ["--vendor", "--size", "327680", "flash", "next"], ["--vendor", "flash", "next"],
+)  # fmt: skip
 
 
 def make(bench):
@@ -77,27 +89,63 @@ def do_steps(bench, name, stream, *options):
 
 def steps(bench):
     """Several updates one after the other, by each form of the list."""
-    for number, options in enumerate([[], ["--page", "256"], ["--bytes"], ["--bytes", "--page", "100"]]):
+    for number, options in enumerate([[], ["--page", "0"], ["--bytes"], ["--bytes", "--page", "100"]]):
         for stream in ("next", "update"):
             do_steps(bench, f"update {number} {stream}", stream, *options)
         bench.put("flash", bench.get("copy"))
-    paged = steps_of(bench, "--page", "256", "flash", "next")
+    paged = steps_of(bench, "flash", "next")
     sizes = [(int(line.split()[1], 16), int(line.split()[2])) for line in paged if line.startswith("program")]
     bench.tally.check("a program stays in its page", all(place // 256 == (place + size - 1) // 256 for place, size in sizes))
+    bench.tally.same("a page has 256 bytes where none is said", paged, steps_of(bench, "--page", "256", "flash", "next"))
+    bench.tally.same("--page 0 has one program of the stream", [it for it in steps_of(bench, "--page", "0", "flash", "next") if it.startswith("program 00020000")], [f"program 00020000 {len(bench.get('next'))} from 0"])
     bench.put("nothing", b"")
-    do_steps(bench, "an empty stream", "nothing")
-    bench.put("headed", EMPTY_HEADER + bench.get("next"))
+    do_steps(bench, "an empty stream", "nothing", "--any")
+    bench.put("headed", header(len(bench.get("next")), *NO_TEXTS) + bench.get("next"))
     do_steps(bench, "a stream after a header", "headed", "--page", "512")
     bench.put("closed", x7.bytes_of([0]) + bench.get("image")[4:].ljust(SIZE - 4, b"\xff"))
     bench.put("flash", bench.get("closed"))
     do_steps(bench, "no slot is open", "next")
 
 
+def regions(bench):
+    """The first sector in place of the flash gives the same steps; a region with an end gives those of a file that is cut
+    there, of which `x7 update` leaves the same."""
+    bench.put("flash", bench.get("image").ljust(SIZE, b"\xff"))
+    bench.put("first", bench.get("flash")[:SECTOR])
+    bench.tally.same("--size", steps_of(bench, "--size", str(SIZE), "first", "next"), steps_of(bench, "flash", "next"))
+    bench.put("region", bench.get("flash")[: 3 * SECTOR])
+    region = steps_of(bench, "region", "next")
+    bench.tally.same("--end", steps_of(bench, "--end", "00030000", "flash", "next"), region)
+    bench.tally.same("--size with --end", steps_of(bench, "--size", str(SIZE), "--end", "30000", "first", "next"), region)
+    second = bench.get("flash")[: 3 * SECTOR] + bytes(2 * SECTOR)
+    after = bytearray(second)
+    for line in region:
+        bench.tally.check(f"region: {line[:60]}", apply(after, line, bench.get("next")))
+    bench.x7("update", "region", "next")
+    bench.tally.same("what lies after the region stays", bytes(after), bench.get("region") + second[3 * SECTOR :])
+    bench.put("long", bytes(2 * SECTOR))
+    bench.refuses("flash_steps", "--any", "--end", "00030000", "flash", "long", what="--end 00030000")
+    bench.refuses("flash_steps", "--any", "--size", str(3 * SECTOR), "first", "long", what="flash's end")
+
+
+def no_streams(bench):
+    """What no flash should be updated with is refused, and --any takes it."""
+    bench.put("nothing", b"")
+    bench.put("cut", bench.get("next")[:-70])
+    lines = [line for line in x7.listing_of(x7.stream_of(bench.get("next")))]
+    bench.put("listing", "\n".join(lines).replace("write CRC 1\ndata ", "nop\n# "))
+    bench.make("unchecked", "x7", "asm", "listing")
+    for name, what in (("made.part", "no sync word"), ("nothing", "no sync word"), ("cut", "DESYNC"), ("image", "flash image"), ("unchecked", "no check")):
+        bench.refuses("flash_steps", "flash", name, what=what)
+        room = len(bench.get(name)) <= 3 * SECTOR
+        bench.tally.same(f"--any takes {name}", bench.tool("flash_steps", "--any", "flash", name).status, 0 if room else 2)
+
+
 def cuts(bench):
     """The power goes between two steps, or in the middle of one: what is there boots."""
     bench.put("flash", bench.get("image").ljust(SIZE, b"\xff"))
     raw, flash, take = bench.get("next"), bytearray(bench.get("flash")), random.Random(5)
-    for number, line in enumerate(steps_of(bench, "--page", "256", "flash", "next")):
+    for number, line in enumerate(steps_of(bench, "flash", "next")):
         torn, before = bytearray(flash), bytes(flash)
         apply(flash, line, raw)
         for place in range(len(flash)) if before != flash and number % 31 < 2 else ():
@@ -127,7 +175,7 @@ def layouts(bench):
         came = bench.tool("check_update", "made.part", "bad", "next")
         bench.tally.check(f"check_update {name}", came.status == 1 and f"fails: layout: layout byte {place}:".encode() in came.out, came.out[:200])
     bench.put("long", bytes(4 * SECTOR))
-    bench.refuses("flash_steps", "image", "long", what="truncate")
+    bench.refuses("flash_steps", "--any", "image", "long", what="FF: head -c N /dev/zero")
     bench.put("listing", bench.x7("list", "next").out)
     bench.refuses("flash_steps", "image", "listing", what="is a listing: x7 asm")
     bench.refuses("allow_fallback", "listing", what="is a listing: x7 asm")
@@ -157,7 +205,10 @@ def allowed(bench):
 
 # ---- checks of an update
 
-NAMES = ["size", "layout", "stream", "idcode", "clock", "fallback", "jump", "address", "clean", "closed", "update", "boot", "frames", "damaged"]
+NAMES = [
+    "size", "layout", "rest", "mode", "stream", "idcode", "clock", "fallback", "time", "jump", "address", "golden stream", "golden idcode",
+    "golden clock", "golden time", "clean", "closed", "update", "boot", "frames", "damaged",
+]  # fmt: skip
 
 
 def checked(bench, name, fails, *words):
@@ -183,7 +234,7 @@ def checks(bench):
     """Each check fails of what it is for."""
     bench.put("flash", bench.get("image").ljust(SIZE, b"\xff"))
     lines, _ = checked(bench, "all is well", [], "--size", str(SIZE), "made.part", "flash", "next")
-    bench.tally.same("every check is made", sorted(line.split(": ")[1] for line in lines), sorted(NAMES))
+    bench.tally.same("every check is made, in this order", [line.split(": ")[1] for line in lines], NAMES)
     checked(bench, "the file is too short", ["size"], "--size", str(2 * SIZE), "made.part", "flash", "next")
     checked(bench, "no fallback", ["fallback", "damaged"], "made.part", "flash", "forbids")
     for name, old, new, fails in (
@@ -206,16 +257,12 @@ def checks(bench):
 
 def ends_of_the_flash(bench):
     """A note names the damages of which the fallback comes at the flash's end: without a watchdog, and where the update
-    arms one; for a part of master BPI, of which the guide has that fallback, there is none."""
-    bench.put("bpi.part", "mode = 2\n" + DEVICE)
-    mended(bench, "next", "write COR0 1", "write TIMER 1\ndata 40001000\nwrite COR0 1")
-    for name, part, stream, ends in (
-        ("no watchdog", "made.part", "next", "cut in half, not there"),
-        ("a watchdog", "made.part", "other", "not there"),
-        ("BPI", "bpi.part", "next", ""),
-    ):
-        _, notes = checked(bench, f"ends of the flash, {name}", [], part, "flash", stream)
-        bench.tally.same(f"{name}: the note", [it.split(": ")[2] for it in notes if it.startswith("note: damaged: ")], [ends] if ends else [])
+    arms one."""
+    mended(bench, "next", "write COR0 1", "write TIMER 1\ndata 40010000\nwrite COR0 1")
+    for name, stream, ends in (("no watchdog", "next", "cut in half, not there"), ("a watchdog", "other", "not there")):
+        _, notes = checked(bench, f"ends of the flash, {name}", [], "made.part", "flash", stream)
+        notes = [it for it in notes if it.startswith("note: damaged: ")]
+        bench.tally.same(f"{name}: the note", [it.split(": ")[2] for it in notes], [ends])
         bench.tally.check(f"{name}: the note says where a board may hang", all("SPI" in it and "BPI" in it for it in notes), notes)
 
 
@@ -224,7 +271,7 @@ def goldens(bench):
     for name, old, new, fails in (
         ("golden outputs stay off", "data 02003FE5", "data 02003FFD", ["closed", "damaged"]),
         ("golden begins otherwise", "write CMD 1\ncmd SHUTDOWN", "write AXSS 1\ndata 00000000\nwrite CMD 1\ncmd SHUTDOWN", ["clean"]),
-        ("golden for another device", "data 0362D093", "data 0362C093", ["closed", "damaged"]),
+        ("golden for another device", "data 0362D093", "data 0362C093", ["golden idcode", "closed", "damaged"]),
     ):
         mended(bench, "golden", old, new)
         bench.make("bad", "x7", "image", "other", "update")
@@ -236,12 +283,12 @@ def goldens(bench):
 
 def words(bench):
     """Words that the tools refuse."""
-    for it in ([], ["made.part", "flash"], ["--size", "x", "made.part", "flash", "next"], ["--x7", "/nowhere", "made.part", "flash", "next"], ["nowhere", "flash", "next"], ["made.part", "nowhere", "next"], ["flash", "flash", "next"], ["--none", "made.part", "flash", "next"]):
+    for it in BAD_WORDS_OF_CHECKS:
         bench.refuses("check_update", *it)
-    for it in ([], ["flash"], ["--page", "0", "flash", "next"], ["--page", "flash", "next"], ["flash", "nowhere"], ["nowhere", "next"], ["flash", "next", "next"]):
+    for it in BAD_WORDS_OF_STEPS:
         bench.refuses("flash_steps", *it)
     bench.refuses("flash_steps", "flash", "next", closed=[1])
     bench.refuses("check_update", "made.part", "flash", "next", closed=[1])
 
 
-run_parts("updates", make, steps, cuts, layouts, allowed, checks, words)
+run_parts("updates", make, steps, regions, no_streams, cuts, layouts, allowed, checks, words)
