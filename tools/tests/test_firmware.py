@@ -53,7 +53,7 @@ def flashes() -> List[Tuple[str, bytes]]:
     torn = [bytes.fromhex(it) for it in ("AA995567", "AA985566", "FFFFFFFE", "80000000", "AA9955FF")]
     cases = {
         "new": [], "an image": [opened], "closed": [spent], "two updates": [spent, opened], "torn": [*torn, opened],
-        "all torn": torn, "a free one among them": [spent, b"\xff" * 4, spent], "open before a torn one": [opened, torn[0]],
+        "all torn": torn, "a free one among them": [spent, b"\xff" * 4, spent], "open before a torn": [opened, torn[0]],
         "the last but one": [spent] * (SLOTS - 2) + [opened], "one left": [spent] * (SLOTS - 1),
     }  # fmt: skip
     found = []
@@ -169,7 +169,8 @@ def boots(bench: Bench, program: str) -> None:
             came = run(bench.folder, [f"./{program}", "cut", "flash", "stream", step, seed])
             bench.tally.check(f"the power goes in step {step}", came.out.startswith(b"power"), came.out)
             booted = bench.x7("boot", "made.part", "flash")
-            bench.tally.check(f"cut in step {step}", booted.status == 0 and b"end started" in booted.out, booted.out[:200])
+            has_started = booted.status == 0 and b"end started" in booted.out
+            bench.tally.check(f"cut in step {step}", has_started, booted.out[:200])
 
 
 with tempfile.TemporaryDirectory() as FOLDER:

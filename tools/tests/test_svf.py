@@ -1,16 +1,21 @@
 #!/usr/bin/env python3
 """Tests `svf`: what it writes plays on x7's test access port to the state that the stream comes to, in full, as a
-change and as a readback; and what can't start so is refused."""
+change and as a readback, also after its guard; what it adds for a chain; and what can't start so is refused.
+test_openocd has openocd play such texts."""
+from __future__ import annotations
+
 from casefiles import header
-from runs import DEVICE, frame_of, run_parts, text_of_frames
+from runs import DEVICE, Bench, frame_of, run_parts, text_of_frames
 import x7formats as x7
 
 
 def make(bench):
     """A full stream with a header, a change, and a read of three frames, over the pads after a row."""
     bench.put("made.part", DEVICE)
-    bench.put("full.frames", text_of_frames({"00000000": frame_of(1), "00000101": frame_of(2), "00800004": frame_of(3)}))
-    bench.put("change.frames", text_of_frames({"00000101": frame_of(4), "00000102": frame_of(5), "00400000": frame_of(6)}))
+    full = {"00000000": frame_of(1), "00000101": frame_of(2), "00800004": frame_of(3)}
+    change = {"00000101": frame_of(4), "00000102": frame_of(5), "00400000": frame_of(6)}
+    bench.put("full.frames", text_of_frames(full))
+    bench.put("change.frames", text_of_frames(change))
     bench.make("full", "x7", "plan", "full", "made.part", "full.frames")
     bench.make("change", "x7", "plan", "partial", "made.part", "change.frames")
     bench.make("read", "x7", "plan", "read", "made.part", "00000101", "5")
@@ -48,10 +53,15 @@ def plays(bench):
     same("a header is left out", bench.get("full.svf"), bench.get("plain.svf"))
     bench.make("change.svf", "svf", "--partial", "change")
     bench.make("read.svf", "svf", "--read", "made.part", "read", "report")
-    bench.tally.check("a change has no JPROGRAM", b"SIR 6 TDI (0B)" not in bench.get("change.svf") + bench.get("read.svf"))
+    others = bench.get("change.svf") + bench.get("read.svf")
+    bench.tally.check("a change has no JPROGRAM", b"SIR 6 TDI (0B)" not in others)
     bench.make("alone", "x7", "play", "made.part", "full")
     bench.make("both", "x7", "play", "made.part", "full", "change")
-    for name, texts, report in (("full", ["full.svf"], "alone"), ("change", ["full.svf", "change.svf"], "both"), ("read", ["full.svf", "change.svf", "read.svf"], "both")):
+    for name, texts, report in (
+        ("full", ["full.svf"], "alone"),
+        ("change", ["full.svf", "change.svf"], "both"),
+        ("read", ["full.svf", "change.svf", "read.svf"], "both"),
+    ):
         came, wanted = ends(bench, name, *texts), x7.read_report(bench.path(report))
         state = lambda it: (it.frames, it.phase, it.done, it.gts, it.gwe, it.registers["STAT"], it.end)
         same(f"{name} comes to the same", state(came), state(wanted))
@@ -59,6 +69,49 @@ def plays(bench):
     differs(bench, "a readback without the change", "full.svf", "read.svf")
     bench.put("other.svf", bench.get("full.svf").replace(b"0362D093", b"0362C093"))
     differs(bench, "another device", "other.svf")
+
+
+def guards(bench: Bench) -> None:
+    """The guard is the beginning of the text that it guards, and x7 stops in it on another device, or on one that
+    doesn't run."""
+    bench.make("guard.svf", "svf", "--guard", "full.bit")
+    bench.make("runs.svf", "svf", "--guard", "change")
+    for name, text in (("guard.svf", "full.svf"), ("runs.svf", "change.svf")):
+        lines, guarded = (bench.get(it).splitlines()[1:] for it in (name, text))
+        bench.tally.same(f"{name} begins as {text}", lines, [*guarded[: len(lines) - 1], b"STATE RESET;"])
+    bench.tally.same("a full stream's looks at the IDCODE alone", len(bench.get("guard.svf").splitlines()), 5)
+    ends(bench, "guards before their texts", "guard.svf", "full.svf", "runs.svf", "change.svf")
+    differs(bench, "a guard of a device that doesn't run", "guard.svf", "runs.svf")
+    bench.put("other.guard", bench.get("guard.svf").replace(b"0362D093", b"0362C093"))
+    differs(bench, "a guard of another device", "other.guard", "full.svf")
+    refusals = {"read": "no frame", "nothing": "no sync word", "image": "IPROG", "two": "different IDCODEs"}
+    for name, what in refusals.items():
+        bench.refuses("svf", "--guard", name, what=what)
+
+
+def chains(bench: Bench) -> None:
+    """Statements for the other devices of a chain stand after the first line, and nothing else is other."""
+    texts = {"full.svf": ["full.bit"], "change.svf": ["--partial", "change"], "guard.svf": ["--guard", "full.bit"]}
+    for options, statements in (
+        ("--trailer 4", "HIR 0;|HDR 0;|TIR 4 TDI (F);|TDR 1 TDI (0);"),
+        ("--header 6", "HIR 6 TDI (3F);|HDR 1 TDI (0);|TIR 0;|TDR 0;"),
+        ("--header 5 --trailer 4 --header 8", "HIR 13 TDI (1FFF);|HDR 2 TDI (0);|TIR 4 TDI (F);|TDR 1 TDI (0);"),
+        ("--trailer 64 --trailer 2", "HIR 0;|HDR 0;|TIR 66 TDI (3" + "F" * 16 + ");|TDR 2 TDI (0);"),
+        (" ".join(["--header 4"] * 5), "HIR 20 TDI (FFFFF);|HDR 5 TDI (00);|TIR 0;|TDR 0;"),
+    ):
+        for name, words in texts.items():
+            bench.make("chain.svf", "svf", *options.split(), *words)
+            head, *rest = bench.get(name).decode().splitlines()
+            came = bench.get("chain.svf").decode().splitlines()
+            bench.tally.same(f"{options} of {name}", came, [head, *statements.split("|"), *rest])
+    bench.make("chain.svf", "svf", "--trailer", "4", "--read", "made.part", "read", "report")
+    head, *rest = bench.get("read.svf").decode().splitlines()
+    bench.tally.same("of a read", bench.get("chain.svf").decode().splitlines()[5:], rest)
+    for count in ("1", "65", "x", "-4", "100"):
+        bench.refuses("svf", "--trailer", count, "full", what="2 to 64 bits")
+    bench.refuses("svf", *["--header", "4"] * 17, "full", what="16 other devices")
+    for line in ("--header", "--header 4", "--trailer 4 --guard", "full --trailer 4", "--guard full full"):
+        bench.refuses("svf", *line.split())
 
 
 def masked(bench):
@@ -71,7 +124,8 @@ def masked(bench):
     changed = digits[:at] + f"{int(digits[at], 16) ^ 1:X}" + digits[at + 1 :]
     free = "0" * at + "1" + "0" * (len(digits) - at - 1)
     for name, text in (("wrong.report", changed), ("mask.report", free), ("nothing.report", "0" * len(digits))):
-        rows = "".join("data " + " ".join(text[row + 8 * it : row + 8 * it + 8] for it in range(8) if row + 8 * it < len(text)) + "\n" for row in range(0, len(text), 64))
+        given = [text[at : at + 8] for at in range(0, len(text), 8)]
+        rows = "".join(f"data {' '.join(given[at : at + 8])}\n" for at in range(0, len(given), 8))
         bench.put(name, report.replace("".join(f"{line}\n" for line in words), rows))
     bench.tally.check("words", count == 101 * 6)
     bench.make("wrong.svf", "svf", "--read", "made.part", "read", "wrong.report")
@@ -127,9 +181,9 @@ def refused_reads(bench):
     bench.refuses("svf", "--read", "full", "read", "report", what="full")
     bench.put("named.part", DEVICE.replace('"made"', '"other"'))
     bench.refuses("svf", "--read", "named.part", "read", "report", what="of the part made")
-    for words in ([], ["--partial"], ["--read"], ["--read", "made.part", "read"], ["full", "full"], ["--full", "full"], ["0362D093"]):
-        bench.refuses("svf", *words)
+    for words in ("", "--partial", "--read", "--read made.part read", "full full", "--full full", "0362D093"):
+        bench.refuses("svf", *words.split())
     bench.refuses("svf", "full", closed=[1])
 
 
-run_parts("svf", make, plays, masked, refused, refused_reads)
+run_parts("svf", make, plays, masked, refused, refused_reads, guards, chains)
