@@ -219,6 +219,10 @@ def sizes(bench: Bench) -> None:
     put_flash(bench, "golden", "update")
     bench.put("other", bench.get("next") + bytes(SIZE))
     expect(bench, "a stream that is too long", ["update"], ["made.part", "flash", "other"], [])
+    bench.put("other", bench.get("next") + bytes(30_000_000))
+    for stream, line in (("next", ""), ("other", "check_update: the boots take some 10 seconds\n")):
+        came = bench.tool("check_update", "made.part", "flash", stream)
+        bench.tally.same(f"how long {stream} takes is said", came.err.decode(), line)
 
 
 run_parts("check_update", make, goldens, modes, times, rests, opcodes, sizes)
