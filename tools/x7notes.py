@@ -95,8 +95,10 @@ def notes_of_package(subject: Subject) -> List[str]:
 
 
 def package_of(part: str) -> str:
-    """The package that a part's name has after the device's, without the speed grade."""
+    """The package that a part's name has after the device's, without the speed grade; nothing of another name."""
     name = (name_of_idcode(idcode_of_name(part) or 0) or "")[2:]
+    if not name:
+        return ""
     return bare(part)[len(name) :].split("-")[0].lower()
 
 

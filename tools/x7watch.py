@@ -71,14 +71,3 @@ def is_long_enough(source: Source) -> bool:
     """Whether a stream arms a watchdog that is long enough at nominal clocks."""
     found = watch_of(source)
     return found is not None and found.verdict in (Verdict.ENOUGH, Verdict.CLOSE)
-
-
-def disarmed(data: bytes) -> bytes:
-    """The data with CFG_MON 0 in each word of TIMER. Checks that held hold, and the places of all words stay."""
-    held = [it.place for it in x7.checks_of(data) if it.check == it.word]
-    new = bytearray(data)
-    for step in x7.steps(data):
-        if step.kind == "write" and step.register == x7.TIMER:
-            for at in range(step.first, step.end, 4):
-                new[at : at + 4] = (x7.word_at(data, at) & ~CFG_MON).to_bytes(4, "big")
-    return x7.with_checks(bytes(new), held)
