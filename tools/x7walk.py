@@ -6,7 +6,7 @@ from typing import NamedTuple
 
 from x7asked import Asked, asked_of
 from x7device import IPROG, Device
-from x7formats import CMD, FAR, FDRI, Step, command_of
+from x7formats import CMD, FAR, FDRI, Compared, Step, command_of
 from x7frames import FRAME_FAULTS, PartFrames
 from x7partfile import Part, read_part
 from x7parts import DEVICE_BITS
@@ -25,7 +25,7 @@ class Walk(Device):
         # the part, and its frames
         self.part, self.part_frames = part, PartFrames(part)
 
-    def store(self, number: int, word: int, after: int, compared: object) -> None:
+    def store(self, number: int, word: int, after: int, compared: Compared | None) -> None:
         """Stores a word; FAR and CMD begin a run of frame data."""
         if number in (FAR, CMD):
             self.part_frames.store(number, word)
