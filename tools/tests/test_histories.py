@@ -150,8 +150,8 @@ class HasNoPads(PartFrames):
 
     def __init__(self, part: Part) -> None:
         super().__init__(part)
-        self.slots = part.addresses()
-        self.slot_of = {far: slot for slot, far in enumerate(self.slots)}
+        self.slots = list(part.addresses())
+        self.slot_of = {far: slot for slot, far in enumerate(part.addresses())}
 
 
 class HasNoPadFrame(PartFrames):
