@@ -110,7 +110,7 @@ def chains(bench: Bench) -> None:
     for count in ("1", "65", "x", "-4", "100"):
         bench.refuses("svf", "--trailer", count, "full", what="2 to 64 bits")
     bench.refuses("svf", *["--header", "4"] * 17, "full", what="16 other devices")
-    for line in ("--header", "--header 4", "--trailer 4 --guard", "full --trailer 4", "--guard full full"):
+    for line in ("--header", "--header 4", "--trailer 4 --guard", "--guard full full"):
         bench.refuses("svf", *line.split())
 
 
