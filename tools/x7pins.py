@@ -4,7 +4,7 @@ of a bus. python3 (3.8) and its library alone."""
 from __future__ import annotations
 
 from itertools import combinations
-from typing import Iterator, List, NamedTuple, Optional
+from typing import Callable, Iterator, List, NamedTuple, Optional, Tuple
 
 import x7formats as x7
 import x7kinds
@@ -81,7 +81,7 @@ def joined(data: bytes) -> Optional[Wires]:
         if any((it >> one ^ it >> other) & 1 for it in values):
             continue
         both = 1 << one | 1 << other
-        drives = (
+        drives: Tuple[Callable[[int], int], ...] = (
             lambda it: it >> one & it >> other & 1,
             lambda it: (it >> one | it >> other) & 1,
             lambda it: it >> one & 1,

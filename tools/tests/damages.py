@@ -524,7 +524,9 @@ def dumps(g: Good) -> List[Damage]:
 def headers(g: Good, other: Good) -> List[Damage]:
     """The header is another one's, or damaged."""
     length = len(g.data)
-    part = x7.text_of(x7.header_of(g.raw).part)
+    own = x7.header_of(g.raw)
+    assert own is not None
+    part = x7.text_of(own.part)
     foreign = "7a100tcsg324" if not part.startswith("7a100t") else "7a35tcpg236"
     return [
         row(

@@ -9,8 +9,8 @@ file.
 """
 from __future__ import annotations
 
-from casefiles import Tally, os, put_file
 import collections
+import os
 import re
 import sys
 import tempfile
@@ -18,6 +18,7 @@ import time
 from typing import Dict, List
 
 from calls import called
+from casefiles import Tally, put_file
 from damages import Damage, Good, all_of, judged
 import streams as s
 

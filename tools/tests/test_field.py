@@ -2,7 +2,7 @@
 streams, modes, times, what an erase takes, opcodes; and that none of the good ones is refused."""
 from __future__ import annotations
 
-from typing import Dict, List, NamedTuple, Sequence, Set, Tuple
+from typing import Dict, List, NamedTuple, Optional, Sequence, Set, Tuple
 
 from runs import DEVICE, Bench, frame_of, run_parts, text_of_frames
 import x7formats as x7
@@ -25,7 +25,7 @@ Timed = Tuple[str, str, Dict[str, str], List[str], List[str]]
 class Said(NamedTuple):
     """What a call of `check_update` said."""
 
-    status: int  # its status
+    status: Optional[int]  # its status, none where it didn't end in time
     fails: Set[str]  # the names of the checks that fail
     lines: Dict[str, str]  # the line of each check, by its name
     notes: Dict[str, str]  # the notes, by their names

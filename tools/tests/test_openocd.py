@@ -182,7 +182,8 @@ def play(bench: Bench, ports: List[Port], *texts: str) -> tuple[int | None, str]
 def make(bench: Bench) -> None:
     """The texts of a stream, for a device alone and in a chain."""
     bench.put("full.bit", streams.bit(streams.full()))
-    for name, options in (("full", []), ("guard", ["--guard"])):
+    forms: list[tuple[str, list[str]]] = [("full", []), ("guard", ["--guard"])]
+    for name, options in forms:
         bench.make(f"{name}.svf", "svf", *options, "full.bit")
         bench.make(f"{name}.arm.svf", "svf", "--trailer", "4", *options, "full.bit")
         bench.make(f"{name}.row.svf", "svf", "--header", "5", "--trailer", "4", "--header", "8", *options, "full.bit")
@@ -191,7 +192,8 @@ def make(bench: Bench) -> None:
 def plays(bench: Bench) -> None:
     """The device gets the stream, and nothing else before the read of STAT, wherever it stands in the chain."""
     data = streams.data_of(streams.full())
-    for ending, before, after in (("", [], []), (".arm", [4], []), (".row", [4], [5, 8])):
+    chains: list[tuple[str, list[int], list[int]]] = [("", [], []), (".arm", [4], []), (".row", [4], [5, 8])]
+    for ending, before, after in chains:
         device = Device(streams.IDCODE)
         ports = [*(Port(it, 0x4BA00477) for it in before), device, *(Port(it, 0x0BAD0FED) for it in after)]
         status, said = play(bench, ports, f"guard{ending}.svf", f"full{ending}.svf")
@@ -203,7 +205,8 @@ def plays(bench: Bench) -> None:
 
 def guards(bench: Bench) -> None:
     """A guard for another device ends the call, and nothing was sent."""
-    for ending, before in (("", []), (".arm", [4])):
+    chains: list[tuple[str, list[int]]] = [("", []), (".arm", [4])]
+    for ending, before in chains:
         device = Device(OTHER_IDCODE)
         ports = [*(Port(it, 0x4BA00477) for it in before), device]
         status, said = play(bench, ports, f"guard{ending}.svf", f"full{ending}.svf")

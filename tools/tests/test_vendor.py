@@ -4,7 +4,7 @@ boots."""
 from __future__ import annotations
 
 import random
-from typing import Dict, List, Sequence, Set, Tuple
+from typing import Dict, List, Optional, Sequence, Set, Tuple
 
 from runs import DEVICE, Bench, frame_of, run_parts, text_of_frames
 import x7formats as x7
@@ -46,7 +46,7 @@ def put_flash(bench: Bench, golden: str, update: str, place: int = UPDATE, size:
     bench.put("flash", flash.ljust(size, b"\xff"))
 
 
-def said(bench: Bench, *words: str) -> Tuple[int, List[Tuple[str, str, str]]]:
+def said(bench: Bench, *words: str) -> Tuple[Optional[int], List[Tuple[str, str, str]]]:
     """The status of a call of `check_update`, and the kind, name and text of each line but the last."""
     came = bench.tool("check_update", *words)
     lines = [line.split(": ", 2) for line in came.out.decode().splitlines() if ": " in line]
