@@ -111,7 +111,7 @@ class Asked:
         """What stands before the first RCRC and may not stand there in a golden stream; none where there is no RCRC."""
         found: List[str] = []
         for step in steps(self.stream.data):
-            if step.kind != "write" or not step.present or REGISTERS[step.register] in LEAD:
+            if step.kind != "write" or not step.present or step.register is None or REGISTERS[step.register] in LEAD:
                 continue
             if step.register != CMD:
                 found.append(REGISTERS[step.register])

@@ -25,7 +25,7 @@ Timed = Tuple[str, str, Dict[str, str], List[str], List[str]]
 class Said(NamedTuple):
     """What a call of `check_update` said."""
 
-    status: Optional[int]  # its status, none where it didn't end in time
+    status: Optional[int]  # its status, or none where it didn't end in time
     fails: Set[str]  # the names of the checks that fail
     lines: Dict[str, str]  # the line of each check, by its name
     notes: Dict[str, str]  # the notes, by their names
