@@ -12,6 +12,7 @@ from typing import List, NamedTuple, Tuple
 from x7formats import Report, read_report
 from x7partfile import Part, read_part
 from x7run import Refused, write_file
+from x7shelf import part_file
 
 # The bit of STAT that says that the interconnect is as configured (UG470, status register).
 GHIGH_B = 1 << 7
@@ -26,11 +27,11 @@ class Ended(NamedTuple):
 
 
 class Bench:
-    """x7, the part, and a folder for copies."""
+    """x7, the part, and a folder for copies. The part is a part file, or a device of the shelf."""
 
-    def __init__(self, program_path: str, part_path: str, folder: str) -> None:
-        self.x7, self.part_path, self.folder = program_path, part_path, folder
-        self.part: Part = read_part(part_path)
+    def __init__(self, program_path: str, part_named: str, folder: str) -> None:
+        self.x7, self.part_path, self.folder = program_path, part_file(part_named), folder
+        self.part: Part = read_part(self.part_path)
 
     def path(self, name: str) -> str:
         """The path of a copy."""

@@ -78,7 +78,19 @@ def steps(folder: str, *options: str) -> None:
     TALLY.same(f"steps {' '.join(options)} are the law's", listed_calls(out.decode()), calls[1:])
 
 
+def options_anywhere(folder: str) -> None:
+    """Options stand at any place and in both forms; a wrong number is refused."""
+    flash = put_file(folder, "flash", first_sector() + b"\xff" * (2 * SECTOR))
+    stream = put_file(folder, "stream", STREAM)
+    wanted = called("flash_steps", "--any", "--page", "16", flash, stream)
+    TALLY.same("options at any place", called("flash_steps", flash, "--page=16", stream, "--any"), wanted)
+    for word in ("--page=x", "--start-unit=2", "--size=-1"):
+        status, _, err = called("flash_steps", word, "--any", flash, stream)
+        TALLY.check(f"flash_steps {word}", status == 2 and "usage: flash_steps " in str(err), str(err))
+
+
 with tempfile.TemporaryDirectory(prefix="x7-test-") as folder_name:
+    options_anywhere(folder_name)
     steps(folder_name)
     steps(folder_name, "--page", "0")
 TALLY.end()
