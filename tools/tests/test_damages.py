@@ -17,6 +17,7 @@ import tempfile
 import time
 from typing import Dict, List
 
+from casefiles import Tally, put_file
 from calls import called
 from casefiles import Tally, put_file
 from damages import Damage, Good, all_of, judged

@@ -9,7 +9,7 @@ import os
 import random
 import shutil
 import tempfile
-from typing import List, Tuple
+from typing import Dict, List, Tuple
 
 from casefiles import TOOLS
 from runs import X7, Bench, run
@@ -51,7 +51,7 @@ def flashes() -> List[Tuple[str, bytes]]:
     """Flashes with slots of all kinds: free, spent, open, torn."""
     take, spent, opened = random.Random(11), bytes(4), slot_of(bytes(4))[:4]
     torn = [bytes.fromhex(it) for it in ("AA995567", "AA985566", "FFFFFFFE", "80000000", "AA9955FF")]
-    cases = {
+    cases: Dict[str, List[bytes]] = {
         "new": [], "an image": [opened], "closed": [spent], "two updates": [spent, opened], "torn": [*torn, opened],
         "all torn": torn, "a free one among them": [spent, b"\xff" * 4, spent], "open before a torn": [opened, torn[0]],
         "the last but one": [spent] * (SLOTS - 2) + [opened], "one left": [spent] * (SLOTS - 1),

@@ -1,9 +1,13 @@
 #!/usr/bin/env python3
 """Tests tools/frame_map: the picture of docs, the addresses at the pointer, and what isn't drawn."""
-from casefiles import TOP, Tally, os, put_file
+from __future__ import annotations
+
+import os
 import tempfile
 import xml.dom.minidom
+from typing import List, Mapping
 
+from casefiles import TOP, Tally, put_file
 from calls import called, ran, shell_status
 import x7formats as x7
 from x7partfile import read_part
@@ -12,18 +16,19 @@ tally = Tally()
 EXAMPLES = os.path.join(TOP, "examples")
 
 
-def in_file(text, name):
+def in_file(text: str, name: str) -> str:
     """The path of a file that holds this text."""
     return put_file(FOLDER, name, text)
 
 
-def report(frames, name="chip"):
+def report(frames: Mapping[int, bytes], name: str = "chip") -> str:
     """The report of a device that holds these frames."""
     held = {far: words for far, words in frames.items() if any(words)}
-    return f"part {name}\ntaken 0\nend searching\nphase 7 done 1 gts 1 gwe 1\nreads 0\nframes {len(held)}\n{x7.frames_text(held)}"
+    head = f"part {name}\ntaken 0\nend searching\nphase 7 done 1 gts 1 gwe 1\nreads 0\n"
+    return f"{head}frames {len(held)}\n{x7.frames_text(held)}"
 
 
-def refused(name, *words):
+def refused(name: str, *words: str) -> None:
     """frame_map takes none of these words: status 2 and one line."""
     status, out, err = called("frame_map", *words)
     tally.check(name, status == 2 and not out and err.count("\n") == 1 and "Error" not in err, f"{status} {err!r}")
@@ -41,7 +46,7 @@ with tempfile.TemporaryDirectory() as FOLDER:
     tally.check("it is XML", xml.dom.minidom.parseString(out).getElementsByTagName("title").length > 50)
     status, out, _ = called("frame_map", path, one)
     tally.check("one report", status == 0 and b"holds something: " in out and b"00000284: holds something" in out)
-    good = open(path, encoding="ascii").read()
+    good = x7.read_file(path).decode()
     for name, text in (
         ("minors over the limit", good.replace("minors = [128, 128]", "minors = [3000000000]", 1)),
         ("no rows", 'name = "chip"\nidcode = 1\n'),
@@ -64,7 +69,8 @@ with tempfile.TemporaryDirectory() as FOLDER:
     refused("an empty report", path, in_file("", "empty.report"))
     refused("a part for a report", path, path)
     refused("no such file", path, "/nowhere")
-    for words in ([], [path], [path, one, two, two]):
+    wrong: List[List[str]] = [[], [path], [path, one, two, two]]
+    for words in wrong:
         status, out, err = ran("frame_map", *words)
         tally.check(f"words {len(words)}", status == 2 and not out and err.count("\n") == 1, err)
     tally.same("standard output is closed", shell_status("frame_map", [path, one], ">&- 2>/dev/null"), 2)

@@ -4,12 +4,12 @@ of all lengths; text and packed files and dumps; what it writes for a bus is the
 another order, which it turns back; and what isn't taken leaves no output."""
 from __future__ import annotations
 
-from casefiles import Tally, os, put_file
 import gzip
 import shlex
 import tempfile
 from typing import Dict, List, Optional
 
+from casefiles import Tally, header, put_file
 from calls import called, ran, shell_status
 import streams
 import x7kinds
@@ -46,7 +46,7 @@ def ways() -> None:
         kept = 3 % way.size
         turned(f"{way.what}, after three bytes", b"abc" + raw, b"abc"[:kept] + way.back(b"abc"[kept:]) + DATA)
         for length in range(8):
-            head = streams.header(len(DATA), design="m" * length)
+            head = header(len(DATA), design="m" * length)
             turned(f"{way.what}, after a header of {len(head)} bytes", head + raw, head + DATA)
             turned(f"{way.what}, a whole file of {len(head)} bytes more", way.back(head + DATA), head + DATA)
 
@@ -116,10 +116,10 @@ def as_bus(data: bytes, order: List[int], has_bits: bool) -> bytes:
 
 def buses() -> None:
     """What is written for each bus, of a stream in each form, is turned back to the same stream."""
-    header = streams.header(len(DATA))
+    head = header(len(DATA))
     for way, (order, has_bits) in BUSES.items():
         wanted = as_bus(DATA, order, has_bits)
-        forms = {"a stream": DATA, "a .bit file": header + DATA, "a gzip file": gzip.compress(DATA), "itself": wanted}
+        forms = {"a stream": DATA, "a .bit file": head + DATA, "a gzip file": gzip.compress(DATA), "itself": wanted}
         for name, raw in {**forms, "a dump": dump(1, False)}.items():
             status, out, err = called("turn", "--to", way, in_file(raw))
             tally.same(f"{way} of {name}", (status, out), (0, wanted))
@@ -140,7 +140,8 @@ def calls() -> None:
     for options in (["--back"], ["--to", "bits", path]):
         refused(f"words {options[:2]}", DATA, "usage", *options)
     tally.check("help", ran("turn", "--help")[:1] == (0,))
-    for words in ([], [path, path], ["/nowhere/at/all"], [FOLDER]):
+    wrong: List[List[str]] = [[], [path, path], ["/nowhere/at/all"], [FOLDER]]
+    for words in wrong:
         status, out, err = ran("turn", *words)
         tally.check(f"words {len(words)}", status == 2 and not out and err.count("\n") == 1, err)
     tally.same("standard output is closed", shell_status("turn", [path], ">&- 2>/dev/null"), 2)

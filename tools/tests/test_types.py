@@ -15,17 +15,11 @@ from casefiles import TOP, Tally
 WIDTH = 120
 # What is checked together, by folders: modules of one name don't stand in one call.
 GROUPS = [["tools", "tools/tests", "build", "parts", "release"], ["bench"]]
-# Files that aren't strict yet.
+# Files that aren't strict yet, and may have lines past WIDTH.
 LOOSE = {
-    "tools/allow_fallback", "tools/flash", "tools/frames", "tools/svf", "tools/turn", "tools/x7asked.py",
-    "tools/x7columns.py", "tools/x7vendor.py", "tools/x7walk.py",
-    "tools/tests/test_firmware.py", "tools/tests/test_frame_map.py", "tools/tests/test_frames.py",
-    "tools/tests/test_install.py", "tools/tests/test_options.py", "tools/tests/test_part.py",
-    "tools/tests/test_release.py", "tools/tests/test_steps.py", "tools/tests/test_svf.py",
-    "tools/tests/test_tools.py", "tools/tests/test_turn.py", "tools/tests/test_update.py", "tools/tests/test_why.py",
+    "tools/tests/test_frames.py", "tools/tests/test_part.py", "tools/tests/test_svf.py", "tools/tests/test_tools.py",
+    "tools/tests/test_update.py", "tools/tests/test_why.py",
 }
-# Files with lines past WIDTH.
-WIDE = LOOSE | {"parts/make"}
 
 
 def is_python(path: str) -> bool:
@@ -79,8 +73,8 @@ def check_lines(tally: Tally) -> None:
         for name in (it for place in places for it in files_of(place)):
             with open(os.path.join(TOP, name), encoding="utf-8") as file:
                 wide = [str(number) for number, line in enumerate(file, 1) if len(line.rstrip("\n")) > WIDTH]
-            tally.check(f"{name}: lines past {WIDTH}", not wide or name in WIDE, ", ".join(wide))
-    gone = [it for it in sorted(WIDE) if not os.path.isfile(os.path.join(TOP, it))]
+            tally.check(f"{name}: lines past {WIDTH}", not wide or name in LOOSE, ", ".join(wide))
+    gone = [it for it in sorted(LOOSE) if not os.path.isfile(os.path.join(TOP, it))]
     tally.same("files that are listed here and aren't there", gone, [])
 
 
