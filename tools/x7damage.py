@@ -9,7 +9,7 @@ from typing import Callable, List, NamedTuple, Optional, Tuple
 import x7formats as x7
 import x7kinds
 from x7cause import COUNT_BYTES, TAKE_AGAIN, Cause, Kind, Section
-from x7pins import repeated
+from x7pins import repeated, swap_table
 from x7subject import Source, Untimed
 
 # a write to FDRI of fewer words than this isn't searched for packets: no frame fits in it
@@ -316,13 +316,18 @@ def is_odd(step: x7.Step) -> bool:
     return step.kind in ("write", "read") and (step.register not in x7.NAMES or step.count > 1)
 
 
+def most_lost(source: Source) -> int:
+    """How many bytes may be lost: as many as a header tells, or where there is none half of what is there."""
+    return max(source.lost, 0) if source.header else len(source.data) // 2
+
+
 def swallowed(source: Source, step: x7.Step, begins: int) -> Optional[Cause]:
     """The cause where packets begin within the payload of frame data, or none."""
     missing = step.first + 4 * step.count - begins
     head, place = x7.head_line(step), source.first + begins + 4
-    if missing <= 0 or source.header and source.lost == 0 and not is_one_bit(missing):
+    if missing <= 0 or missing > most_lost(source) and not (source.lost == 0 and is_one_bit(missing)):
         return None
-    if source.header and source.lost == 0:
+    if missing > most_lost(source):
         text = (
             f"the packet '{head}' takes packets after the frames for frames: its count is {missing // 4} words too "
             "large: "
@@ -424,10 +429,21 @@ def cause_of_repeat(source: Source) -> Optional[Cause]:
     return Cause(Kind.PINS, found.text, found.remedy, Section.LOST_WORDS, None, source) if found else None
 
 
+def cause_of_lines(source: Source) -> Optional[Cause]:
+    """The cause where two data lines are exchanged that leave the sync word as it is, or none."""
+    for pairs in ([bit, bit + 4] for bit in range(4)):
+        mended = source.data.translate(swap_table(pairs))
+        if x7kinds.reads(mended) and plays(mended):
+            text = f"bits {pairs[0]} and {pairs[1]} of each byte are exchanged: two data lines"
+            return Cause(Kind.PINS, text, "exchange these two lines", Section.LOST_WORDS, None, source)
+    return None
+
+
 # What is looked for in a stream that doesn't come to its end, in this order: what is surest first.
 LOOKS = [
     cause_of_repeat, cause_of_text_mode, cause_of_erased_end, cause_of_exchange, cause_of_later_stream,
-    cause_of_turned_end, cause_of_page, cause_of_eaten, cause_of_line, cause_of_swallowed, cause_of_shift,
+    cause_of_turned_end, cause_of_page, cause_of_eaten, cause_of_line, cause_of_lines,
+    cause_of_swallowed, cause_of_shift,
 ]  # fmt: skip
 
 

@@ -8,6 +8,7 @@ from typing import Optional
 import x7formats as x7
 import x7kinds
 from x7cause import TAKE_AGAIN, Cause, Kind, Section
+from x7damage import plays
 from x7parts import family_of, idcode_of_name, is_7_series
 from x7pins import wires_of
 from x7subject import Source
@@ -51,10 +52,10 @@ def cause_of_file(source: Source) -> Optional[Cause]:
         )
     if not has_sync:
         return cause_of_no_sync(source)
-    wires = wires_of(data)
-    return unsynced(
-        Kind.PINS, f"after the sync word stands no packet: {wires.text}", wires.remedy, source,
-    ) if wires else None
+    wires = wires_of(data, plays)
+    if not wires:
+        return None
+    return unsynced(Kind.PINS, f"after the sync word stands no packet: {wires.text}", wires.remedy, source)
 
 
 def cause_of_empty(source: Source) -> Cause:

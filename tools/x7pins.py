@@ -25,6 +25,10 @@ HALVES = [
 ]  # fmt: skip
 
 
+# Whether data are a stream.
+Judge = Callable[[bytes], bool]
+
+
 class Wires(NamedTuple):
     """What wires did."""
 
@@ -117,11 +121,16 @@ def swap_table(pairs: List[int]) -> bytes:
     return bytes(found)
 
 
-def exchanged(data: bytes) -> Optional[Wires]:
+def begins_well(data: bytes) -> bool:
+    """Whether data begin as a stream."""
+    return x7kinds.reads(data[:JUDGED])
+
+
+def exchanged(data: bytes, is_stream: Judge) -> Optional[Wires]:
     """Two data lines that are exchanged, or none."""
     for pairs in swaps():
         table = swap_table(pairs)
-        if has_beginning(data, table) and x7kinds.reads(data[:JUDGED].translate(table)):
+        if has_beginning(data, table) and begins_well(data.translate(table)) and is_stream(data.translate(table)):
             lines = " and ".join(f"bits {one} and {other}" for one, other in zip(pairs[::2], pairs[1::2]))
             of_four = ": two lines of a bus of four" if len(pairs) == 4 else ": two data lines"
             return Wires(f"{lines} of each byte are exchanged{of_four}", "exchange these two lines")
@@ -179,6 +188,8 @@ def repeated(data: bytes) -> Optional[Wires]:
     return None
 
 
-def wires_of(data: bytes) -> Optional[Wires]:
-    """What wires did to a stream that has no sync word, or none."""
-    return repeated(data) or stuck(data) or joined(data) or exchanged(data) or inverted(data) or half(data)
+def wires_of(data: bytes, is_stream: Judge = begins_well) -> Optional[Wires]:
+    """What wires did to a stream, or none; `is_stream` judges one in which exchanged lines were put back. Some lines
+    may be exchanged and leave the sync word as it is: then the beginning alone tells too little."""
+    found = repeated(data) or stuck(data) or joined(data)
+    return found or exchanged(data, is_stream) or inverted(data) or half(data)

@@ -15,6 +15,7 @@ import x7formats as x7
 from x7asked import unarmed
 from x7device import Device
 from x7notes import package_of
+from x7pins import swap_table
 from x7subject import Untimed
 
 TALLY = Tally()
@@ -136,6 +137,17 @@ def words() -> None:
     TALLY.check("outputs off", b"it says: all outputs are off (GTS_USER_B is 0)" in out, str(out[:200]))
 
 
+def exchanged_lines(folder: str) -> None:
+    """Lines 3 and 7 of a byte may be exchanged, and the sync word stays: said of a stream that then plays alone."""
+    table = swap_table([3, 7])
+    moved = GOOD.data.translate(table)
+    TALLY.check("the sync word stays", x7.SYNC in moved)
+    asked("lines 3 and 7", said(folder, ["--alone"], moved), 1, "bits 3 and 7 of each byte are exchanged")
+    broken = moved[: GOOD.middle] + bytes([moved[GOOD.middle] ^ 1]) + moved[GOOD.middle + 1 :]
+    came = said(folder, ["--alone"], broken)
+    TALLY.check("lines 3 and 7, and damage", came[0] == 1 and "exchanged" not in came[1], came[1])
+
+
 def steps() -> None:
     """Words FFFFFFFF and 00000000 in a row are one step, and a line each of the listing."""
     data = x7.SYNC + b"\xff" * 4096 + bytes(4096) + x7.NOP + b"\xff\xff"
@@ -158,6 +170,7 @@ with tempfile.TemporaryDirectory() as FOLDER:
     else:
         TALLY.skip("plays by x7")
     watchdogs(FOLDER)
+    exchanged_lines(FOLDER)
     words()
     steps()
 TALLY.end()
