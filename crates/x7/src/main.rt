@@ -69,8 +69,9 @@ fn command<I: Inputs, O: Sink, E: Sink, F: Flash>(
     }
 }
 
-/// Does what the words ask for over the system's files, and answers the exit status. `W` is a map from names to bytes that
-/// proofs alone know: whichever it is, `command` says what comes of it, as long as what the files give agrees with it.
+/// Does what the words ask for over the system's files, and answers the exit status. `W` is a map from names to bytes
+/// that proofs alone know: whichever it is, `command` says what comes of it, as long as what the files give agrees with
+/// it.
 fn with_files<W: World>(rt: &HostRuntime, words: &Vec<String>) -> ExitCode {
     let mut inputs = FileInputs::<HostRuntime, W>::new(rt);
     let mut flash = FileFlash::new(rt);

@@ -37,9 +37,9 @@ large_start_address_bits = 24
 abbrev pub start_address_bits : ℕ
 start_address_bits = 29
 
--- the place in the flash, in bytes, that WBSTAR names, for a part of which one step of the start address stands for
--- `unit` bytes: bits 28:0 of the word, in bytes; where `unit` is `large_start_unit`, bits 23:0 of it in steps of that
--- many bytes
+-- The place in the flash, in bytes, that WBSTAR names, for a part of which one step of the start address stands for
+-- `unit` bytes. It is bits 28:0 of the word, in bytes; where `unit` is `large_start_unit`, bits 23:0 of it in steps of
+-- that many bytes.
 abbrev pub start_address : ℕ → ℕ → ℕ
 start_address unit wbstar = if unit == large_start_unit then large_start_unit * field_of 0 large_start_address_bits wbstar else field_of 0 start_address_bits wbstar
 
@@ -131,8 +131,8 @@ pub record IsTakenFrom (Takes : List ℕ → ℕ → Type 0) (flash : FlashAnswe
 abbrev pub ReadsInAttempt : AttemptStart → FlashAnswers → List FlashCall → Type 0
 ReadsInAttempt a flash calls = (to : ℕ) × ReadsPages (IsTakenFrom (TakesByte a) flash) 0 calls to
 
--- the calls read from pages of which the first `number` attempts of a boot take a byte, one attempt after the other, and
--- in each one after all that its calls before read
+-- the calls read from pages of which the first `number` attempts of a boot take a byte, one attempt after the other,
+-- and in each one after all that its calls before read
 abbrev pub ReadsInAttempts : PartData → FlashAnswers → ℕ → List FlashCall → Type 0
 ReadsInAttempts part flash zero calls = calls ≡ []
 ReadsInAttempts part flash (suc number) calls =

@@ -82,7 +82,8 @@ abbrev pub LoadsBy : ℕ → List ℕ → Loaded → List FlashCall → Type 0
 LoadsBy number block Cached calls = calls ≡ []
 LoadsBy number block (Read count) calls = calls ≡ call.Read (number * page_size) block ∷ []
 
--- reading a block from page `number` on called for one read at most, and where it succeeded, for one that gave the block
+-- reading a block from page `number` on called for one read at most, and where it succeeded, for one that gave the
+-- block
 abbrev pub BlockCalls : {A : Type 0} → ℕ → List ℕ → Result A BootFault → List FlashCall → Type 0
 BlockCalls number block result calls = ReadsOnce number calls × OnOk result (calls ≡ call.Read (number * page_size) block ∷ [])
 
@@ -90,8 +91,8 @@ BlockCalls number block result calls = ReadsOnce number calls × OnOk result (ca
 abbrev pub LoadCalls : ℕ → List ℕ → Result Loaded BootFault → List FlashCall → Type 0
 LoadCalls number block result calls = ReadsOnce number calls × IfOk result (λ loaded. LoadsBy number block loaded calls)
 
--- each call reads from where a page begins for which `P` holds: not before the place `from`, and after all that the calls
--- before it read; the last one reads up to the place `to` at most
+-- each call reads from where a page begins for which `P` holds: not before the place `from`, and after all that the
+-- calls before it read; the last one reads up to the place `to` at most
 abbrev pub ReadsPages : (ℕ → Type 0) → ℕ → List FlashCall → ℕ → Type 0
 ReadsPages P from [] to = from ≤ to
 ReadsPages P from (call ∷ calls) to = (page : ℕ) × (from ≤ page * page_size) × ReadsFromPage page call × P page × ReadsPages P (read_end call) calls to

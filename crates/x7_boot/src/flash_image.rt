@@ -127,9 +127,9 @@ fn image_of(alloc: Global, unit: u32, golden: &[u8], update: &[u8]) -> Result<Ve
     }
 }
 
-/// The flash image of a golden and an update stream, for parts whose start address counts bytes: the first sector leads
-/// to the update, and a device whose update fails falls back to the golden one, if CTL0 allows it (UG470, MultiBoot and
-/// fallback; the layout is this project's choice).
+/// The flash image of a golden and an update stream, for parts whose start address counts bytes (UG470, MultiBoot and
+/// fallback; the layout is this project's choice). The first sector leads to the update, and a device whose update
+/// fails falls back to the golden one, if CTL0 allows it.
 pub fn image(alloc: Global, golden: &[u8], update: &[u8]) -> Result<Vec<u8>, ImageFault>
     ensures bytes { IfOk result (λ all. all.items ≡ image_of 1 golden.now update.now) }
     ensures too_long { (result ≡ Err ImageFault.TooLong) ↔ (flash_limit < image_size (length golden.now) (length update.now)) }

@@ -21,9 +21,9 @@ pub fn starts_are_checked()
         → HasChecked part is.last.kept is.last.bytes }
 {}
 
-/// Where the phase of startup is above 0 the checks (`HasChecked`) were passed: after any bytes, at the end of an
-/// attempt over a flash of bytes, and at the end of a boot from such a flash, whether the attempt or the boot started
-/// or not.
+/// Where the phase of startup is above 0 the checks (`HasChecked`) were passed. That is so after any bytes, at the end
+/// of an attempt over a flash of bytes, and at the end of a boot from such a flash, whether the attempt or the boot
+/// started or not.
 pub fn startup_is_checked()
     ensures state { (part : PartData) (kept : Kept) (wrapped : Bool) (bytes : List ℕ) → AreBytes bytes → 0 < (state_of part kept wrapped bytes).phase
         → HasChecked part kept bytes }
@@ -51,9 +51,9 @@ pub fn one_course()
     ensures along { (part : PartData) (flash : List ℕ) (c : BootCourse) → IsCourse part flash c → LeadsOnlyAlong part flash c }
 {}
 
-/// A flash has one boot of a part: two attempts over it whose devices kept the same over their resets, and that begin
-/// at the same address, are the same, and two boots from it have the same attempts, the same end and the same course of
-/// the last attempt.
+/// A flash has one boot of a part. Two attempts over it whose devices kept the same over their resets, and that begin
+/// at the same address, are the same. Two boots from it have the same attempts, the same end and the same course of the
+/// last attempt.
 pub fn one_boot()
     ensures attempt { (part : PartData) (flash : List ℕ) (s t : AttemptCourse) → IsFlashAttempt part flash s → IsFlashAttempt part flash t
         → s.kept ≡ t.kept → s.address ≡ t.address → s ≡ t }

@@ -129,7 +129,7 @@ pub record PlaysRead (d : DeviceAfter) (stream : List ℕ) (far n : ℕ) : Type 
 -- ---- streams one after another
 
 -- After the bytes `written` and the read stream of n slots from an address on, the device has read out what its own
--- bytes did, and then a frame of zeros and the words of this memory at the slots; its memory is this one, the phase is
+-- bytes did, and then a frame of zeros and the words of this memory at the slots. Its memory is this one, the phase is
 -- that after `written`, and it is at rest.
 pub record ReadsBack (d : DeviceAfter) (written : List ℕ) (memory : FrameMap) (far n : ℕ) : Type 0 where
   pub reads : reads_of d.part d.kept (written ++ read_stream d.part far n) ≡ reads_of d.part d.kept d.bytes ++ words_along d.part memory far n

@@ -11,7 +11,7 @@ ghost use Rattle.x7_planner.specs.ReadStream.{read_stream};
 ghost use Rattle.x7_planner.specs.Fault.{CanRead};
 
 /// On a device at rest the full stream of a plan for the part leaves the plan over zeros and ends startup with DONE,
-/// GTS_CFG_B and GWE 1; the registers that no planned stream writes stay, the stream reads nothing out, there is no
+/// GTS_CFG_B and GWE 1. The registers that no planned stream writes stay, the stream reads nothing out, there is no
 /// stop, and the device is at rest again. All this holds also on a new device on the bench, before any byte.
 pub fn full_streams_play()
     ensures plays { (d : DeviceAfter) (plan : PlanData) → DeviceRests d → IsPlanFor d.part plan → PlaysFull d (full_stream d.part plan) plan }
@@ -34,14 +34,14 @@ pub fn partial_streams_write_once()
 {}
 
 /// On a device at rest the read stream of n slots from an address of the part on, n at least one and no more than there
-/// are from it on, reads out a frame of zeros, and then the frame of each slot, zeros for a pad; memory, phase, lines
-/// and settings stay, there is no stop, and the device is at rest again.
+/// are, reads out a frame of zeros, and then the frame of each slot, zeros for a pad. Memory, phase, lines and settings
+/// stay, there is no stop, and the device is at rest again.
 pub fn read_streams_play()
     ensures { (d : DeviceAfter) (far n : ℕ) → DeviceRests d → CanRead d.part far n → PlaysRead d (read_stream d.part far n) far n }
 {}
 
 /// Streams of plans for the part, one after another on a device at rest. A read stream of slots that can be read reads
-/// out, after a full stream, the plan over zeros, and after a partial one the plan over the memory before; the read
+/// out, after a full stream, the plan over zeros, and after a partial one the plan over the memory before. The read
 /// stream leaves the memory and the phase, and the device is at rest again. After a full stream and then a partial one
 /// the memory is the later plan over the earlier one over zeros, and startup has ended.
 pub fn streams_play_in_turn()

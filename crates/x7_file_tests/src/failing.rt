@@ -35,7 +35,8 @@ fn denied() -> io::Error {
     io::Error::from(ErrorKind::PermissionDenied)
 }
 
-/// The files of the system, of which a call fails. To open one so that it is made, cut or written at its end is refused.
+/// The files of the system, of which a call fails. To open one so that it is made, cut or written at its end is
+/// refused.
 #[derive(Drop)]
 struct FailingFiles<'r, R: Files> {
     rt: &'r R,
@@ -262,8 +263,8 @@ fn outcome_where(rt: &HostRuntime, failing: Failing) -> Option<Outcome> {
 
 #[test]
 fn a_write_of_a_file_fails_where_a_call_fails(rt: HostRuntime) {
-    // the call, how often the file is opened, whether the erase and the program succeed, the file's first bytes then, and
-    // whether they are read
+    // the call, how often the file is opened, whether the erase and the program succeed, the file's first bytes then,
+    // and whether they are read
     let cases = [
         (Failing::Nothing, 1, true, true, [0xFF, 0x0F], true),
         (Failing::Opening, 2, false, false, [0x3C, 0x3C], true),

@@ -116,9 +116,9 @@ fn found<I: Inputs, F: Flash>(
     )
 }
 
-/// What these lead to, one after another, by the same inputs and the same flash: the path of a new file of five bytes,
-/// with the place 2 and with the place 0, the path without the last byte of its name, one below the file, its folder,
-/// and the path once the file is removed. None where a file can't be made or removed.
+/// What these lead to, one after another, by the same inputs and the same flash. First the path of a new file of five
+/// bytes, with the place 2 and with the place 0. Then the path without the last byte of its name, one below the file,
+/// its folder, and the path once the file is removed. None where a file can't be made or removed.
 fn found_by<R: Files, I: Inputs, F: Flash>(
     rt: &R,
     inputs: &mut I,

@@ -84,7 +84,7 @@ pub fn frames_stand_for_one_more()
 {}
 
 /// An access is refused with the fault Address exactly where it lacks an address, with Multi exactly where it lacks a
-/// source; a word of frame data whose base is an address is refused with Overrun exactly where it lacks a slot, and
+/// source. A word of frame data whose base is an address is refused with Overrun exactly where it lacks a slot, and
 /// only a word of frame data comes to Overrun. Where a run has words only at an address, that stays so after an access
 /// that isn't refused. A refused access changes neither the memory nor FAR as read.
 pub fn refusals_have_causes()

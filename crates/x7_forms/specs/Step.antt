@@ -106,8 +106,8 @@ abbrev pub IsCaused : {A : Type 0} → Option Known → (Mishap → Type 0) → 
 IsCaused known Came due got = IsCausedBy known Came (λ t result. due t ≡ result) got
 
 -- Whatever the flash holds, the result of a step has a cause: it is due by what the inputs hold, as known after the
--- step, or by that with a mishap that came, or it is want of memory. Where the inputs aren't known, it is a value, an event that lies in
--- them, the event of a mishap that came, or want of memory.
+-- step, or by that with a mishap that came, or it is want of memory. Where the inputs aren't known, it is a value, an
+-- event that lies in them, the event of a mishap that came, or want of memory.
 abbrev pub AnswersBy : {A : Type 0} → InputStep → (Known → Result A Event → Type 0) → Result A Event → Type 0
 AnswersBy step Due got = (flash : Option (List ℕ)) → IsCausedBy (with_inputs step.after.contents flash) (CameIn step) Due got
 

@@ -111,9 +111,9 @@ after_capture part instruction.Usercode p = record p { register = user_code }
 after_capture part instruction.CfgIn p = record p { register = 0; count = 0 }
 after_capture part _ p = record p { register = 0 }
 
--- the port after one bit in Shift-DR: under CFG_IN each eighth bit completes a byte, which is offered; under CFG_OUT a
--- bit of the words read out goes out, where one waits; IDCODE and USERCODE shift the register of 32 bits, and any other
--- instruction the one bit of bypass
+-- The port after one bit in Shift-DR. Under CFG_IN each eighth bit completes a byte, which is offered; under CFG_OUT a
+-- bit of the words read out goes out, where one waits. IDCODE and USERCODE shift the register of 32 bits, and any other
+-- instruction the one bit of bypass.
 abbrev pub after_shift : PartData → Instruction → Port → Bool → Port
 after_shift part instruction.CfgIn p tdi = record p {
   register = with_bit p.register tdi;

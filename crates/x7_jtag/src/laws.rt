@@ -16,8 +16,8 @@ pub fn five_ones_reset()
     ensures { (s : State) (a b c d e : Bool) → state_after s (tms_one a ∷ tms_one b ∷ tms_one c ∷ tms_one d ∷ tms_one e ∷ []) ≡ test_logic_reset }
 {}
 
-/// The device of a tap took the bytes that its port gave, or those up to the device's stop; as many words are due as
-/// come after the one whose bits go out; and the device's state (`Device::state`) is that of the bytes that the device
+/// The device of a tap took the bytes that its port gave, or those up to the device's stop. As many words are due as
+/// come after the one whose bits go out. And the device's state (`Device::state`) is that of the bytes that the device
 /// took, where FAR counts the words of frame data that the port took of the device.
 pub fn devices_take_what_is_given()
     ensures taken { ForEachPort (λ part d p. DeviceStandsFor part on_the_bench false d (bytes_taken part p)) }

@@ -23,8 +23,8 @@ row_line_size = 44
 abbrev pub fields_place : ℕ
 fields_place = 1
 
--- room for the lines of rows that have n bytes: four bytes of text for each, which is more than whole rows and the
--- records 04 of whole blocks take, and a record 04 and a row's line more, for the block and the row that are begun
+-- Room for the lines of rows that have n bytes: four bytes of text for each, which is more than whole rows and the
+-- records 04 of whole blocks take. A record 04 and a row's line more are for the block and the row that are begun.
 abbrev pub rows_room : ℕ → ℕ
 rows_room n = 4 * n + (base_line_size + row_line_size)
 

@@ -20,8 +20,8 @@ pub fn maps_override_by_address()
     ensures one_frame { (m n : FrameMap) (far : ℕ) (words : List ℕ) → ((a : ℕ) → n a ≡ (if a == far then Some words else m a)) → HaveSameFrames n (override m (single_frame far words)) }
 {}
 
-/// A memory of a part as a map: what is no address of the part has no frame, the map of zeros has a frame of zeros at
-/// each address of the part, and memories of the part whose maps have the same frames are equal.
+/// A memory of a part as a map. What is no address of the part has no frame, and the map of zeros has a frame of zeros
+/// at each address of the part. Memories of the part whose maps have the same frames are equal.
 pub fn memories_are_maps()
     ensures outside { (part : PartData) (frames : List (List ℕ)) (far : ℕ) → (¬ Contains (addresses_in part) far) → frame_at part frames far ≡ None }
     ensures zeros { (part : PartData) (far : ℕ) → Contains (addresses_in part) far → zeros part far ≡ Some (replicate (frame_words part) 0) }

@@ -21,12 +21,13 @@ pub record Read (map : NamedBytes) (inputs : RealInputs) (name bytes : List ℕ)
 abbrev pub Lists : List ℕ → SinkState → SinkState → Status → Type 0
 Lists bytes old new s = s ≡ text_status false → (text : List ℕ) × (stream_listing bytes ≡ Ok text) × PutsAll old text new
 
--- `asm` of a file with this text: where its status is that of a whole text, it wrote the bytes that the text assembles to
+-- `asm` of a file with this text: where its status is that of a whole text, it wrote the bytes that the text assembles
+-- to
 abbrev pub Assembles : List ℕ → SinkState → SinkState → Status → Type 0
 Assembles text old new s = s ≡ text_status false → (bytes : List ℕ) × IsAsm text (Ok bytes) × PutsAll old bytes new
 
--- The report of a device of the part of a part file with this text, which took the data of a stream with these bytes, was
--- written, and the status says whether the device stopped.
+-- The report of a device of the part of a part file with this text, which took the data of a stream with these bytes,
+-- was written, and the status says whether the device stopped.
 pub record WritesReport (part_text bytes : List ℕ) (old new : SinkState) (s : Status) : Type 0 where
   pub part : PartData
   pub fed : List ℕ

@@ -14,8 +14,8 @@ use x7_words::Sink;
 /// Runs the command that the words ask for over files of the system, and answers its status and what selects and reads
 /// came to.
 ///
-/// `W` is a map from names to bytes that proofs alone know. Whichever it is: if all that the files gave agrees with it, a
-/// text that was written whole is what the bytes come to that the map has under the names of the words.
+/// `W` is a map from names to bytes that proofs alone know. Whichever it is: if all that the files gave agrees with it,
+/// a text that was written whole is what the bytes come to that the map has under the names of the words.
 pub fn run_over_files<'r, R: Files, W: World, O: Sink, E: Sink>(
     rt: &'r R,
     alloc: Global,

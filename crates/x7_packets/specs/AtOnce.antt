@@ -56,8 +56,8 @@ pub record WritesOne (old new : CutterState) (rest : List ℕ) (register w : ℕ
   pub word : TakesAsOneRun middle new (bytes_of_word w) (Word register w)
   pub none_kept : new.kept ≡ []
 
--- the bytes, as many as the longest short write has at least, begin with a short write to a register other than CMD, of
--- one word at least; the new cutter is the old one after the header and then the words, and keeps no byte
+-- The bytes, as many as the longest short write has at least, begin with a short write to a register other than CMD, of
+-- one word at least. The new cutter is the old one after the header and then the words, and keeps no byte.
 pub record WritesShort (old new : CutterState) (rest : List ℕ) (register count : ℕ) : Type 0 where
   pub middle : CutterState
   pub range : register < reg_number_count

@@ -24,9 +24,9 @@ pub record CutterState : Type 0 where
   pub machine : MachineState
   pub kept : List ℕ
 
--- the cutter stands at this place, and its machine stands for the place's packets: in a gap there are none, and the
--- matcher stands for the gap; just after a sync word there are none, and no tail; in a session the tail is the bytes
--- that the cutter keeps
+-- The cutter stands at this place, and its machine stands for the place's packets. In a gap there are none, and the
+-- matcher stands for the gap. Just after a sync word there are none, and no tail; in a session the tail is the bytes
+-- that the cutter keeps.
 abbrev pub AtPlace : CutterState → Mode → Place → Type 0
 AtPlace c Mode.Searching (Searching gap) = MatcherStandsFor c.matcher gap × MachineStandsFor c.machine []
 AtPlace c Mode.SyncFound (Synced gap packets tail) = (packets ≡ []) × (tail ≡ []) × MachineStandsFor c.machine []
@@ -104,8 +104,8 @@ ChangesMode (Head w step) old new place = IsNotSyncFound old × IsNotSyncFound n
 ChangesMode (Word register w) old new place = IsNotSyncFound old × IsNotSyncFound new
 ChangesMode (Body register bytes) old new place = IsNotSyncFound old × IsNotSyncFound new
 
--- what holds of a run by itself, whatever the reading: a header's step is no payload, a register has a number below 32,
--- lent payload bytes are one or more whole words, one where the register is CMD, and a gap's bytes are one or more
+-- What holds of a run by itself, whatever the reading: a header's step is no payload, and a register has a number below
+-- 32. Lent payload bytes are one or more whole words, one where the register is CMD, and a gap's bytes are one or more.
 abbrev pub IsRun : Cut → Type 0
 IsRun (Head w (Payload register x)) = ⊥
 IsRun (Word register w) = register < reg_number_count

@@ -213,7 +213,7 @@ impl Cutter {
     }
 
     /// Takes the packet that comes next, where the cutter is at a header and the packet is a type 1 write of one to
-    /// sixteen words to a register other than CMD, its header's reserved bits 0, and `rest` has at least 68 bytes,
+    /// sixteen words to a register other than CMD, its header's reserved bits 0. `rest` must have at least 68 bytes,
     /// those of a header and sixteen words. Gives the packet's register and how many words it has, or `None`, which
     /// leaves the cutter as it is.
     #[inline(always)]
@@ -244,9 +244,9 @@ impl Cutter {
     }
 
     /// Takes what is left of a gap and the sync word after it, where the sync word stands whole in the first 32 bytes
-    /// of `rest`, `rest` has at least 35 bytes, and the gap's last three bytes taken, each that isn't there counted as
-    /// 0, are 0. Answers how many of the bytes are the gap's. `None` leaves the cutter as it is; a sync word may stand
-    /// there still.
+    /// of `rest`, and `rest` has at least 35 bytes. The gap's last three bytes taken, each that isn't there counted as
+    /// 0, must be 0. Answers how many of the bytes are the gap's. `None` leaves the cutter as it is; a sync word may
+    /// stand there still.
     #[inline(always)]
     pub fn take_gap(&mut self, rest: &[u8]) -> Option<usize>
         ensures ends_gap { IfSome result (λ count. EndsGap self.old self.new rest.now count) }

@@ -52,8 +52,8 @@ pub fn examples_of_ends()
         ≡ session_with_tail (nop 0x20000000 ∷ []) (0x30 ∷ 0 ∷ 0x80 ∷ []) }
 {}
 
-/// What a stream asks of the registers: each access at its place, the newest first; the commands that it executes,
-/// where a write to FAR executes RCRC again, and DESYNC not; and the writes that the running check is over, those since
+/// What a stream asks of the registers: each access at its place, the newest first. The commands that it executes,
+/// where a write to FAR executes RCRC again, and DESYNC not. And the writes that the running check is over, those since
 /// the last RCRC, where one to LOUT is left out.
 pub fn examples_of_the_history()
     ensures accesses { history_of (synced (0x30008001 ∷ 7 ∷ 0x30002001 ∷ 0 ∷ [])) ≡ write_at 1 0 20 ∷ write_at 4 7 12 ∷ [] }

@@ -38,8 +38,8 @@ unfoldable pub far_at : PartData → ℕ → ℕ → ℕ
 far_at part base slot =
     if is_frame_address part base then unwrap_or (first_address (drop slot (slots_from part base))) (last_address part) else base
 
--- FAR as read, after a run from the base or `given` words of a readback: after n whole frames of either, a readback's
--- pad frame counted, it stands at slot n - 1, from 0, of those from the base on, and before any whole frame at slot 0
+-- FAR as read, after a run from the base or `given` words of a readback. After n whole frames of either, a readback's
+-- pad frame counted, it stands at slot n - 1, from 0, of those from the base on; before any whole frame at slot 0.
 unfoldable pub far_of : PartData → ℕ → List ℕ → ℕ → ℕ
 far_of part base run given =
     far_at part base (max (length (frames_of (frame_words part) run)) (given / frame_words part) - 1)

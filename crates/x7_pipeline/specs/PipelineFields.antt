@@ -27,9 +27,9 @@ pipeline_seen p = record {
   slot = p.slot;
 }
 
--- a frame has a word at least, and an address 32 bits at most; the vectors of the rest, of the newest frame and of the
--- source have room for a frame each; the rest is shorter than a frame, and the newest frame and the source are whole
--- where there are such
+-- A frame has a word at least, and an address 32 bits at most. The vectors of the rest, of the newest frame and of the
+-- source have room for a frame each. The rest is shorter than a frame, and the newest frame and the source are whole
+-- where there are such.
 pub record HasFrameRoom (p : Inside) : Type 0 where
   pub some : 0 < p.width
   pub narrow : p.far_width ≤ most_address_width

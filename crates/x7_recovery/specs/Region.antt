@@ -12,8 +12,9 @@ abbrev pub EndWithin : List ℕ → List AttemptCourse → Type 0
 EndWithin region [] = Unit {0}
 EndWithin region (t ∷ older) = (t.wrapped ≡ false) × (attempt_end t ≤ length region) × EndWithin region older
 
--- A boot from a flash of which an update of a region left `found`, with `more` after it: that of the region as it was,
--- with the same bytes after it, or one that starts as the golden stream does, or that of the updated region with them.
+-- A boot from a flash of which an update of a region left `found`, with `more` after it. It is that of the region as it
+-- was, with the same bytes after it, or one that starts as the golden stream does, or that of the updated region with
+-- them.
 pub data RegionBootsAlike (u : UpdatingByAttempt) (more found : List ℕ) (b : BootedState) : Type 0 where
   as_before : IsBoot u.part (u.flash ++ more) b → RegionBootsAlike u more found b
   golden : (boot : IsBoot u.part (found ++ more) b) → StartsAlike u.part u.golden (course_of b boot.last) → RegionBootsAlike u more found b

@@ -21,7 +21,7 @@ pub fn updates_keep_golden_streams()
 {}
 
 /// For a part whose start address counts bytes, and a golden stream that before any update, with the first sector
-/// erased, started in an attempt that ended at the update's place or before it, and began clean: after any number of
+/// erased, started in an attempt that ended at the update's place or before it, and began clean. After any number of
 /// updates and one more, where the first sector is bytes, a boot tries the stream of the last, as from any flash with
 /// an open slot. Where that stream fails and CTL0 allows a fallback the boot falls back to the golden stream, which
 /// starts at the byte at which it started before, with the same memory, and BOOTSTS shows the fallback and the cause of

@@ -11,9 +11,9 @@ ghost use Rattle.x7_recovery.specs.Recovery.{IsPrepared, Updating};
 ghost use Rattle.x7_update.specs.After.{IsBetweenSlots, MayBeLeft};
 ghost use Rattle.x7_update.specs.Layout.{IsUpdatable};
 
-/// Of two flashes of bytes, of one sector at least each, in whose first sectors no sync word begins: where the attempt
+/// Of two flashes of bytes, of one sector at least each, in whose first sectors no sync word begins. Where the attempt
 /// at power over the one starts, and the other has the same bytes after the first sector up to the attempt's end, a
-/// boot from the other starts with its one attempt, at power, and with the memory and registers with which that attempt
+/// boot from the other starts with its one attempt, at power. It has the memory and registers with which that attempt
 /// ended.
 pub fn flashes_that_lead_nowhere_start_alike()
     ensures { (part : PartData) (one other : List ℕ) (t : AttemptCourse) (b : BootedState) → HaveSameGolden part one other t
@@ -28,7 +28,7 @@ pub fn flashes_between_slots_lead_nowhere()
 {}
 
 /// Of a flash that can be updated, whose golden stream starts where the first sector is erased, by an attempt that ends
-/// at the update's place or before it: whatever a power loss in an update leaves of it boots as the flash did before,
+/// at the update's place or before it. Whatever a power loss in an update leaves of it boots as the flash did before,
 /// or starts as the golden stream does, or boots as the updated flash.
 pub fn found_flashes_boot_alike()
     ensures { (u : UpdatingByAttempt) (found : List ℕ) (b : BootedState) → IsPreparedByAttempt u
@@ -36,7 +36,7 @@ pub fn found_flashes_boot_alike()
 {}
 
 /// Of a flash that can be updated, whose golden stream is the full stream of a plan for the part and ends at the
-/// update's place or before it: with the first sector erased the attempt at power starts at the stream's last byte or
+/// update's place or before it. With the first sector erased the attempt at power starts at the stream's last byte or
 /// before it, with the memory of the plan over zeros, and BOOTSTS shows no other attempt. Each attempt that starts so
 /// begins clean.
 pub fn full_streams_start()

@@ -15,7 +15,7 @@ ghost use Rattle.x7_recovery.specs.Recovery.{IsPrepared, updating_image};
 ghost use Rattle.x7_update.specs.After.{MayBeLeft};
 
 /// A flash that begins with the image of a golden and an update stream for a part, where the image is no larger than a
-/// flash may be, has both streams and its first slot open, which leads to the update, whatever follows the image: each
+/// flash may be, has both streams and its first slot open, which leads to the update, whatever follows the image. Each
 /// boot from it comes to what one from a flash with an open slot does. Where the golden stream is the full stream of a
 /// plan for the part, this full stream stands after the first sector.
 pub fn images_boot()

@@ -12,7 +12,7 @@ ghost use Rattle.x7_update.specs.Layout.{IsUpdatable};
 ghost use Rattle.x7_recovery.specs.Recovery.{BootsAs, IsPrepared, Updating, updating_image};
 
 /// Of a flash that can be updated, whose golden stream is the full stream of a plan for the part and ends at the
-/// update's place or before it: whatever a power loss in an update leaves of it boots as the flash did before, or
+/// update's place or before it. Whatever a power loss in an update leaves of it boots as the flash did before, or
 /// starts with the golden stream, or boots as the updated flash.
 pub fn found_flashes_boot()
     ensures { (u : Updating) (found : List ℕ) (b : BootedState) → IsPrepared u

@@ -14,8 +14,8 @@ ghost use Rattle.x7_update.specs.Layout.{IsUpdatable, update_place};
 /// From a flash with an open slot a boot tries the update at the place to which the slot leads. Where the update starts
 /// the boot ends there; an update that is the full stream of a plan starts, with the memory of the plan. Where the
 /// update fails and CTL0 forbids a fallback the boot stops. Where CTL0 allows one the boot falls back, and starts with
-/// a golden stream of these three kinds: the full stream of a plan; one that starts at power after an erased first
-/// sector and begins clean; one with which some fallback over this flash starts.
+/// a golden stream of one of three kinds. It is the full stream of a plan; or one that starts at power after an erased
+/// first sector and begins clean; or one with which some fallback over this flash starts.
 pub fn open_slots_boot()
     ensures { (o : OpenFlash) → IsOpenFlash o → EachBootsOpen o }
 {}

@@ -7,10 +7,10 @@ ghost use Rattle.x7_recovery.specs.Golden.{IsPreparedByAttempt, UpdatingByAttemp
 ghost use Rattle.x7_recovery.specs.Region.{EndWithin, RegionBootsAlike};
 ghost use Rattle.x7_update.specs.After.{MayBeLeft};
 
-/// Of a flash that begins with a region which can be updated, and whose golden stream, after an erased first sector,
-/// starts by an attempt that ends at the update's place or before it: whatever a power loss in an update of the region
-/// leaves of it, with any bytes after it, boots as the region did before, with them, or starts as the golden stream
-/// does, or boots as the updated region, with them.
+/// Of a flash that begins with a region which can be updated, with any bytes after it. The region's golden stream,
+/// after an erased first sector, starts by an attempt that ends at the update's place or before it. Whatever a power
+/// loss in an update of the region leaves of it boots as the region did before, with these bytes, or starts as the
+/// golden stream does, or boots as the updated region, with them.
 pub fn updated_regions_boot_alike()
     ensures { (u : UpdatingByAttempt) (more found : List ℕ) (b : BootedState) → IsPreparedByAttempt u → AreBytes more
         → MayBeLeft u.stream u.flash found → IsBoot u.part (found ++ more) b → RegionBootsAlike u more found b }

@@ -78,7 +78,7 @@ module _ {B F : Type 0} (taken : B → List (List ℕ) → Type 0) (fails : F �
       → MatchResult result (λ x. StandsFor taken (new x) (text ++ piece)) (λ fault. FailsFrom (fails fault) (text ++ piece))
 
   -- Whatever text of fewer than 2^63 bytes, the piece among them, a reader stood for: the piece was taken up to the end
-  -- of the line that was held, and the rest after it is the answer; or, where no line ends in the piece, all of it was
+  -- of the line that was held, and the rest after it is the answer. Or, where no line ends in the piece, all of it was
   -- taken and the answer is none. Or every text that begins so fails.
   abbrev pub CompletesLine : {R : Type 0} → (R → List ℕ) → ReaderState B → List ℕ → Result (Option R) F → ReaderState B → Type 0
   CompletesLine bytes old piece result new =

@@ -6,8 +6,8 @@ use Rattle.x7_listing.specs.declared.list.lister.TheConstants.{BYTE_ROOM}
 use Rattle.x7_listing.specs.declared.list.pen.TheConstants.{CALL_ROOM}
 
 -- `size` of the bytes that come next were taken, one at least, the cutter keeps no more bytes than before, and the text
--- grew from one length, in bytes, to another: of the room that a lister asks for the bytes taken, that of one call of a
--- pen is left over
+-- grew from one length, in bytes, to another. Of the room that a lister asks for the bytes taken, that of one call of a
+-- pen is left over.
 pub record TakesAtOnce (old new : CutterState) (rest : List ℕ) (size from to : ℕ) : Type 0 where
   pub at_least_one : 0 < size
   pub within : size ≤ length rest
@@ -18,9 +18,9 @@ pub record TakesAtOnce (old new : CutterState) (rest : List ℕ) (size from to :
 abbrev pub most_text : ℕ
 most_text = 25
 
--- `size` of the bytes that come next were taken, four at least, the cutter keeps no more bytes than before, and the
+-- `size` of the bytes that come next were taken, four at least, and the cutter keeps no more bytes than before. The
 -- text of a sheet grew from one length, in bytes, to another: by `most_text` at most for each byte taken, and within
--- the sheet
+-- the sheet.
 pub record TakesOnSheet (old new : CutterState) (rest : List ℕ) (size from to : ℕ) : Type 0 where
   pub at_least_a_word : 4 ≤ size
   pub within : size ≤ length rest
