@@ -148,8 +148,8 @@ impl Clock {
     }
 
     /// Takes the rest of `count` bytes at once, where startup has ended with the first `taken` and the watchdog fired
-    /// at none of these, up to the first at which it fires: the number of that byte among all `count`, from 1, or none
-    /// where it fires at no byte.
+    /// at none of these, up to the first at which it fires. Answers the number of that byte among all `count`, from 1,
+    /// or none where it fires at no byte.
     fn bytes_after_end(&mut self, part: &Part, taken: usize, count: usize) -> Option<usize>
         requires within { taken ≤ count }
         ensures within { IfSome result (λ k. (0 < k) × (k ≤ count)) }

@@ -113,9 +113,10 @@ fn carry_out<I: Inputs, O: Sink, E: Sink, F: Flash>(
 /// no whole text, one line goes to `err`.
 ///
 /// Power may be lost at any moment. Where the bytes of the flash are known, what is found of it then is what it held,
-/// or what an update may leave of it. Where the stream is known too, the flash can be updated, and the golden stream,
-/// whoever made it, starts after an erased first sector and ends at the update's place or before it, a boot from what
-/// is found is the one before the update, or starts as the golden stream does, or is the one after the update.
+/// or what an update may leave of it. Take that the stream is known too, that the flash can be updated, and that the
+/// golden stream, whoever made it, starts after an erased first sector and ends at the update's place or before it.
+/// Then a boot from what is found is the one before the update, or starts as the golden stream does, or is the one
+/// after the update.
 ///
 /// The full stream of a plan is such a golden stream (`x7_recovery::full_streams_start`).
 pub fn run<I: Inputs, O: Sink, E: Sink, F: Flash>(

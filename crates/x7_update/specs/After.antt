@@ -28,10 +28,10 @@ pub record IsAfterUpdate (stream flash after : List ℕ) : Type 0 where
   pub fits : update_place flash + length stream ≤ length flash
   pub is : after ≡ with_switch_word next open_switch (with_stream (update_place flash) stream spent)
 
--- A flash as it may be left in an update, after its open slot, if it had one, was spent and before the next is opened:
--- its size stays, no slot is open, each slot has after its switch word the bytes that it had, each switch word but that
--- of the slot that was open and the next one's stays, the bytes from the second sector up to the update's place stay,
--- and from there on there may be anything.
+-- A flash as it may be left in an update, after its open slot, if it had one, was spent and before the next is opened.
+-- Its size stays, and no slot is open. Each slot has after its switch word the bytes that it had, and each switch word
+-- but that of the slot that was open and the next one's stays. The bytes from the second sector up to the update's
+-- place stay, and from there on there may be anything.
 pub record IsBetweenSlots (flash found : List ℕ) : Type 0 where
   pub size : length found ≡ length flash
   pub slots : (i : ℕ) → i < sector_size → switch_size ≤ i % flash_slot_size → get_or found i 0 ≡ get_or flash i 0

@@ -39,9 +39,9 @@ pub record HasGoodBeginning (size : ℕ) (flash : List ℕ) : Type 0 where
   pub leads : LeadsToUpdate flash 0
   pub place : CanStandAt size (update_place flash)
 
--- The place that shows that a flash of a size can't be updated. The first of these lines that holds gives it: the size
+-- The place that shows that a flash of a size can't be updated. The first of these lines that holds gives it. The size
 -- is bad (the size); the first slot differs (there); the update's place is none where an update can stand (where the
--- first slot has it); a further slot is bad, the slots in their order; the last slot isn't free (its place).
+-- first slot has it). A further slot is bad, the slots in their order; the last slot isn't free (its place).
 pub data NoLayoutAt (size : ℕ) (flash : List ℕ) (place : ℕ) : Type 0 where
   bad_size : (IsUpdatableSize size → ⊥) → place ≡ size → NoLayoutAt size flash place
   bad_first : IsUpdatableSize size → DiffersAt flash 0 place → NoLayoutAt size flash place

@@ -29,9 +29,8 @@ pub record SlotsAmong (flash : List ℕ) (count : ℕ) (slots : Slots) : Type 0 
   pub free : (slot : ℕ) → slots.next ≤ slot → slot < count → IsFree flash slot
   pub first : (slot : ℕ) → suc slot ≡ slots.next → switch_of flash slot ≢ free_switch
 
--- `target` says where an update goes in a flash of `size` bytes: the size is good, the first sector is slots as the
--- layout has them, and the target has the update's place that they lead to, the open slot or none, and the next free
--- one
+-- `target` says where an update goes in a flash of `size` bytes. The size is good, and the first sector is slots as the
+-- layout has them. The target has the update's place that they lead to, the open slot or none, and the next free one.
 pub record IsTargetIn (size : ℕ) (flash : List ℕ) (target : UpdateTarget) : Type 0 where
   pub sized : IsUpdatableSize size
   pub has : HasSlots size flash

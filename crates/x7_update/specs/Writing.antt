@@ -150,9 +150,9 @@ IsWrong stream_place stream place buffer TooLong = ⊥
 IsWrong stream_place stream place buffer (NoLayout at) = ⊥
 IsWrong stream_place stream place buffer NoMemory = ⊥
 
--- A piece that an update with a stream writes in a flash of a size, from one place on up to another: the stream, and FF
--- after it up to the flash's end, from a place on at which the stream can stand and fits; or the switch word of the
--- slot that is opened.
+-- A piece that an update with a stream writes in a flash of a size, from one place on up to another. It is the stream,
+-- and FF after it up to the flash's end, from a place on at which the stream can stand and fits; or the switch word of
+-- the slot that is opened.
 pub data IsWritten (size : ℕ) (stream piece : List ℕ) (from end : ℕ) : Type 0 where
   in_stream : CanStandAt size from → from + length stream ≤ size → piece ≡ stream → end ≡ size → IsWritten size stream piece from end
   in_switch : (slot : ℕ) → slot < flash_slot_count → from ≡ flash_slot_size * slot → piece ≡ open_switch → end ≡ from + switch_size → IsWritten size stream piece from end

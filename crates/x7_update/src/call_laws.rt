@@ -15,7 +15,7 @@ ghost use Rattle.x7_update.specs.Writing.{wanted_at};
 ghost use Rattle.x7_update.specs.declared.fault.UpdateFault.TheVariants.{Differs};
 
 /// Of a flash that can be updated and gives what it holds, whatever a power loss at any moment of an update leaves, its
-/// last write torn or failed, is the flash as it was, or one between slots, or the updated one; and where all calls were
+/// last write torn or failed, is the flash as it was, or one between slots, or the updated one. Where all calls were
 /// answered well it is the updated one.
 pub fn update_calls_leave()
     ensures leaves { (flash stream first_sector found : List ℕ) (calls : List FlashCall) → IsUpdatable flash → AreBytes flash → AreBytes stream

@@ -36,9 +36,9 @@ fn answer(started: bool, at: usize, fed: Fed) -> UntilStarted
 }
 
 impl Device {
-    /// Where the next turn of a piece of `length` bytes, from place `at` on, ends at the latest: where startup has
-    /// begun, at the first byte at which it may end, and else at the piece's end, since a turn in which startup begins
-    /// ends there by itself.
+    /// Where the next turn of a piece of `length` bytes, from place `at` on, ends at the latest. Where startup has
+    /// begun it is at the first byte at which it may end. Else it is at the piece's end, since a turn in which startup
+    /// begins ends there by itself.
     fn turn_end(&self, at: usize, length: usize) -> usize
         requires { at ≤ length }
         ensures within { result ≤ length }
