@@ -232,6 +232,11 @@ def check_rows(given: Any, frame_words: int) -> None:
         raise Refused(f"frames and pads have more than {MOST_WORDS} words")
 
 
+def is_part_text(raw: bytes) -> bool:
+    """Whether a file that begins with these bytes seems to be a part file: a line of it gives a name or an IDCODE."""
+    return bool(re.search(rb"(?m)^(name|idcode)[ \t]*=", raw[:4096]))
+
+
 def part_of(text: str) -> Part:
     """The part that the text of a part file says."""
     table = Toml(text).tables()

@@ -64,6 +64,15 @@ def part_of_stream(path: str) -> str | None:
     return part_of_data((read_listing(path) if is_listing(raw) else stream_named(path, raw)).data)
 
 
+def part_for_stream(path: str) -> str:
+    """The path of the part file for the stream in a file, where a tool can do nothing without one: else a refusal that
+    says what to do."""
+    part = part_of_stream(path)
+    if not part:
+        raise Refused(f"{path}: the shelf has no part file for its device: give one before it ({CALLED}part makes it)")
+    return part
+
+
 def part_file(word: str) -> str:
     """The path of a part file that a user names: a file, or a device of the shelf. Another name is refused."""
     if os.path.exists(word):
