@@ -2,7 +2,7 @@
 use Rattle.std.proofs.Common.{Option, ◌≡◌, ◌≢◌, ℕ, ◌+◌, ◌*◌, ◌-◌, ◌<◌, ◌≤◌, ◌↔◌, Bool, true, false, List, [], ◌∷◌, ◌++◌, length, take, drop, Bor, inl, inr, refl, ap, sym, subst, ◌∙◌, append_assoc, append-nil, arith, length-append, length-take, if◌then◌else◌, ◌⊎◌, suc}
 use Rattle.std.specs.Bool.{⊤}
 use Rattle.std.proofs.lemmas.List.{drop-drop, drop-take, take-append-drop, take-take, take_all, take_at, drop_all}
-use Rattle.x7_words.specs.Input.{AtEnd, InputsState, InputsStay, TakenBy}
+use Rattle.x7_words.specs.Input.{AsksForNoInput, AtEnd, InputsState, InputsStay, TakenBy}
 use Rattle.x7_words.proofs.InputLemmas.{taken_before, taken_none, taken_on}
 use Rattle.x7_words.specs.Word.{words_of_bytes}
 use Rattle.x7_packets.specs.SyncWord.{sync_bytes}
@@ -18,7 +18,7 @@ use Rattle.x7_packets.specs.declared.stream.Run.{Run}
 use Rattle.x7_packets.specs.declared.stream.Run.TheVariants as run
 use Rattle.x7_packets.specs.PacketsState.{PacketsState, piece_size}
 use Rattle.x7_packets.specs.Run.{FitsRun, IsNext, RunAdds, cut_of, is_last, bytes_of_run}
-use Rattle.x7_packets.specs.Stream.{GivesRun, GivesUp, IsFoundRun, IsLastFound, IsRunOf, PacketsStandFor, TookBytes, SameSyncFound, CutsNext, ReadsAndGives, filled, not_given, with_tail}
+use Rattle.x7_packets.specs.Stream.{GivesRun, GivesUp, IsFoundRun, IsLastFound, RunIsReady, IsRunOf, PacketsStandFor, TookBytes, SameSyncFound, CutsNext, ReadsAndGives, filled, not_given, with_tail}
 
 -- how many reads there are at most until a word is whole
 abbrev pub turns_left : List ℕ → List ℕ → ℕ
@@ -352,11 +352,6 @@ fills old bytes given piece none on p = record {
   count = ap (λ t. t + length piece) p.count ∙ sym (length-append bytes piece);
 }
 
--- at most nine reads are left until a word is whole
-pub turns_most : (kept left : List ℕ) → turns_left kept left ≤ 9
-turns_most kept [] = omega arith
-turns_most kept (b ∷ left) = omega arith
-
 turns_fall : (kept left new piece : List ℕ) → 0 < length piece → length new ≡ length kept + length left → (0 < length left → length kept + length left < 4) → turns_left new piece < turns_left kept left
 turns_fall kept left new [] s e h = absurd (omega arith)
 turns_fall kept [] new (b ∷ piece) s e h = omega (arith, e)
@@ -367,12 +362,17 @@ few_left Mode.Searching kept left h s = absurd (omega (arith, h))
 few_left Mode.SyncFound kept left h s = absurd h
 few_left Mode.Synced kept left h s = h
 
-pub turns_go : (old new : PacketsState) (s : CutsNext old new false) (piece : List ℕ) → 0 < length piece → turns_left new.cutter.kept piece < turns_left old.cutter.kept old.left
-turns_go old new s piece some =
+-- a call that needs more bytes keeps all that were left
+pub keeps_all_left : (old new : PacketsState) (s : CutsNext old new false) → length new.cutter.kept ≡ length old.cutter.kept + length old.left
+keeps_all_left old new s =
     let none : length old.left - s.count ≡ 0 = need_goes s.run _ _ _ s.is s.cuts.nearer in
     let whole : take s.count old.left ≡ old.left = take_all s.count old.left (omega (arith, none)) in
     let joined : old.cutter.kept ++ old.left ≡ new.cutter.kept = ap (λ t. old.cutter.kept ++ t) (sym whole) ∙ s.cuts.joined ∙ ap (λ x. x ++ new.cutter.kept) (need_tells_none s.run s.is) in
-    turns_fall old.cutter.kept old.left new.cutter.kept piece some (ap length (sym joined) ∙ length-append old.cutter.kept old.left) (few_left old.cutter.mode old.cutter.kept (length old.left) (s.cuts.need.0 s.is))
+    ap length (sym joined) ∙ length-append old.cutter.kept old.left
+
+pub turns_go : (old new : PacketsState) (s : CutsNext old new false) (piece : List ℕ) → 0 < length piece → turns_left new.cutter.kept piece < turns_left old.cutter.kept old.left
+turns_go old new s piece some =
+    turns_fall old.cutter.kept old.left new.cutter.kept piece some (keeps_all_left old new s) (few_left old.cutter.mode old.cutter.kept (length old.left) (s.cuts.need.0 s.is))
 
 same_sync_found : (old now new : Mode) → SameSyncFound old now → (now ≡ Mode.SyncFound → ⊥) → (new ≡ Mode.SyncFound → ⊥) → SameSyncFound old new
 same_sync_found old now new s n m = (λ e. absurd (n (s.0 e)), λ e. absurd (m e))
@@ -394,6 +394,47 @@ reads_none p = record {
   count = omega arith;
   stands = λ bytes given s. (subst (λ t. PacketsStandFor p t given) (sym (append-nil bytes)) s, (λ e. e, λ e. e));
 }
+
+-- the bytes that a call read so far are no more than are kept or left, and than three and a piece
+pub record HasRoom (first now : PacketsState) : Type 0 where
+  pub all : now.taken ≤ first.taken + (length now.cutter.kept + length now.left)
+  pub most : now.taken ≤ first.taken + (3 + piece_size)
+
+-- a call that has read nothing
+pub room_none : (p : PacketsState) → HasRoom p p
+room_none p = record { all = omega arith; most = omega arith }
+
+-- before each read a call has read three bytes at most
+pub few_before : (first old now : PacketsState) (more : List ℕ) (s : CutsNext old now false) → TookBytes first old more → HasRoom first old → length more ≤ 3
+few_before first old now more s reads room = omega (arith, reads.count, room.all, keeps_all_left old now s, s.few)
+
+-- a call has read no more bytes than three and a piece
+pub most_read : (first now : PacketsState) (more : List ℕ) → TookBytes first now more → HasRoom first now → length more ≤ 3 + piece_size
+most_read first now more reads room = omega (arith, reads.count, room.most)
+
+-- no input was asked for, and no read gave nothing
+pub record AsksToReadOn (old new : InputsState) : Type 0 where
+  pub asked : new.asked ≡ old.asked
+  pub selects : new.selects ≡ old.selects
+  pub ends : new.ends ≤ old.ends
+
+pub asks_nothing : (now : InputsState) → AsksToReadOn now now
+asks_nothing now = record { asked = refl; selects = refl; ends = omega arith }
+
+-- after such reads, one more that gave some bytes
+pub asks_on : (first mid now : InputsState) → AsksToReadOn first mid → AsksForNoInput mid now → now.ends ≤ mid.ends → AsksToReadOn first now
+asks_on first mid now a b ends = record { asked = b.asked ∙ a.asked; selects = b.selects ∙ a.selects; ends = omega (arith, ends, a.ends) }
+
+-- and after such reads, one that may have given nothing
+pub asks_once : (first mid now : InputsState) → AsksToReadOn first mid → AsksForNoInput mid now → AsksForNoInput first now
+asks_once first mid now a b = record { asked = b.asked ∙ a.asked; selects = b.selects ∙ a.selects; ends = omega (arith, b.ends, a.ends) }
+
+pub asks_not : (first now : InputsState) → AsksToReadOn first now → AsksForNoInput first now
+asks_not first now a = record { asked = a.asked; selects = a.selects; ends = omega (arith, a.ends) }
+
+-- where a run was ready before the call, none of its cuts needs more bytes
+pub never_waits : {A : Type 0} (first old now : PacketsState) (s : CutsNext old now false) → (RunIsReady first → (old ≡ first) × A) → RunIsReady first → ⊥
+never_waits first old now s same ready = ready (subst (λ (p : PacketsState). CompletesNone p.cutter (length p.left)) (same ready).0 (s.cuts.need.0 s.is))
 
 -- ---- what a call tells
 
@@ -600,14 +641,14 @@ again p off good = record {
 pub gives_again : (p : PacketsState) (now : InputsState) (r : Run) → p.is_done ≡ true → p.has_failed ≡ false → AtEnd now.rest → r ≡ run.End → GivesRun p (record p { found = FoundRun.End }) now now r
 gives_again p now r off good end at =
     let same : record p { found = FoundRun.End } ≡ record p { found = FoundRun.End; is_done = true } = ap (λ (d : Bool). record p { found = FoundRun.End; is_done = d }) off in
-    rw (same, at) (record { more = []; taken = taken_none now.contents now.rest; tells = again p off good; end = λ _. end })
+    rw (same, at) (record { more = []; taken = taken_none now.contents now.rest; most = omega arith; tells = again p off good; end = λ _. end })
 
 -- a read that gave no byte, and then the tail or the end
-pub gives_end : (first old now mid new : PacketsState) (more piece : List ℕ) (first_in mid_in now_in : InputsState) (r : Run) (s : CutsNext old now false) → old.is_done ≡ false → old.has_failed ≡ false → TookBytes first old more
+pub gives_end : (first old now mid new : PacketsState) (more piece : List ℕ) (first_in mid_in now_in : InputsState) (r : Run) (s : CutsNext old now false) → old.is_done ≡ false → old.has_failed ≡ false → TookBytes first old more → HasRoom first old
     → InputsStay mid_in now_in → TakenBy mid_in.contents first_in.rest more mid_in.rest → TakenBy now_in.contents mid_in.rest piece now_in.rest → mid ≡ filled now piece → piece ≡ [] → AtEnd now_in.rest
     → (mid.cutter.kept ≢ [] → new ≡ record mid { found = FoundRun.Tail; is_done = true }) → (mid.cutter.kept ≡ [] → new ≡ record mid { found = FoundRun.End; is_done = true })
     → IsLastFound new r → GivesRun first new first_in now_in r
-gives_end first old now mid new more piece first_in mid_in now_in r s on good reads stays t u is none end tail no_tail last =
+gives_end first old now mid new more piece first_in mid_in now_in r s on good reads room stays t u is none end tail no_tail last =
     let at : mid ≡ filled now [] = is ∙ ap (filled now) none in
     let by_tail : now.cutter.kept ≢ [] → new ≡ record (filled now []) { found = FoundRun.Tail; is_done = true } = subst (λ (m : PacketsState). m.cutter.kept ≢ [] → new ≡ record m { found = FoundRun.Tail; is_done = true }) at tail in
     let by_none : now.cutter.kept ≡ [] → new ≡ record (filled now []) { found = FoundRun.End; is_done = true } = subst (λ (m : PacketsState). m.cutter.kept ≡ [] → new ≡ record m { found = FoundRun.End; is_done = true }) at no_tail in
@@ -615,14 +656,19 @@ gives_end first old now mid new more piece first_in mid_in now_in r s on good re
       more = more;
       taken = subst (λ (b : List ℕ). TakenBy now_in.contents first_in.rest b now_in.rest) (ap (λ (p : List ℕ). more ++ p) none ∙ append-nil more)
           (taken_on now_in.contents first_in.rest mid_in.rest now_in.rest more piece (taken_before mid_in.contents now_in.contents first_in.rest more mid_in.rest stays.map t) u);
+      most = most_read first old more reads room;
       tells = (tells_end first old now new more r s on good reads by_tail by_none last).0;
       end = λ _. end;
     }
 
 -- a read that failed
-pub gives_up : (first old now new : PacketsState) (more : List ℕ) (s : CutsNext old now false) → old.is_done ≡ false → TookBytes first old more → new ≡ record now { bytes = []; has_failed = true } → GivesUp first new
-gives_up first old now new more s on reads e = rw e (record {
+pub gives_up : (first old now new : PacketsState) (before after : InputsState) (more : List ℕ) (later : Option (List ℕ)) (s : CutsNext old now false) → TakenBy after.contents before.rest more later
+    → old.is_done ≡ false → TookBytes first old more → HasRoom first old → new ≡ record now { bytes = []; has_failed = true } → GivesUp first new before after
+gives_up first old now new before after more later s taken on reads room e = rw e (record {
   more = more;
+  later = later;
+  taken = taken;
+  most = few_before first old now more s reads room;
   reads = record {
     count = s.taken ∙ reads.count;
     stands = λ bytes given p.
@@ -636,10 +682,12 @@ gives_up first old now new more s on reads e = rw e (record {
   failed = refl;
 })
 
--- the count of bytes taken stays within the limit for all reads that are left, also after one more
-pub room_on : (old now new : PacketsState) (s : CutsNext old now false) (piece : List ℕ) (limit : ℕ) → new ≡ filled now piece → 0 < length piece → length piece ≤ piece_size
-    → old.taken + 65536 * turns_left old.cutter.kept old.left ≤ limit → new.taken + 65536 * turns_left new.cutter.kept new.left ≤ limit
-room_on old now new s piece limit e some most room = rw e (omega (arith, s.taken, most, room, turns_go old now s piece some))
+-- after a piece more no more bytes were read in the call than are kept or left
+pub room_on : (first old now new : PacketsState) (more piece : List ℕ) (s : CutsNext old now false) → new ≡ filled now piece → length piece ≤ piece_size → TookBytes first old more → HasRoom first old → HasRoom first new
+room_on first old now new more piece s e most reads room = rw e (record {
+  all = omega (arith, s.taken, keeps_all_left old now s, room.all);
+  most = omega (arith, s.taken, reads.count, few_before first old now more s reads room, most);
+})
 
 -- after a piece of some bytes fewer reads are left until a word is whole
 pub turns_fewer : (old now new : PacketsState) (s : CutsNext old now false) (piece : List ℕ) → new ≡ filled now piece → 0 < length piece → turns_left new.cutter.kept new.left < turns_left old.cutter.kept old.left

@@ -1,12 +1,12 @@
 -- Packets over an input: what a reader of packets stands for, and what each run that it lends says (this project's
 -- choice).
-use Rattle.std.specs.Prelude.{◌≡◌, ℕ, ◌+◌, ◌<◌, ◌≤◌, ◌↔◌, List, [], ◌++◌, length, take, drop, Bool, true, false, if◌then◌else◌, Result, Ok, Err, OnErr, OnOk, ◌⊎◌}
+use Rattle.std.specs.Prelude.{◌≡◌, ℕ, ◌+◌, ◌<◌, ◌≤◌, ◌↔◌, List, [], ◌++◌, length, take, drop, Bool, true, false, if◌then◌else◌, Option, Result, Ok, Err, OnErr, OnOk, ◌⊎◌}
 use Rattle.std.specs.Borrow.{Bor, Fml, MutBor}
 use Rattle.std.specs.Io.BufRead.{Rests}
-use Rattle.x7_words.specs.Input.{AtEnd, InputsFail, InputsState, InputsStay, TakenBy, taken_bytes_limit}
+use Rattle.x7_words.specs.Input.{AsksForNoInput, AtEnd, InputsFail, InputsState, InputsStay, TakenBy, taken_bytes_limit}
 use Rattle.x7_words.specs.declared.input.Failed.{Failed}
 use Rattle.x7_packets.specs.Reading.{Place, Searching, Synced, EndedSession, IsReading, tail_of}
-use Rattle.x7_packets.specs.Cutter.{CutterStandsFor, CutsRun, IsLent, IsNeed, SkipsAll}
+use Rattle.x7_packets.specs.Cutter.{CompletesNone, CutterStandsFor, CutsRun, IsLent, IsNeed, SkipsAll}
 use Rattle.x7_packets.specs.declared.cutter.Cut.{Cut}
 use Rattle.x7_packets.specs.declared.cutter.Cut.TheVariants as cut
 use Rattle.x7_packets.specs.Mode.{Mode}
@@ -67,12 +67,17 @@ abbrev pub IsRunOrNeed : Bool → FoundRun → Cut → Type 0
 IsRunOrNeed true f c = IsFoundRun f c
 IsRunOrNeed false f c = IsNeed c
 
+-- a run is ready: the bytes that are left complete one, with those that the cutter keeps
+abbrev pub RunIsReady : PacketsState → Type 0
+RunIsReady p = CompletesNone p.cutter (length p.left) → ⊥
+
 -- a reader before and after one call of the cutter on the bytes that are left, which found a run or needs more bytes
 pub record CutsNext (old new : PacketsState) (found_run : Bool) : Type 0 where
   pub run : Cut
   pub count : ℕ
   pub cuts : CutsRun old.cutter new.cutter old.left count run
   pub kept : (bytes : List ℕ) (sessions : List EndedSession) (place : Place) → CutterStandsFor new.cutter bytes sessions place → new.cutter.kept ≡ tail_of place
+  pub few : length new.cutter.kept ≤ 3
   pub left : new.left ≡ drop count old.left
   pub bytes : new.bytes ≡ take count old.left
   pub is : IsRunOrNeed found_run new.found run
@@ -124,10 +129,12 @@ pub record ReadsAndGives (old new : PacketsState) (more : List ℕ) (r : Run) : 
   pub done : new.is_done ≡ is_last r
   pub good : new.has_failed ≡ false
 
--- the call gave a run: the tail and the end only where the input's rest, if it is known, is empty
+-- The call gave a run: the tail and the end only where the input's rest, if it is known, is empty. The bytes that it
+-- took of the input are at most three that complete no run, and then one piece.
 pub record GivesRun (old new : PacketsState) (before after : InputsState) (r : Run) : Type 0 where
   pub more : List ℕ
   pub taken : TakenBy after.contents before.rest more after.rest
+  pub most : length more ≤ 3 + piece_size
   pub tells : ReadsAndGives old new more r
   pub end : is_last r ≡ true → AtEnd after.rest
 
@@ -138,24 +145,30 @@ pub record MayCall (p : PacketsState) (input : InputsState) : Type 0 where
   pub end : p.is_done ≡ true → AtEnd input.rest
   pub count : p.taken ≤ taken_bytes_limit
 
--- what holds of the inputs and of a call's result: every name keeps its bytes, an input is still selected after a run,
--- and the call fails only where a read failed in it or an earlier call failed; after an earlier failure it always fails
+-- What holds of the inputs and of a call's result: every name keeps its bytes, no input is asked for, and at most one
+-- read gave nothing. An input is still selected after a run. The call fails only where a read failed in it or an earlier
+-- call failed; after an earlier failure it always fails.
 pub record IsCallResult {T : Type 0} (p : PacketsState) (old new : InputsState) (result : Result T Failed) : Type 0 where
   pub failed : OnErr result ((p.has_failed ≡ true) ⊎ InputsFail old new)
   pub selected : OnOk result (new.selected ≡ true)
   pub stays : p.has_failed ≡ true → OnOk result ⊥
+  pub asks : AsksForNoInput old new
   pub inputs : InputsStay old new
 
--- the call failed: what it took before that still counts
-pub record GivesUp (old new : PacketsState) : Type 0 where
+-- The call failed: the bytes that it took of the input before that still count, at most three, and no other byte does.
+-- What the input gave after them (`later`) is what was left of it before the read that failed.
+pub record GivesUp (old new : PacketsState) (before after : InputsState) : Type 0 where
   pub more : List ℕ
+  pub later : Option (List ℕ)
+  pub taken : TakenBy after.contents before.rest more later
+  pub most : length more ≤ 3
   pub reads : TookBytes old new more
   pub failed : new.has_failed ≡ true
 
 -- a call gave a run, or failed
 abbrev pub EndsCall : PacketsState → PacketsState → InputsState → InputsState → Result Run Failed → Type 0
 EndsCall old new before after (Ok r) = GivesRun old new before after r
-EndsCall old new before after (Err e) = GivesUp old new
+EndsCall old new before after (Err e) = GivesUp old new before after
 
 -- once the run that it lends is given back, the reader is one after a call with this result
 abbrev pub EndsNextCall : MutBor PacketsState → InputsState → InputsState → Result Run Failed → Fml

@@ -1,11 +1,11 @@
 //! Packets over an input: its runs, one after another, lent out of one buffer (this project's choice).
 ghost use Rattle.std.specs.Prelude.{◌≡◌, ◌≢◌, ◌≤◌, ◌<◌, ◌+◌, ◌^◌, ◌⊎◌, ℕ, List, [], length, take, vec_len, true, false, IfNone, IfOk, IfSome, OnErr, OnOk};
-ghost use Rattle.x7_words.specs.Input.{AtEnd, InputsFail, InputsStay, taken_bytes_limit};
+ghost use Rattle.x7_words.specs.Input.{AsksForNoInput, AtEnd, InputsFail, InputsStay, taken_bytes_limit};
 ghost use Rattle.x7_packets.specs.Cutter.{IsNeed};
 ghost use Rattle.x7_packets.specs.Mode.{Mode};
 ghost use Rattle.x7_packets.specs.FoundRun.{FoundRun, found_of};
 ghost use Rattle.x7_packets.specs.PacketsState.{PacketsState, piece_size};
-ghost use Rattle.x7_packets.specs.Stream.{CutsNext, GivesRun, GivesUp, IsCallResult, IsFoundRun, IsLastFound, MayCall, PacketsStandFor, ReadsPiece};
+ghost use Rattle.x7_packets.specs.Stream.{CutsNext, GivesRun, GivesUp, IsCallResult, IsFoundRun, IsLastFound, RunIsReady, MayCall, PacketsStandFor, ReadsPiece};
 
 use crate::cutter::{Cut, Cutter};
 use crate::header::Step;
@@ -140,8 +140,10 @@ impl Packets {
         self.taken
     }
 
-    /// Gives the next run. The call reads where it must, and no more once the tail or the end was given; the end is
-    /// then given again. A call in which a read fails is `Failed`, and so is each call after it.
+    /// Gives the next run. A run that the bytes read before complete is given with nothing read. Else the call reads up
+    /// to the read whose bytes complete one, before which it takes three at most, or up to the end of the input. Once
+    /// the tail or the end was given nothing is read, and the end is given again. A call in which a read fails is
+    /// `Failed`, and so is each call after it.
     pub fn next_run<'b, I: Inputs>(&'b mut self, inputs: &mut I) -> Result<Run<'b>, Failed>
         requires selected { self.old.has_failed ≡ false → (I.state inputs.old).selected ≡ true }
         requires end { self.old.is_done ≡ true → AtEnd (I.state inputs.old).rest }
@@ -150,6 +152,8 @@ impl Packets {
         ensures failed { OnErr result ((self.old.has_failed ≡ true) ⊎ InputsFail (I.state inputs.old) (I.state inputs.new)) }
         ensures selected { OnOk result ((I.state inputs.new).selected ≡ true) }
         ensures stays_failed { self.old.has_failed ≡ true → OnOk result ⊥ }
+        ensures asks { AsksForNoInput (I.state inputs.old) (I.state inputs.new) }
+        ensures ready { RunIsReady self.old → inputs.new ≡ inputs.old }
         ensures reads_no_more { self.old.is_done ≡ true → inputs.new ≡ inputs.old }
         ensures inputs { InputsStay (I.state inputs.old) (I.state inputs.new) }
     {
@@ -163,8 +167,9 @@ impl Packets {
         requires { MayCall self.old (I.state inputs.old) }
         ensures gives_run { OnOk result ((r : Run) → IsLastFound self.new r
             → GivesRun self.old self.new (I.state inputs.old) (I.state inputs.new) r) }
-        ensures gives_up { OnErr result (GivesUp self.old self.new) }
+        ensures gives_up { OnErr result (GivesUp self.old self.new (I.state inputs.old) (I.state inputs.new)) }
         ensures call { IsCallResult self.old (I.state inputs.old) (I.state inputs.new) result }
+        ensures ready { RunIsReady self.old → inputs.new ≡ inputs.old }
         ensures reads_no_more { self.old.is_done ≡ true → inputs.new ≡ inputs.old }
     {
         if self.has_failed {
@@ -233,6 +238,8 @@ impl Packets {
         ensures loses_bytes { OnErr result (self.new ≡ record self.old { bytes = []; has_failed = true }) }
         ensures failed { OnErr result (InputsFail (I.state inputs.old) (I.state inputs.new)) }
         ensures selected { OnOk result ((I.state inputs.new).selected ≡ true) }
+        ensures asks { AsksForNoInput (I.state inputs.old) (I.state inputs.new) }
+        ensures no_end { IfOk result (λ gave_bytes. gave_bytes ≡ true → (I.state inputs.new).ends ≤ (I.state inputs.old).ends) }
         ensures inputs { InputsStay (I.state inputs.old) (I.state inputs.new) }
     {
         self.start = 0;

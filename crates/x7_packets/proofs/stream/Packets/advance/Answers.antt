@@ -1,12 +1,13 @@
-use Rattle.std.proofs.Common.{◌≡◌, inl, Bool, true, false, [], ◌++◌, length, ap, sym, subst, ◌∙◌, ◌<◌, ◌+◌, arith}
+use Rattle.std.proofs.Common.{◌≡◌, inl, inr, refl, Bool, true, false, [], ◌++◌, length, ap, sym, subst, ◌∙◌, ◌<◌, arith}
+use Rattle.x7_words.proofs.CountLemmas.{risen_from}
 use Rattle.x7_words.proofs.InputLemmas.{stays_at, stays_on, taken_before, taken_none, taken_on}
 use Rattle.x7_packets.specs.PacketsState.{PacketsState}
 use Rattle.x7_packets.specs.Stream.{TookBytes, CutsNext}
-use Rattle.x7_packets.proofs.StreamLemmas.{gives_again, gives_end, gives_up, reads_none, reads_on, room_on, run_is_not_last, tells_run, turns_fewer, turns_most}
+use Rattle.x7_packets.proofs.StreamLemmas.{asks_nothing, asks_not, asks_on, asks_once, gives_again, gives_end, gives_up, most_read, never_waits, reads_none, reads_on, room_none, room_on, run_is_not_last, tells_run, turns_fewer}
 use Rattle.x7_packets.proofs.stream.Packets.advance.Goals as goal
 
 pub returns-then-self-clause-gives_up : goal.returns-then-self-clause-gives_up
-returns-then-self-clause-gives_up g c = record { more = []; reads = reads_none c.args.self.now; failed = sym (ap (λ (p : PacketsState). p.has_failed) c.self.view_is) ∙ c.if-self.true }
+returns-then-self-clause-gives_up g c = record { more = []; later = (g.I.Inputs.state c.args.inputs.now).rest; taken = taken_none (g.I.Inputs.state c.args.inputs.now).contents (g.I.Inputs.state c.args.inputs.now).rest; most = omega arith; reads = reads_none c.args.self.now; failed = sym (ap (λ (p : PacketsState). p.has_failed) c.self.view_is) ∙ c.if-self.true }
 
 pub returns-then-self-2-clause-gives_run : goal.returns-then-self-2-clause-gives_run
 returns-then-self-2-clause-gives_run g c = λ r e.
@@ -22,7 +23,9 @@ loop-self-init g c =
       good = good;
       on = sym (ap (λ (p : PacketsState). p.is_done) c.self.view_is) ∙ c.if-self-2.false;
       reads = ([], taken_none (g.I.Inputs.state c.args.inputs.now).contents (g.I.Inputs.state c.args.inputs.now).rest, reads_none c.args.self.now);
-      room = omega (arith, turns_most c.args.self.now.cutter.kept c.args.self.now.left);
+      room = room_none c.args.self.now;
+      asks = asks_nothing _;
+      waits = λ _. (refl, refl);
     }
 
 pub returns-then-cut_next-clause-gives_run : goal.returns-then-cut_next-clause-gives_run
@@ -32,6 +35,7 @@ returns-then-cut_next-clause-gives_run g c = λ r last.
     record {
       more = i.reads.0;
       taken = i.reads.1;
+      most = most_read c.args.self.now c.loop-self.self i.reads.0 i.reads.2 i.room;
       tells = tells_run c.args.self.now c.loop-self.self c.cut_next.new.self i.reads.0 r s i.on i.good last i.reads.2;
       end = λ e. absurd (run_is_not_last c.loop-self.self c.cut_next.new.self r s last e);
     }
@@ -40,7 +44,11 @@ pub returns-in-Err-clause-gives_up : goal.returns-in-Err-clause-gives_up
 returns-in-Err-clause-gives_up g c =
     let i = c.loop-self.invariant in
     let s : CutsNext c.loop-self.self c.cut_next.new.self false = subst (λ (b : Bool). CutsNext c.loop-self.self c.cut_next.new.self b) c.if-cut_next.false c.cut_next.ensures in
-    gives_up c.args.self.now c.loop-self.self c.cut_next.new.self c.fill.new.self i.reads.0 s i.on i.reads.2 c.in-Err.ensures.loses_bytes
+    let first = g.I.Inputs.state c.args.inputs.now in
+    let mid = g.I.Inputs.state c.loop-self.inputs in
+    let now = g.I.Inputs.state c.fill.new.inputs in
+    let taken = taken_before mid.contents now.contents first.rest i.reads.0 mid.rest c.in-Err.ensures.inputs.map i.reads.1 in
+    gives_up c.args.self.now c.loop-self.self c.cut_next.new.self c.fill.new.self first now i.reads.0 mid.rest s taken i.on i.reads.2 i.room c.in-Err.ensures.loses_bytes
 
 pub returns-then-not-more-clause-gives_run : goal.returns-then-not-more-clause-gives_run
 returns-then-not-more-clause-gives_run g c = λ r last.
@@ -48,7 +56,7 @@ returns-then-not-more-clause-gives_run g c = λ r last.
     let s : CutsNext c.loop-self.self c.cut_next.new.self false = subst (λ (b : Bool). CutsNext c.loop-self.self c.cut_next.new.self b) c.if-cut_next.false c.cut_next.ensures in
     let f = c.in-Ok.ensures.fills in
     let end = f.end c.if-not-more.true in
-    gives_end c.args.self.now c.loop-self.self c.cut_next.new.self c.fill.new.self c.finish.new.self i.reads.0 f.piece _ _ _ r s i.on i.good i.reads.2 c.in-Ok.ensures.inputs i.reads.1 f.taken f.is end.0 end.1 c.finish.ensures.tail c.finish.ensures.end last
+    gives_end c.args.self.now c.loop-self.self c.cut_next.new.self c.fill.new.self c.finish.new.self i.reads.0 f.piece _ _ _ r s i.on i.good i.reads.2 i.room c.in-Ok.ensures.inputs i.reads.1 f.taken f.is end.0 end.1 c.finish.ensures.tail c.finish.ensures.end last
 
 pub loop-self-preserved : goal.loop-self-preserved
 loop-self-preserved g c =
@@ -70,7 +78,9 @@ loop-self-preserved g c =
         taken_on now.contents first.rest mid.rest now.rest i.reads.0 f.piece (taken_before mid.contents now.contents first.rest i.reads.0 mid.rest o.inputs.map i.reads.1) f.taken,
         subst (λ (p : PacketsState). TookBytes c.args.self.now p (i.reads.0 ++ f.piece)) (sym f.is) (reads_on c.args.self.now c.loop-self.self c.cut_next.new.self i.reads.0 f.piece s i.on i.reads.2),
       );
-      room = room_on c.loop-self.self c.cut_next.new.self c.fill.new.self s f.piece (c.args.self.now.taken + 589824) f.is some f.most i.room;
+      room = room_on c.args.self.now c.loop-self.self c.cut_next.new.self c.fill.new.self i.reads.0 f.piece s f.is f.most i.reads.2 i.room;
+      asks = asks_on _ _ _ i.asks o.asks (o.no_end c.if-not-more.false);
+      waits = λ r. absurd (never_waits c.args.self.now c.loop-self.self c.cut_next.new.self s i.waits r);
     }
 
 pub loop-self-smaller : goal.loop-self-smaller
@@ -84,6 +94,7 @@ returns-then-self-clause-call g c = record {
   failed = inl (sym (ap (λ (p : PacketsState). p.has_failed) c.self.view_is) ∙ c.if-self.true);
   selected = tt;
   stays = λ e. tt;
+  asks = asks_not _ _ (asks_nothing _);
   inputs = stays_at _;
 }
 
@@ -94,6 +105,7 @@ returns-then-self-2-clause-call g c =
       failed = tt;
       selected = c.requires.selected good;
       stays = λ e. absurd (let both : true ≡ false = sym e ∙ good in cc);
+      asks = asks_not _ _ (asks_nothing _);
       inputs = stays_at _;
     }
 
@@ -104,6 +116,7 @@ returns-then-cut_next-clause-call g c =
       failed = tt;
       selected = c.loop-self.invariant.selected;
       stays = λ e. absurd (let both : true ≡ false = sym e ∙ good in cc);
+      asks = asks_not _ _ c.loop-self.invariant.asks;
       inputs = c.loop-self.invariant.inputs;
     }
 
@@ -114,5 +127,28 @@ returns-then-not-more-clause-call g c =
       failed = tt;
       selected = c.in-Ok.ensures.selected;
       stays = λ e. absurd (let both : true ≡ false = sym e ∙ good in cc);
+      asks = asks_once _ _ _ c.loop-self.invariant.asks c.in-Ok.ensures.asks;
       inputs = stays_on _ _ _ c.loop-self.invariant.inputs c.in-Ok.ensures.inputs;
     }
+
+pub returns-in-Err-clause-call : goal.returns-in-Err-clause-call
+returns-in-Err-clause-call g c = record {
+  failed = inr (risen_from _ _ _ c.loop-self.invariant.inputs.faults c.in-Err.ensures.failed);
+  selected = tt;
+  stays = λ e. tt;
+  asks = asks_once _ _ _ c.loop-self.invariant.asks c.in-Err.ensures.asks;
+  inputs = stays_on _ _ _ c.loop-self.invariant.inputs c.in-Err.ensures.inputs;
+}
+
+pub returns-then-cut_next-clause-ready : goal.returns-then-cut_next-clause-ready
+returns-then-cut_next-clause-ready g c = λ r. (c.loop-self.invariant.waits r).1
+
+pub returns-in-Err-clause-ready : goal.returns-in-Err-clause-ready
+returns-in-Err-clause-ready g c = λ r.
+    let s : CutsNext c.loop-self.self c.cut_next.new.self false = subst (λ (b : Bool). CutsNext c.loop-self.self c.cut_next.new.self b) c.if-cut_next.false c.cut_next.ensures in
+    absurd (never_waits c.args.self.now c.loop-self.self c.cut_next.new.self s c.loop-self.invariant.waits r)
+
+pub returns-then-not-more-clause-ready : goal.returns-then-not-more-clause-ready
+returns-then-not-more-clause-ready g c = λ r.
+    let s : CutsNext c.loop-self.self c.cut_next.new.self false = subst (λ (b : Bool). CutsNext c.loop-self.self c.cut_next.new.self b) c.if-cut_next.false c.cut_next.ensures in
+    absurd (never_waits c.args.self.now c.loop-self.self c.cut_next.new.self s c.loop-self.invariant.waits r)
