@@ -11,6 +11,7 @@ import io
 import lzma
 import random
 import re
+import struct
 import tarfile
 import zipfile
 from typing import Callable, Dict, List, NamedTuple, Optional
@@ -127,6 +128,10 @@ LOOSE = (
     "words were lost or added|MFW was lost|asks for more words than there|a check fails|bytes were "
     "(lost|added)|stands where a packet"
 )
+# What is said of bytes FF within a stream, of halves that were exchanged, and of streams of two devices.
+FF_WITHIN = r"bytes .*(are|is) (all )?FF|FF .*page|page.*FF"
+EXCHANGED = "exchanged|other order|wrong order|begins at byte"
+TWO_DEVICES = "two devices|different devices|second (header|stream)"
 
 
 def cuts(g: Good) -> List[Damage]:
@@ -342,11 +347,17 @@ def flashes(g: Good, other: Good) -> List[Damage]:
     for count in (256, 4096, 65536):
         if place + count < g.desync - 512:
             page = g.data[:place] + b"\xff" * count + g.data[place + count :]
-            found.append(row(f"{count} bytes of FF within", [g.bit(page)], r"bytes .*(are|is) (all )?FF|FF "
-                                                                           r".*page|page.*FF", 1, LOOSE))
-            found.append(row(f"{count} bytes of FF within, no header", [page], r"bytes .*(are|is) (all )?FF|FF "
-                                                                               r".*page|page.*FF", 1, LOOSE))
+            found.append(row(f"{count} bytes of FF within", [g.bit(page)], FF_WITHIN, 1, LOOSE))
+            found.append(row(f"{count} bytes of FF within, no header", [page], FF_WITHIN, 1, LOOSE))
     found.append(row("the first page FF", [b"\xff" * 256 + g.data[256:]], "packets follow|beginning"))
+    return found + written_otherwise(g, other, flash)
+
+
+def written_otherwise(g: Good, other: Good, flash: bytes) -> List[Damage]:
+    """What a flash holds of a stream, in place of `flash`, that was written over something, elsewhere or beside others;
+    and frames alone."""
+    found, half = [], len(g.data) // 2 // 256 * 256
+    exchanged = g.data[half:] + g.data[:half]
     both = bytes(one & two for one, two in zip(g.data, other.data))
     found.append(row(
         "two images in one flash, neither erased",
@@ -358,21 +369,16 @@ def flashes(g: Good, other: Good) -> List[Damage]:
     over = g.data[:half] + bytes(it & 0x5A for it in g.data[half:])
     right = "erased|unknown"
     found.append(row("written at a place that wasn't erased", [over], right, 1, LOOSE + "|doesn't end"))
-    found.append(row("halves exchanged", [g.data[half:] + g.data[:half]], "exchanged|other order|wrong order|begins "
-                                                                          "at byte"))
-    found.append(row("halves exchanged, header kept", [g.bit(g.data[half:] + g.data[:half])], "exchanged|other "
-                                                                                              "order|wrong "
-                                                                                              "order|begins at byte"))
+    found.append(row("halves exchanged", [exchanged], EXCHANGED))
+    found.append(row("halves exchanged, header kept", [g.bit(exchanged)], EXCHANGED))
     found.append(row("the second half alone", [g.data[half:]], "beginning|packets follow|unknown"))
     found.append(row("a flash of the stream", [flash], "starts|nothing is wrong", 0))
     found.append(row("read twice", [2 * flash], "second|twice|repeat|starts|nothing is wrong", 0))
     found.append(row("all FF", [b"\xff" * 70000], "all bytes are FF, as in an erased flash"))
     found.append(row("all 00", [bytes(70000)], "all bytes are 00"))
-    found.append(row("two devices", [g.raw + other.raw], "two devices|different devices|second (header|stream)"))
-    found.append(row("two devices, no header", [g.data + other.data], "two devices|different devices|second "
-                                                                      "(header|stream)"))
-    found.append(row("two devices in one flash", [flash + other.data], "two devices|different devices|second "
-                                                                       "(header|stream)"))
+    found.append(row("two devices", [g.raw + other.raw], TWO_DEVICES))
+    found.append(row("two devices, no header", [g.data + other.data], TWO_DEVICES))
+    found.append(row("two devices in one flash", [flash + other.data], TWO_DEVICES))
     found.append(row("frames alone", [raw_frames(g)], "readback|frames alone|frame data"))
     way = next(it for it in x7kinds.WAYS if it.what == "the bytes of each word")
     found.append(row("frames alone, swapped", [way.back(raw_frames(g))], "readback|frames alone|frame data|unknown"))
@@ -386,53 +392,70 @@ def raw_frames(g: Good) -> bytes:
 
 def packed(g: Good) -> List[Damage]:
     """Files that hold a stream in another form."""
-    zipped, tarred = io.BytesIO(), io.BytesIO()
-    with zipfile.ZipFile(zipped, "w") as file:
-        file.writestr("design.bit", g.raw)
-    with tarfile.open(fileobj=tarred, mode="w") as tar:
-        info = tarfile.TarInfo("design.bit")
-        info.size = len(g.raw)
-        tar.addfile(info, io.BytesIO(g.raw))
-    rbt = b"Xilinx ASCII Bitstream\nBits: %d\n" % (8 * len(g.data)) + b"".join(
-        b"%s\n" % f"{it:032b}".encode() for it in x7.words_of(g.data[:4096])
-    )
-    packed_in_c = "const unsigned char design[] = {\n" + ",\n".join(
-        "  " + ", ".join(f"0x{it:02x}" for it in g.raw[at : at + 12]) for at in range(0, 1200, 12)
-    ) + "};\n"
+    image = bytes(32) + b"\x66\x55\x99\xaaXNLX" + bytes(900) + x7kinds.exchanged(g.data, 4, (3, 2, 1, 0))
     return [
         row("gzip", [gzip.compress(g.raw)], "gzip"),
         row("gzip cut off", [gzip.compress(g.raw)[:900]], "gzip"),
         row("xz", [lzma.compress(g.raw)], "xz"),
         row("lzma", [lzma.compress(g.raw, lzma.FORMAT_ALONE)], "lzma"),
         row("bzip2", [bz2.compress(g.raw)], "bzip2"),
-        row("zip", [zipped.getvalue()], "zip"),
-        row("tar", [tarred.getvalue()], r"\btar\b"),
+        row("zip", [zip_of(g.raw)], "zip"),
+        row("tar", [tar_of(g.raw)], r"\btar\b"),
         row("7z", [b"7z\xbc\xaf\x27\x1c" + gzip.compress(g.raw)], "7z"),
         row("zstd", [b"\x28\xb5\x2f\xfd" + gzip.compress(g.raw)], "zstd"),
         row("lz4", [b"\x04\x22\x4d\x18" + gzip.compress(g.raw)], "lz4"),
         row("ELF", [b"\x7fELF" + bytes(900)], "ELF"),
-        row("rbt", [rbt], r"\.rbt"),
+        row("rbt", [rbt_of(g.data)], r"\.rbt"),
         row("Intel HEX", [intel_hex(g.data)], "Intel HEX"),
         row("Intel HEX with a mark", [b"\xef\xbb\xbf" + intel_hex(g.data)], "Intel HEX"),
         row("S-records", [b"S1130000FFFFFFFFFFFFFFFFFFFFFFFFFFFFFFFFFC\n" * 9], "S-record"),
         row("base64", [base64.encodebytes(g.data)], "base64"),
-        row(
-            "uuencode",
-            [b"begin 644 design.bit\n" + b"".join(binascii.b2a_uu(g.raw[at : at + 45]) for at in range(0, 4500, 45))],
-            "uuencode|text",
-        ),
-        row("an array in C", [packed_in_c.encode()], "C source|array|text"),
-        row(
-            "BOOT.BIN",
-            [bytes(32) + b"\x66\x55\x99\xaaXNLX" + bytes(900) + x7kinds.exchanged(g.data, 4, (3, 2, 1, 0))],
-            "Zynq-7000",
-        ),
+        row("uuencode", [uuencode_of(g.raw)], "uuencode|text"),
+        row("an array in C", [c_array_of(g.raw)], "C source|array|text"),
+        row("BOOT.BIN", [image], "Zynq-7000"),
         row("a device tree", [b"\xd0\x0d\xfe\xed" + bytes(900)], "device tree"),
         row("a U-Boot image", [b"\x27\x05\x19\x56" + bytes(60) + g.data], "U-Boot"),
         row("sof", [b"SOF\0" + bytes(900)], "sof|Intel|Altera"),
         row("png", [b"\x89PNG\r\n\x1a\n" + bytes(900)], "PNG|picture"),
         row("pdf", [b"%PDF-1.4\n" + bytes(900)], "PDF"),
     ]
+
+
+def zip_of(raw: bytes) -> bytes:
+    """A zip file of one file."""
+    zipped = io.BytesIO()
+    with zipfile.ZipFile(zipped, "w") as file:
+        file.writestr("design.bit", raw)
+    return zipped.getvalue()
+
+
+def tar_of(raw: bytes) -> bytes:
+    """A tar file of one file."""
+    tarred = io.BytesIO()
+    with tarfile.open(fileobj=tarred, mode="w") as tar:
+        info = tarfile.TarInfo("design.bit")
+        info.size = len(raw)
+        tar.addfile(info, io.BytesIO(raw))
+    return tarred.getvalue()
+
+
+def rbt_of(data: bytes) -> bytes:
+    """The first bytes of data as a .rbt file, whose line `Bits:` tells of all."""
+    lines = (f"{it:032b}\n" for it in x7.words_of(data[:4096]))
+    return f"Xilinx ASCII Bitstream\nBits: {8 * len(data)}\n{''.join(lines)}".encode()
+
+
+def uuencode_of(raw: bytes) -> bytes:
+    """The first bytes of a file as uuencode writes them."""
+    lines = (binascii.b2a_uu(raw[at : at + 45]) for at in range(0, 4500, 45))
+    return b"begin 644 design.bit\n" + b"".join(lines)
+
+
+def c_array_of(raw: bytes) -> bytes:
+    """The first bytes of a file as an array in C."""
+    rows = (", ".join(f"0x{it:02x}" for it in raw[at : at + 12]) for at in range(0, 1200, 12))
+    body = ",\n".join(f"  {it}" for it in rows)
+    return f"const unsigned char design[] = {{\n{body}}};\n".encode()
 
 
 def intel_hex(data: bytes) -> bytes:
@@ -478,46 +501,47 @@ def ascii_of(part: bytes) -> str:
     return "".join(chr(it) if 32 <= it < 127 else "." for it in part)
 
 
+def dump(data: bytes, form: Callable[[int, bytes], str], width: int = 16) -> bytes:
+    """The first bytes of data in rows, each written by its place and its bytes."""
+    return "".join(f"{form(width * at, part)}\n" for at, part in enumerate(dump_rows(data, width))).encode()
+
+
+def halves(part: bytes, order: str, form: str) -> str:
+    """The halfwords of a row with blanks between, in the order `>` or `<` of their bytes."""
+    return " ".join(format(it, form) for it in struct.unpack(f"{order}8H", part))
+
+
+def words(part: bytes, order: str, form: str) -> str:
+    """The words of a row with blanks between, in the order `>` or `<` of their bytes."""
+    return " ".join(format(it, form) for it in struct.unpack(f"{order}4I", part))
+
+
 def dumps(g: Good) -> List[Damage]:
     """Dumps as text. Only what xxd writes in hexadecimal is for xxd -r."""
-    def lines(form: Callable[[int, bytes], str]) -> bytes:
-        return "".join(f"{form(16 * at, part)}\n" for at, part in enumerate(dump_rows(g.data))).encode()
-
-    def halves(part: bytes, order: str) -> List[int]:
-        return [int.from_bytes(part[at : at + 2], order) for at in range(0, 16, 2)]  # type: ignore[arg-type]
-
-    def words(part: bytes, order: str) -> List[int]:
-        return [int.from_bytes(part[at : at + 4], order) for at in range(0, 16, 4)]  # type: ignore[arg-type]
-
-    xxd = lines(lambda at, it: f"{at:08x}: {' '.join(f'{one:04x}' for one in halves(it, 'big'))}  {ascii_of(it)}")
-    upper = lines(lambda at, it: f"{at:08x}: {' '.join(f'{one:04X}' for one in halves(it, 'big'))}  {ascii_of(it)}")
-    hexdump_c = lines(lambda at, it: f"{at:08x}  {it[:8].hex(' ')}  {it[8:].hex(' ')}  |{ascii_of(it)}|")
-    hexdump = lines(lambda at, it: f"{at:07x} {' '.join(f'{one:04x}' for one in halves(it, 'little'))}")
-    od = lines(lambda at, it: f"{at:07o} {' '.join(f'{one:06o}' for one in halves(it, 'little'))}")
-    od_x1 = lines(lambda at, it: f"{at:07o} {it.hex(' ')}")
-    od_x4 = lines(lambda at, it: f"{at:07o} {' '.join(f'{one:08x}' for one in words(it, 'little'))}")
-    xxd_e = lines(lambda at, it: f"{at:08x}: {' '.join(f'{one:08x}' for one in words(it, 'little'))}  {ascii_of(it)}")
-    six = enumerate(dump_rows(g.data, 6))
-    bits_of = [f"{6 * at:08x}: {' '.join(f'{one:08b}' for one in it)}  {ascii_of(it)}\n" for at, it in six]
-    xxd_b = "".join(bits_of).encode()
-    in_words = lines(lambda at, it: " ".join(f"{one:08X}" for one in words(it, "big")))
-    no_xxd = r"(?s)^(?!.*xxd -r).*dump"
+    by_xxd, no_xxd = "hex dump(.|\n)*xxd -r FILE", r"(?s)^(?!.*xxd -r).*dump"
+    of_digits, no_xxd_file = "hexadecimal digits(.|\n)*xxd -r -p|turn FILE", r"(?s)^(?!.*xxd -r FILE).*"
+    in_c = b"unsigned char design_bit[] = {\n  0xff, 0xff, 0xff, 0xff\n};\n"
+    plain = "\n".join(it.hex() for it in dump_rows(g.data, 30)).encode() + b"\n"
+    xxd = dump(g.data, lambda at, it: f"{at:08x}: {halves(it, '>', '04x')}  {ascii_of(it)}")
+    upper = dump(g.data, lambda at, it: f"{at:08x}: {halves(it, '>', '04X')}  {ascii_of(it)}")
+    xxd_e = dump(g.data, lambda at, it: f"{at:08x}: {words(it, '<', '08x')}  {ascii_of(it)}")
+    xxd_b = dump(g.data, lambda at, it: f"{at:08x}: {' '.join(f'{one:08b}' for one in it)}  {ascii_of(it)}", 6)
+    canonical = dump(g.data, lambda at, it: f"{at:08x}  {it[:8].hex(' ')}  {it[8:].hex(' ')}  |{ascii_of(it)}|")
     return [
-        row("xxd", [xxd], "hex dump(.|\n)*xxd -r FILE"),
-        row("xxd -u", [upper], "hex dump(.|\n)*xxd -r FILE"),
-        row("xxd -p", ["\n".join(it.hex() for it in dump_rows(g.data, 30)).encode() + b"\n"], "hexadecimal "
-                                                                                              "digits(.|\n)*xxd -r "
-                                                                                              "-p|turn FILE"),
-        row("xxd -i", [b"unsigned char design_bit[] = {\n  0xff, 0xff, 0xff, 0xff\n};\n"], "C source|array|text"),
+        row("xxd", [xxd], by_xxd),
+        row("xxd -u", [upper], by_xxd),
+        row("xxd -p", [plain], of_digits),
+        row("xxd -i", [in_c], "C source|array|text"),
         row("xxd -e", [xxd_e], no_xxd),
         row("xxd -b", [xxd_b], no_xxd),
-        row("hexdump -C", [hexdump_c], no_xxd),
-        row("hexdump", [hexdump], no_xxd),
-        row("od", [od], no_xxd),
-        row("od -tx1", [od_x1], no_xxd),
-        row("od -tx4", [od_x4], no_xxd),
-        row("words of 8 digits", [in_words], r"(?s)^(?!.*xxd -r FILE).*(digits|dump|words)"),
-        row("bytes with blanks", [lines(lambda at, it: it.hex(" ").upper())], r"(?s)^(?!.*xxd -r FILE).*(digits|dump)"),
+        row("hexdump -C", [canonical], no_xxd),
+        row("hexdump", [dump(g.data, lambda at, it: f"{at:07x} {halves(it, '<', '04x')}")], no_xxd),
+        row("od", [dump(g.data, lambda at, it: f"{at:07o} {halves(it, '<', '06o')}")], no_xxd),
+        row("od -tx1", [dump(g.data, lambda at, it: f"{at:07o} {it.hex(' ')}")], no_xxd),
+        row("od -tx4", [dump(g.data, lambda at, it: f"{at:07o} {words(it, '<', '08x')}")], no_xxd),
+        row("words of 8 digits", [dump(g.data, lambda at, it: words(it, ">", "08X"))],
+            no_xxd_file + "(digits|dump|words)"),
+        row("bytes with blanks", [dump(g.data, lambda at, it: it.hex(" ").upper())], no_xxd_file + "(digits|dump)"),
     ]
 
 
