@@ -33,14 +33,21 @@ class Magic(NamedTuple):
 MARK = b"\xef\xbb\xbf"
 TAKE_BIT = "give the .bit or .bin file"
 TURN = f"{x7.CALLED}turn FILE > NEW"
+TAKE_AGAIN = "take the file again: look at what was downloaded"
+OTHER_DEVICES = "x7 reads streams of 7-series devices"
+A_PAGE = "it is a page of HTML, as a server sends in place of a file"
+# What a program packs that unpacks it too, with -dc: its first bytes, what it is, and the program with its options.
+PACKED = [
+    (b"\x1f\x8b", "a gzip file", "gzip -dc"),
+    (b"\xfd7zXZ\0", "an xz file", "xz -dc"),
+    (b"\x5d\0\0\x80\0\xff\xff\xff\xff", "an lzma file", "xz -dc --format=lzma"),
+    (b"BZh", "a bzip2 file", "bzip2 -dc"),
+    (b"\x28\xb5\x2f\xfd", "a zstd file", "zstd -dc"),
+    (b"\x04\x22\x4d\x18", "an lz4 file", "lz4 -dc"),
+    (b"LZIP", "an lzip file", "lzip -dc"),
+]
 MAGIC = [
-    Magic(0, b"\x1f\x8b", "it is a gzip file", "gzip -dc FILE > NEW"),
-    Magic(0, b"\xfd7zXZ\0", "it is an xz file", "xz -dc FILE > NEW"),
-    Magic(0, b"\x5d\0\0\x80\0\xff\xff\xff\xff", "it is an lzma file", "xz -dc --format=lzma FILE > NEW"),
-    Magic(0, b"BZh", "it is a bzip2 file", "bzip2 -dc FILE > NEW"),
-    Magic(0, b"\x28\xb5\x2f\xfd", "it is a zstd file", "zstd -dc FILE > NEW"),
-    Magic(0, b"\x04\x22\x4d\x18", "it is an lz4 file", "lz4 -dc FILE > NEW"),
-    Magic(0, b"LZIP", "it is an lzip file", "lzip -dc FILE > NEW"),
+    *(Magic(0, begins, f"it is {what}", f"{program} FILE > NEW") for begins, what, program in PACKED),
     Magic(0, b"PK\x03\x04", "it is a zip file", "unzip it"),
     Magic(0, b"7z\xbc\xaf\x27\x1c", "it is a 7z file", "7z x FILE"),
     Magic(0, b"Rar!\x1a\x07", "it is a rar file", "unrar x FILE"),
@@ -48,12 +55,20 @@ MAGIC = [
     Magic(0, b"070701", "it is a cpio file", "cpio -i < FILE"),
     Magic(0, b"!<arch>\n", "it is an archive of ar", "ar x FILE"),
     Magic(0, b"\x7fELF", "it is a program (ELF)", TAKE_BIT),
-    Magic(0, b"\xd0\x0d\xfe\xed", "it is a device tree (dtb), or a FIT image, in which a stream may be one of "
-                                  "several files", "dumpimage -T flat_dt -p N -o NEW FILE, or " + TAKE_BIT),
-    Magic(0, b"\x27\x05\x19\x56", "it is an image of U-Boot (mkimage), whose header of 64 bytes stands before the "
-                                  "file", "tail -c +65 FILE > NEW"),
-    Magic(0, b"SOF\0", "it is a .sof file of Intel's (Altera's) devices", "x7 reads streams of 7-series devices"),
-    Magic(0, b"POF\0", "it is a .pof file of Intel's (Altera's) devices", "x7 reads streams of 7-series devices"),
+    Magic(
+        0,
+        b"\xd0\x0d\xfe\xed",
+        "it is a device tree (dtb), or a FIT image, in which a stream may be one of several files",
+        "dumpimage -T flat_dt -p N -o NEW FILE, or " + TAKE_BIT,
+    ),
+    Magic(
+        0,
+        b"\x27\x05\x19\x56",
+        "it is an image of U-Boot (mkimage), whose header of 64 bytes stands before the file",
+        "tail -c +65 FILE > NEW",
+    ),
+    *(Magic(0, name + b"\0", f"it is a .{name.decode().lower()} file of Intel's (Altera's) devices", OTHER_DEVICES)
+      for name in (b"SOF", b"POF")),
     Magic(0, b"\x89PNG\r\n\x1a\n", "it is a picture (PNG)", TAKE_BIT),
     Magic(0, b"\xff\xd8\xff\xe0", "it is a picture (JPEG)", TAKE_BIT),
     Magic(0, b"%PDF-", "it is a PDF", TAKE_BIT),
@@ -72,23 +87,10 @@ class Text(NamedTuple):
 
 TEXTS = [
     Text(rb"x7: ", "it is the line with which x7 refused something", "mend what it says: x7 --help has the statuses"),
-    Text(
-        rb"(?i)\s*<(!doctype html|html|head|body)",
-        "it is a page of HTML, as a server sends in place of a file",
-        "take the file again: look at what was downloaded",
-    ),
-    Text(
-        rb"(?i)\s*<\?xml[^>]*>\s*<(!doctype )?html",
-        "it is a page of HTML, as a server sends in place of a file",
-        "take the file again: look at what was downloaded",
-    ),
-    Text(rb"\s*<\?xml", "it is XML, such as a server's answer or a tool's settings", "take the file again: look at "
-                                                                                     "what was downloaded"),
-    Text(
-        rb"\s*[{\[]\s*[\"{\[\]}]",
-        "it is JSON, such as a server's answer or a tool's settings",
-        "take the file again: look at what was downloaded",
-    ),
+    Text(rb"(?i)\s*<(!doctype html|html|head|body)", A_PAGE, TAKE_AGAIN),
+    Text(rb"(?i)\s*<\?xml[^>]*>\s*<(!doctype )?html", A_PAGE, TAKE_AGAIN),
+    Text(rb"\s*<\?xml", "it is XML, such as a server's answer or a tool's settings", TAKE_AGAIN),
+    Text(rb"\s*[{\[]\s*[\"{\[\]}]", "it is JSON, such as a server's answer or a tool's settings", TAKE_AGAIN),
     Text(rb":[0-9A-F]{10}", "it seems to be Intel HEX", "x7 unmcs FILE > NEW"),
     Text(rb"S[0-9][0-9A-F]{6}", "it is a file of S-records", "srec_cat FILE -o NEW -binary"),
     Text(
@@ -125,9 +127,12 @@ RECODED = [
         "its bytes were recoded as a text, from Latin-1 to UTF-8",
         "iconv -f UTF-8 -t LATIN1 FILE > NEW; or take it again, as binary",
     ),
-    Magic(0, b"\xaa\0\x99\0\x55\0\x66\0", "its bytes were recoded as a text, to UTF-16", "iconv -f UTF-16LE -t "
-                                                                                         "LATIN1 FILE > NEW; or take "
-                                                                                         "it again, as binary"),
+    Magic(
+        0,
+        b"\xaa\0\x99\0\x55\0\x66\0",
+        "its bytes were recoded as a text, to UTF-16",
+        "iconv -f UTF-16LE -t LATIN1 FILE > NEW; or take it again, as binary",
+    ),
     Magic(
         0,
         b"\xef\xbf\xbd\xef\xbf\xbdUf",
@@ -302,8 +307,7 @@ def of_digits(raw: bytes) -> bytes:
         elif begun:
             raise x7.Refused(
                 f"line {number} of the .rbt file has {len(line)} characters, and isn't 32 digits 0 and 1: it is "
-                "damaged, or cut "
-                "off",
+                "damaged, or cut off",
             )
         elif re.fullmatch(rb"Bits:\s*\d+\s*", line):
             count = int(line.split(b":")[1])

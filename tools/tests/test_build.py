@@ -86,6 +86,13 @@ class Room:
         started: subprocess.Popen[str] = subprocess.Popen(command, **given)
         return started
 
+    def start_waiting(self, crate: str, version: int) -> subprocess.Popen[str]:
+        """Starts a build after a change of this crate, which waits where its library is half made."""
+        self.put(f"top/crates/{crate}/waits", "")
+        self.put(f"top/crates/{crate}/src/lib.rt", f"{crate} {version}\n")
+        os.remove(self.path("kit/proved"))
+        return self.start()
+
     def build(self, *words: str, **how: Any) -> tuple[int, str, list[str]]:
         """Builds, and gives the status, what was said, and the crates that were proved meanwhile."""
         if os.path.exists(self.path("kit/proved")):
@@ -165,10 +172,7 @@ def on_terminal(room: Room, tally: Tally) -> None:
 
 def interrupted(room: Room, tally: Tally) -> None:
     """An interrupt leaves nothing running, and nothing half made is taken for whole."""
-    room.put("top/crates/x7_high/waits", "")
-    room.put("top/crates/x7_high/src/lib.rt", "x7_high 3\n")
-    os.remove(room.path("kit/proved"))
-    started = room.start()
+    started = room.start_waiting("x7_high", 3)
     tally.check("the build is under way", room.wait_for_half("x7_high"))
     waiting = room.start()
     tally.same("a second call waits", first_line(waiting), WAITS)
@@ -189,10 +193,7 @@ def interrupted(room: Room, tally: Tally) -> None:
 
 def killed(room: Room, tally: Tally) -> None:
     """A call after one that was killed waits for what that one left."""
-    room.put("top/crates/x7_low/waits", "")
-    room.put("top/crates/x7_low/src/lib.rt", "x7_low 2\n")
-    os.remove(room.path("kit/proved"))
-    started = room.start()
+    started = room.start_waiting("x7_low", 2)
     tally.check("the build is under way again", room.wait_for_half("x7_low"))
     started.kill()
     started.communicate()

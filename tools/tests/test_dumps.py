@@ -17,29 +17,41 @@ tally = Tally()
 
 # 16 bytes three times, the beginning of a stream, and a last row of 7 bytes
 DATA = b"\xff" * 48 + bytes.fromhex("000000BB11220044FFFFFFFFAA995566") + bytes.fromhex("20000000300080")
+
+
+def in_rows(first: str, filled: str, row: str, rest: str) -> str:
+    """What `xxd` writes of DATA, and `md` of U-Boot, from the place `first` on: three rows of FF, and the two after
+    them."""
+    places = range(int(first, 16), int(first, 16) + 80, 16)
+    return "".join(f"{place:08x}: {it}\n" for place, it in zip(places, [filled, filled, filled, row, rest]))
+
+
+def with_star(places: str, filled: str, row: str, rest: str) -> str:
+    """What `hexdump` and `od` write of DATA: `*` for rows that are as the one before, and at the end how many bytes
+    there are."""
+    first, second, third, end = places.split()
+    return f"{first} {filled}\n*\n{second} {row}\n{third} {rest}\n{end}\n"
+
+
+FILLED_WORDS, FILLED_HALVES = "ffffffff ffffffff ffffffff ffffffff", "ffff ffff ffff ffff ffff ffff ffff ffff"
+WORDS, HALVES = "bb000000 44002211 ffffffff 665599aa", "0000 bb00 2211 4400 ffff ffff 99aa 6655"
 # what each program writes of DATA
 TEXTS = {
-    "xxd": """\
-00000000: ffff ffff ffff ffff ffff ffff ffff ffff  ................
-00000010: ffff ffff ffff ffff ffff ffff ffff ffff  ................
-00000020: ffff ffff ffff ffff ffff ffff ffff ffff  ................
-00000030: 0000 00bb 1122 0044 ffff ffff aa99 5566  .....".D......Uf
-00000040: 2000 0000 3000 80                         ...0..
-""",
-    "xxd -e": """\
-00000000: ffffffff ffffffff ffffffff ffffffff  ................
-00000010: ffffffff ffffffff ffffffff ffffffff  ................
-00000020: ffffffff ffffffff ffffffff ffffffff  ................
-00000030: bb000000 44002211 ffffffff 665599aa  .....".D......Uf
-00000040: 00000020   800030                     ...0..
-""",
-    "xxd -g4": """\
-00000000: ffffffff ffffffff ffffffff ffffffff  ................
-00000010: ffffffff ffffffff ffffffff ffffffff  ................
-00000020: ffffffff ffffffff ffffffff ffffffff  ................
-00000030: 000000bb 11220044 ffffffff aa995566  .....".D......Uf
-00000040: 20000000 300080                       ...0..
-""",
+    "xxd": in_rows(
+        "00000000", FILLED_HALVES + "  ................",
+        '0000 00bb 1122 0044 ffff ffff aa99 5566  .....".D......Uf',
+        "2000 0000 3000 80                         ...0..",
+    ),
+    "xxd -e": in_rows(
+        "00000000", FILLED_WORDS + "  ................",
+        WORDS + '  .....".D......Uf',
+        "00000020   800030                     ...0..",
+    ),
+    "xxd -g4": in_rows(
+        "00000000", FILLED_WORDS + "  ................",
+        '000000bb 11220044 ffffffff aa995566  .....".D......Uf',
+        "20000000 300080                       ...0..",
+    ),
     "xxd -b": """\
 00000000: 11111111 11111111 11111111 11111111 11111111 11111111  ......
 00000006: 11111111 11111111 11111111 11111111 11111111 11111111  ......
@@ -55,65 +67,43 @@ TEXTS = {
 00000042: 00000000 00000000 00110000 00000000 10000000           ..0..
 """,
     "xxd -p": f"{'ff' * 30}\n{'ff' * 18}000000bb11220044ffffffff\naa99556620000000300080\n",
-    "hexdump -C": """\
-00000000  ff ff ff ff ff ff ff ff  ff ff ff ff ff ff ff ff  |................|
-*
-00000030  00 00 00 bb 11 22 00 44  ff ff ff ff aa 99 55 66  |.....".D......Uf|
-00000040  20 00 00 00 30 00 80                              | ...0..|
-00000047
-""",
-    "hexdump": """\
-0000000 ffff ffff ffff ffff ffff ffff ffff ffff
-*
-0000030 0000 bb00 2211 4400 ffff ffff 99aa 6655
-0000040 0020 0000 0030 0080                    
-0000047
-""",
-    "od -tx1": """\
-0000000 ff ff ff ff ff ff ff ff ff ff ff ff ff ff ff ff
-*
-0000060 00 00 00 bb 11 22 00 44 ff ff ff ff aa 99 55 66
-0000100 20 00 00 00 30 00 80
-0000107
-""",
-    "od -Ax -tx4z": """\
-000000 ffffffff ffffffff ffffffff ffffffff  >................<
-*
-000030 bb000000 44002211 ffffffff 665599aa  >.....".D......Uf<
-000040 00000020 00800030                    > ...0..<
-000047
-""",
-    "od": """\
-0000000 177777 177777 177777 177777 177777 177777 177777 177777
-*
-0000060 000000 135400 021021 042000 177777 177777 114652 063125
-0000100 000040 000000 000060 000200
-0000107
-""",
-    "od -Ad -tx2": """\
-0000000 ffff ffff ffff ffff ffff ffff ffff ffff
-*
-0000048 0000 bb00 2211 4400 ffff ffff 99aa 6655
-0000064 0020 0000 0030 0080
-0000071
-""",
-    "words": """\
-FFFFFFFF FFFFFFFF FFFFFFFF FFFFFFFF
-FFFFFFFF FFFFFFFF FFFFFFFF FFFFFFFF
-FFFFFFFF FFFFFFFF FFFFFFFF FFFFFFFF
-000000BB 11220044 FFFFFFFF AA995566
-20000000 300080
-""",
+    "hexdump -C": with_star(
+        "00000000 00000030 00000040 00000047",
+        " ff ff ff ff ff ff ff ff  ff ff ff ff ff ff ff ff  |................|",
+        ' 00 00 00 bb 11 22 00 44  ff ff ff ff aa 99 55 66  |.....".D......Uf|',
+        " 20 00 00 00 30 00 80                              | ...0..|",
+    ),
+    "hexdump": with_star(
+        "0000000 0000030 0000040 0000047", FILLED_HALVES, HALVES, "0020 0000 0030 0080" + " " * 20,
+    ),
+    "od -tx1": with_star(
+        "0000000 0000060 0000100 0000107",
+        "ff ff ff ff ff ff ff ff ff ff ff ff ff ff ff ff",
+        "00 00 00 bb 11 22 00 44 ff ff ff ff aa 99 55 66",
+        "20 00 00 00 30 00 80",
+    ),
+    "od -Ax -tx4z": with_star(
+        "000000 000030 000040 000047",
+        FILLED_WORDS + "  >................<",
+        WORDS + '  >.....".D......Uf<',
+        "00000020 00800030                    > ...0..<",
+    ),
+    "od": with_star(
+        "0000000 0000060 0000100 0000107",
+        "177777 177777 177777 177777 177777 177777 177777 177777",
+        "000000 135400 021021 042000 177777 177777 114652 063125",
+        "000040 000000 000060 000200",
+    ),
+    "od -Ad -tx2": with_star("0000000 0000048 0000064 0000071", FILLED_HALVES, HALVES, "0020 0000 0030 0080"),
+    "words": "FFFFFFFF FFFFFFFF FFFFFFFF FFFFFFFF\n" * 3 + "000000BB 11220044 FFFFFFFF AA995566\n20000000 300080\n",
     "words, one a line": "FFFFFFFF\n" * 12 + "000000BB\n11220044\nFFFFFFFF\nAA995566\n20000000\n300080\n",
     "words in one line": "FFFFFFFF " * 12 + "000000BB 11220044 FFFFFFFF AA995566 20000000 300080",
-    "md of U-Boot, with other bytes after them": """\
-80000000: ffffffff ffffffff ffffffff ffffffff    ................
-80000010: ffffffff ffffffff ffffffff ffffffff    ................
-80000020: ffffffff ffffffff ffffffff ffffffff    ................
-80000030: bb000000 44002211 ffffffff 665599aa    .....".D......Uf
-80000040: 00000020 00800030                      ...0...
-""",
-}
+    "md of U-Boot, with other bytes after them": in_rows(
+        "80000000", FILLED_WORDS + "    ................",
+        WORDS + '    .....".D......Uf',
+        "00000020 00800030                      ...0...",
+    ),
+}  # fmt: skip
 # texts that are no dumps
 OTHERS = [
     b"", b"\n", b"*\n", b"ff\n", b"design.bit\n", b"frame 00000000 00000001\n", b"sync\nnop\n", b":020000040000FA\n",
