@@ -9,7 +9,7 @@ from runs import DEVICE, Bench, frame_of, run_parts, text_of_frames
 import x7formats as x7
 
 
-def make(bench):
+def make(bench: Bench) -> None:
     """A full stream with a header, a change, and a read of three frames, over the pads after a row."""
     bench.put("made.part", DEVICE)
     full = {"00000000": frame_of(1), "00000101": frame_of(2), "00800004": frame_of(3)}
@@ -23,12 +23,12 @@ def make(bench):
     bench.make("report", "x7", "play", "made.part", "full", "change", "read")
 
 
-def with_header(data, length=None):
+def with_header(data: bytes, length: int | None = None) -> bytes:
     """A stream after a header, which gives `length` as its bytes, or how many they are."""
     return header(len(data) if length is None else length, "made", "design") + data
 
 
-def ends(bench, name, *texts):
+def ends(bench: Bench, name: str, *texts: str) -> x7.Report:
     """Plays texts one after the other on a new port: the line, and the report."""
     bench.put("played", b"".join(bench.get(text) for text in texts))
     came = bench.x7("svf", "made.part", "played")
@@ -38,14 +38,21 @@ def ends(bench, name, *texts):
     return report
 
 
-def differs(bench, name, *texts):
+def differs(bench: Bench, name: str, *texts: str) -> None:
     """Texts of which a scan reads what it doesn't want."""
     bench.put("played", b"".join(bench.get(text) for text in texts))
     came = bench.x7("svf", "made.part", "played")
     bench.tally.check(name, came.status == 1 and came.out.startswith(b"svf differs"), came.out[:80])
 
 
-def plays(bench):
+def state_of(report: x7.Report) -> tuple[object, ...]:
+    """What is compared of two reports."""
+    return (
+        report.frames, report.phase, report.done, report.gts, report.gwe, report.registers["STAT"], report.end,
+    )  # fmt: skip
+
+
+def plays(bench: Bench) -> None:
     """The texts of the three kinds, played."""
     same = bench.tally.same
     bench.make("full.svf", "svf", "full.bit")
@@ -63,8 +70,7 @@ def plays(bench):
         ("read", ["full.svf", "change.svf", "read.svf"], "both"),
     ):
         came, wanted = ends(bench, name, *texts), x7.read_report(bench.path(report))
-        state = lambda it: (it.frames, it.phase, it.done, it.gts, it.gwe, it.registers["STAT"], it.end)
-        same(f"{name} comes to the same", state(came), state(wanted))
+        same(f"{name} comes to the same", state_of(came), state_of(wanted))
     differs(bench, "a change on a device that doesn't run", "change.svf")
     differs(bench, "a readback without the change", "full.svf", "read.svf")
     bench.put("other.svf", bench.get("full.svf").replace(b"0362D093", b"0362C093"))
@@ -114,7 +120,7 @@ def chains(bench: Bench) -> None:
         bench.refuses("svf", *line.split())
 
 
-def masked(bench):
+def masked(bench: Bench) -> None:
     """A bit that may be any isn't wanted, every other one is."""
     report = bench.get("report").decode()
     words = [line for line in report.splitlines() if line.startswith("data ")]
@@ -136,7 +142,7 @@ def masked(bench):
     differs(bench, "a mask of zeros wants every bit", "full.svf", "change.svf", "open.svf")
 
 
-def refused(bench):
+def refused(bench: Bench) -> None:
     """What can't start so."""
     data = bench.get("full")
     bench.make("image", "x7", "image", "full", "change")
@@ -172,7 +178,7 @@ def refused(bench):
         bench.refuses("svf", "--partial", name, what=what)
 
 
-def refused_reads(bench):
+def refused_reads(bench: Bench) -> None:
     """What is no stream or no report of a read, and words that the tool doesn't take."""
     bench.refuses("svf", "--read", "made.part", "full", "report", what="no stream of")
     bench.refuses("svf", "--read", "made.part", "change", "report", what="no stream of")

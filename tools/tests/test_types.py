@@ -1,25 +1,21 @@
 #!/usr/bin/env python3
-"""Tests that mypy --strict accepts the tools, their tests, bench/ and build, where mypy is installed, and that no line
-of them is past 120 characters. Files that aren't strict yet are listed here, and may have errors; no other may."""
+"""Tests that mypy --strict accepts the tools, their tests, bench/ and build, where mypy is installed; that no line of
+them is past 120 characters; and that no function lacks a type or has more than 40 lines."""
 from __future__ import annotations
 
+import ast
 import glob
 import os
-import re
 import shutil
 import subprocess
 import tempfile
 
 from casefiles import TOP, Tally
 
-WIDTH = 120
+# How many characters a line has at most, and how many lines a function.
+WIDTH, LENGTH = 120, 40
 # What is checked together, by folders: modules of one name don't stand in one call.
 GROUPS = [["tools", "tools/tests", "build", "parts", "release"], ["bench"]]
-# Files that aren't strict yet, and may have lines past WIDTH.
-LOOSE = {
-    "tools/tests/test_frames.py", "tools/tests/test_part.py", "tools/tests/test_svf.py", "tools/tests/test_tools.py",
-    "tools/tests/test_update.py", "tools/tests/test_why.py",
-}
 
 
 def is_python(path: str) -> bool:
@@ -54,7 +50,7 @@ def errors_of(files: list[str], places: list[str], cache: str) -> dict[str, list
 
 
 def check_types(tally: Tally) -> None:
-    """No file has errors but those that are listed."""
+    """No file has errors."""
     if not shutil.which("mypy"):
         tally.skip("mypy --strict, which isn't installed")
         return
@@ -64,32 +60,45 @@ def check_types(tally: Tally) -> None:
             found = errors_of(files, places, cache)
             for name in sorted({*files, *found}):
                 lines = found.get(name, [])
-                tally.check(f"mypy --strict {name}", not lines or name in LOOSE, "; ".join(lines[:3]))
+                tally.check(f"mypy --strict {name}", not lines, "; ".join(lines[:3]))
 
 
 def check_lines(tally: Tally) -> None:
-    """No line is past the width, and no list here names a file that isn't there."""
+    """No line is past the width."""
     for places in GROUPS:
         for name in (it for place in places for it in files_of(place)):
             with open(os.path.join(TOP, name), encoding="utf-8") as file:
                 wide = [str(number) for number, line in enumerate(file, 1) if len(line.rstrip("\n")) > WIDTH]
-            tally.check(f"{name}: lines past {WIDTH}", not wide or name in LOOSE, ", ".join(wide))
-    gone = [it for it in sorted(LOOSE) if not os.path.isfile(os.path.join(TOP, it))]
-    tally.same("files that are listed here and aren't there", gone, [])
+            tally.check(f"{name}: lines past {WIDTH}", not wide, ", ".join(wide))
 
 
-def check_annotations(tally: Tally) -> None:
-    """No function of a file that is strict lacks an annotation, also where mypy isn't installed."""
+def functions_of(name: str) -> list[ast.FunctionDef]:
+    """The functions of a file."""
+    with open(os.path.join(TOP, name), encoding="utf-8") as file:
+        tree = ast.parse(file.read())
+    return [it for it in ast.walk(tree) if isinstance(it, ast.FunctionDef)]
+
+
+def lacks_types(function: ast.FunctionDef) -> bool:
+    """Whether a function says no type of what it answers, or of what it takes."""
+    given = function.args
+    taken = [*given.posonlyargs, *given.args, *given.kwonlyargs, *filter(None, (given.vararg, given.kwarg))]
+    return function.returns is None or any(it.annotation is None for it in taken if it.arg not in ("self", "cls"))
+
+
+def check_functions(tally: Tally) -> None:
+    """No function lacks a type, also where mypy isn't installed, and none has more lines than LENGTH."""
     for places in GROUPS:
-        for name in (it for place in places for it in files_of(place) if it not in LOOSE):
-            with open(os.path.join(TOP, name), encoding="utf-8") as file:
-                text = file.read()
-            bare = re.findall(r"^ *def (\w+)\([^\n]*\):$", text, re.M)
-            tally.same(f"{name}: functions without a type of what they answer", bare, [])
+        for name in (it for place in places for it in files_of(place)):
+            functions = functions_of(name)
+            bare = [it.name for it in functions if lacks_types(it)]
+            tally.same(f"{name}: functions that lack a type", bare, [])
+            long = [it.name for it in functions if (it.end_lineno or 0) - it.lineno >= LENGTH]
+            tally.same(f"{name}: functions of more than {LENGTH} lines", long, [])
 
 
 tally = Tally()
 check_lines(tally)
-check_annotations(tally)
+check_functions(tally)
 check_types(tally)
 tally.end()
