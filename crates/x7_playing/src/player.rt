@@ -23,6 +23,7 @@ fn gather(buffer: &mut ReadBuf, reads: &mut Vec<u32>) -> bool
     ensures appends { result ≡ false → reads.new.items ≡ reads.old.items ++ buffer.old.words }
     ensures within { result ≡ false → vec_len reads.new ≤ reads_limit }
     ensures cleared { result ≡ false → buffer.new ≡ record buffer.old { words = [] } }
+    ensures kept { result ≡ true → buffer.new ≡ buffer.old }
     ensures over { result ≡ true → reads_limit < vec_len reads.old + length buffer.old.words }
 {
     if buffer.words().len() > READS_LIMIT - reads.len() {
