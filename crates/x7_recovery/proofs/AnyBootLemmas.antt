@@ -1,15 +1,20 @@
 -- All that a boot from a flash with an open slot comes to, and from one that was updated.
-use Rattle.std.proofs.Common.{ℕ, List, ◌++◌, length, subst}
+use Rattle.std.proofs.Common.{ℕ, List, None, ◌++◌, length, refl, subst}
 use Rattle.x7_part.specs.Part.{PartData}
 use Rattle.x7_regs.specs.declared.boot_status.Cause.{Cause}
+use Rattle.x7_regs.specs.declared.boot_status.Kind.TheVariants.{Fallback}
+use Rattle.x7_memory.specs.Plan.{PlanData}
+use Rattle.x7_planner.specs.FullStream.{full_stream}
+use Rattle.x7_engine.specs.declared.kept.Kept.{Kept}
 use Rattle.x7_boot.specs.Attempt.{AttemptCourse}
 use Rattle.x7_boot.specs.Image.{image_of, place_after_golden}
-use Rattle.x7_recovery.specs.OpenBoot.{BootsOpen, EachBootsOpen, EachFallsBackClean, HasImageOf, HasStreams, UpdateFallsBack}
+use Rattle.x7_recovery.specs.OpenBoot.{BootsOpen, EachBootsOpen, EachFallsBackClean, HasImageOf, HasStreams, StartsAsFallback, UpdateFallsBack}
 use Rattle.x7_recovery.specs.OpenSlot.{BeginsAsImage, IsOpenFlash, OpenFlash, image_of_flash, slot_of_flash}
+use Rattle.x7_recovery.specs.PlannedImage.{HasImage, flash_of_image, golden_image, place_after}
 use Rattle.x7_recovery.specs.Updated.{IsUpdated, UpdatedFlash, one_more, opened_by}
 use Rattle.x7_recovery.proofs.CleanBootLemmas.{falls_clean}
-use Rattle.x7_recovery.proofs.HasOpenLemmas.{after_is_opened, image_as, image_golden_stands, image_is_opened, image_update_stands}
-use Rattle.x7_recovery.proofs.OpenBootLemmas.{falls_alike, falls_back, full, starts, stops, tries}
+use Rattle.x7_recovery.proofs.HasOpenLemmas.{after_is_opened, image_as, image_golden_stands, image_is_opened, image_planned, image_update_stands}
+use Rattle.x7_recovery.proofs.OpenBootLemmas.{fallback_starts, falls_alike, falls_back, full, starts, stops, tries}
 use Rattle.x7_recovery.proofs.StaysLemmas.{clean_later, place_later}
 
 pub boots_open : (o : OpenFlash) → IsOpenFlash o → EachBootsOpen o
@@ -35,6 +40,19 @@ image_boots part golden update after has =
       has_update = image_update_stands part golden update after has.is_part has.fits;
       boots = boots_open (image_of_flash part flash place) (image_is_opened part flash place has.is_part begins);
     }
+
+-- ---- what the laws ask of golden streams can hold
+
+-- what some fallback keeps over its reset
+abbrev some_kept : Kept
+some_kept = record { wbstar = 0; timer = 0; bspi = 0; kind = Fallback; before = None }
+
+-- over an image whose golden stream is the full stream of a plan a fallback starts
+pub some_fallback_starts : (part : PartData) (golden : PlanData) (update after : List ℕ) → HasImage part golden update → (f : AttemptCourse) × StartsAsFallback (flash_of_image part golden update after) f
+some_fallback_starts part golden update after image =
+    let streams : HasStreams part (full_stream part golden) update (golden_image part golden update ++ after) = image_boots part (full_stream part golden) update after (record { is_part = image.is_part; fits = image.fits }) in
+    fallback_starts (flash_of_image part golden update after) (image_is_opened part (golden_image part golden update ++ after) (place_after part golden) image.is_part streams.begins) some_kept golden
+    (image_planned part golden update after image) refl
 
 -- ---- after updates
 

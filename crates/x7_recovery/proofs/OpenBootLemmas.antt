@@ -154,6 +154,11 @@ module _ (o : OpenFlash) (is : IsOpenFlash o) where
       full_starts o.part kept prefix golden 0 o.flash has.rest true is.has.fits (sector_rests o.flash o.slot o.start is.has is.small o.part kept e) (sector_never o.flash o.slot o.start is.has is.small) has.is_part has.plan split
       (ap (λ (x : Bool). x && wrote_iprog (history_of (prefix ++ stream))) e ∙ iprog_later prefix stream fits wrote)
 
+  pub fallback_starts : (kept : Kept) (golden : PlanData) → HasFullGolden o golden → kept.kind ≡ Fallback → (f : AttemptCourse) × StartsAsFallback o f
+  fallback_starts kept golden has e =
+      let s : StartsWith o.part kept 0 o.flash golden true = planned_starts kept golden has (ap is_fallback e) in
+      (s.course, record { is = s.is; kind = ap (λ (k : Kept). k.kind) s.kept_is ∙ e; address = s.address_is; started = s.ending_is })
+
   pub falls_back : (c : BootCourse) (t : AttemptCourse) (cause : Cause) (golden : PlanData) → IsCourse o.part o.flash c → HasFullGolden o golden → UpdateFallsBack o t cause → FallsBack o cause golden c
   falls_back c t cause golden course has fails =
       let f : StartsWith o.part (kept_then t) 0 o.flash golden true = planned_starts (kept_then t) golden has refl in

@@ -140,7 +140,8 @@ pub record StartsAsFallback (o : OpenFlash) (f : AttemptCourse) : Type 0 where
   pub started : f.ending ≡ ending.Started
 
 -- The boot falls back and starts as another fallback does: with the same bytes and memory, and the same state but for
--- what shows what was kept over the reset; BOOTSTS shows that fallback, and the update's cause.
+-- the end, WBSTAR, TIMER, BSPI and BOOTSTS, which may show what was kept over the reset. BOOTSTS shows that fallback,
+-- and the update's cause.
 pub record FallsBackAlike (o : OpenFlash) (cause : Cause) (f : AttemptCourse) (c : BootCourse) : Type 0 where
   pub attempts_are : c.attempts ≡ fell_back o.place cause
   pub started : c.end ≡ boot_end.Started

@@ -8,7 +8,7 @@ ghost use Rattle.x7_memory.specs.Plan.{IsPlanFor, PlanData};
 ghost use Rattle.x7_boot.specs.Attempt.{AttemptCourse};
 ghost use Rattle.x7_boot.specs.Image.{image_of};
 ghost use Rattle.x7_recovery.specs.Example.{nothing_planned, tiny};
-ghost use Rattle.x7_recovery.specs.OpenBoot.{HasFullGolden, HasImageOf, HasStreams, UpdateFallsBack};
+ghost use Rattle.x7_recovery.specs.OpenBoot.{HasFullGolden, HasImageOf, HasStreams, StartsAsFallback, UpdateFallsBack};
 ghost use Rattle.x7_recovery.specs.OpenSlot.{image_of_flash};
 ghost use Rattle.x7_recovery.specs.PlannedImage.{HasImage, flash_of_image, golden_image, place_after};
 ghost use Rattle.x7_recovery.specs.Recovery.{IsPrepared, updating_image};
@@ -27,13 +27,16 @@ pub fn images_boot()
 
 /// The laws of this crate speak of something. There is a part with a plan for it and their image, which is prepared for
 /// an update with any stream, and of which a power loss in that update may leave another flash. Over the image of any
-/// part and plan, with an update of no bytes, an attempt at the update fails by a wrap, and CTL0 allows a fallback.
+/// part and plan, with an update of no bytes, an attempt at the update fails by a wrap, and CTL0 allows a fallback. Over
+/// the image of the full stream of a plan and any update some fallback starts.
 pub fn premises_hold()
     ensures part { IsPart tiny }
     ensures plan { IsPlanFor tiny nothing_planned }
     ensures image { HasImage tiny nothing_planned [] }
     ensures prepared { (stream : List ℕ) → IsPrepared (updating_image tiny nothing_planned [] stream) }
     ensures torn { (stream : List ℕ) → (found : List ℕ) × MayBeLeft stream (golden_image tiny nothing_planned []) found × (found ≢ golden_image tiny nothing_planned []) }
+    ensures falls_back { (part : PartData) (golden : PlanData) (update more : List ℕ) → HasImage part golden update
+        → (f : AttemptCourse) × StartsAsFallback (flash_of_image part golden update more) f }
     ensures fails { (part : PartData) (golden : PlanData)
         → (t : AttemptCourse) × UpdateFallsBack (image_of_flash part (golden_image part golden []) (place_after part golden)) t Wrap }
 {}

@@ -1,3 +1,4 @@
+use Rattle.x7_recovery.proofs.AnyBootLemmas.{some_fallback_starts}
 use Rattle.x7_recovery.proofs.PremiseLemmas.{empty_attempt, left_torn, plan_is, some_update_fails, tiny_image, tiny_is, tiny_prepared}
 use Rattle.std.proofs.Common.{[]}
 use Rattle.x7_recovery.specs.Example.{nothing_planned, tiny}
@@ -8,6 +9,9 @@ returns-clause-part c = tiny_is
 
 pub returns-clause-plan : goal.returns-clause-plan
 returns-clause-plan c = plan_is
+
+pub returns-clause-falls_back : goal.returns-clause-falls_back
+returns-clause-falls_back c = some_fallback_starts
 
 pub returns-clause-fails : goal.returns-clause-fails
 returns-clause-fails c = λ part golden. (empty_attempt part golden, some_update_fails part golden)
