@@ -1,8 +1,7 @@
 //! The boot of a device from a flash.
 ghost use Rattle.std.specs.Prelude.{◌≡◌, ◌<◌, ◌≤◌, ◌↔◌, [], true, Err, IfOk, IsErrOf, OnOk};
-ghost use Rattle.x7_words.specs.Flash.{FlashFails, FlashState, IfKnown};
+ghost use Rattle.x7_words.specs.Flash.{FlashFails, FlashState, IfKnown, OnlyReads};
 ghost use Rattle.x7_words.specs.Word.{AreBytes};
-ghost use Rattle.x7_words.specs.FlashCalls.{CallOnlyReads};
 ghost use Rattle.x7_engine.specs.Standing.{NoWordDue};
 ghost use Rattle.x7_boot.specs.Boot.{BootsTo, BootedState, IsBoot, ReadsInBoot};
 ghost use Rattle.x7_boot.specs.Image.{flash_limit};
@@ -131,7 +130,7 @@ fn try_all<F: Flash>(
         (record { attempts = attempts.new.items; end = end; device = device.new })) }
     ensures called { HasCalled (ReadsInBoot device.old.part (answers_since first (F.state flash.new))) (F.state flash.old) (F.state flash.new) }
     ensures faults { FaultsCounted (F.state flash.old).faults (F.state flash.new).faults result }
-    ensures only_reads { CallOnlyReads F.Flash flash.old flash.new }
+    ensures only_reads { OnlyReads (F.state flash.old) (F.state flash.new) }
 {
     let mut kept = AT_POWER;
     let mut address = 0;
@@ -166,7 +165,7 @@ fn boot_part<F: Flash>(alloc: Global, part: &Part, flash: &mut F) -> Result<Boot
     ensures booted { IfOk result (BootsTo part.now (answers_since (F.state flash.old) (F.state flash.new))) }
     ensures called { HasCalled (ReadsInBoot part.now (answers_since (F.state flash.old) (F.state flash.new))) (F.state flash.old) (F.state flash.new) }
     ensures faults { FaultsCounted (F.state flash.old).faults (F.state flash.new).faults result }
-    ensures only_reads { CallOnlyReads F.Flash flash.old flash.new }
+    ensures only_reads { OnlyReads (F.state flash.old) (F.state flash.new) }
 {
     let Ok(mut pages) = PageCache::new(alloc) else {
         return Err(BootFault::NoMemory);
@@ -197,7 +196,7 @@ pub fn boot<F: Flash>(alloc: Global, part: &Part, flash: &mut F) -> Result<Boote
     ensures no_memory { IsErrOf result BootFault.NoMemory → (F.state flash.new).faults ≡ (F.state flash.old).faults }
     ensures too_large { (result ≡ Err BootFault.TooLarge) ↔ (flash_limit < (F.state flash.old).extent) }
     ensures unread { IsErrOf result BootFault.TooLarge → F.state flash.new ≡ F.state flash.old }
-    ensures only_reads { CallOnlyReads F.Flash flash.old flash.new }
+    ensures only_reads { OnlyReads (F.state flash.old) (F.state flash.new) }
 {
     if flash.size() > FLASH_LIMIT {
         return Err(BootFault::TooLarge);

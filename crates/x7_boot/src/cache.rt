@@ -1,8 +1,7 @@
 //! The pages of a flash that were read or used last, so that none of them is read again.
 ghost use Rattle.std.specs.Prelude.{◌≡◌, ◌+◌, ◌*◌, ◌/◌, ◌%◌, ◌<◌, ◌≤◌, ℕ, None, [], length, true, nat_eq, IfOk, OnOk, IsSome};
 ghost use Rattle.std.specs.Map.{lookup};
-ghost use Rattle.x7_words.specs.Flash.{FlashState};
-ghost use Rattle.x7_words.specs.FlashCalls.{CallOnlyReads};
+ghost use Rattle.x7_words.specs.Flash.{FlashState, OnlyReads};
 ghost use Rattle.x7_boot.specs.Image.{flash_limit};
 ghost use Rattle.x7_boot.specs.Pages.{ArePages, FaultsCounted, HasPage, HoldsFrom, IsLoaded, IsRestOfPage, KeepsPages, LoadCalls, BlockReaches, EndsWithBlock, most_pages_at_once, page_size};
 ghost use Rattle.x7_boot.specs.Reads.{FlashAnswers, HasCalled, IsSince, answers_since};
@@ -78,7 +77,7 @@ impl PageCache {
         ensures read { IfOk result (IsLoaded (answers_since first (F.state flash.new)) number self.new.block.items) }
         ensures called { HasCalled (LoadCalls number self.new.block.items result) (F.state flash.old) (F.state flash.new) }
         ensures faults { FaultsCounted (F.state flash.old).faults (F.state flash.new).faults result }
-        ensures only_reads { CallOnlyReads F.Flash flash.old flash.new }
+        ensures only_reads { OnlyReads (F.state flash.old) (F.state flash.new) }
     {
         if self.pages.promote(&number) {
             return Ok(Loaded::Cached);

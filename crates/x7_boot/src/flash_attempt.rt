@@ -2,9 +2,8 @@
 ghost use Rattle.std.specs.Prelude.{◌≡◌, ◌≤◌, ℕ, List, true, false, IfOk};
 ghost use Rattle.x7_regs.specs.declared.boot_status.Kind.TheVariants.{Bench};
 ghost use Rattle.x7_regs.specs.declared.boot_status.Cause.TheVariants.{Wrap};
-ghost use Rattle.x7_words.specs.Flash.{FlashState};
+ghost use Rattle.x7_words.specs.Flash.{FlashState, OnlyReads};
 ghost use Rattle.x7_words.specs.Word.{AreBytes};
-ghost use Rattle.x7_words.specs.FlashCalls.{CallOnlyReads};
 ghost use Rattle.x7_part.specs.Part.{PartData};
 ghost use Rattle.x7_engine.specs.declared.kept.Kept.{Kept as KeptData};
 ghost use Rattle.x7_engine.specs.Standing.{DeviceStandsFor, MayWrap, NoWordDue, with_wrap};
@@ -63,7 +62,7 @@ pub(crate) fn try_once<F: Flash>(
     ensures part { IfOk result (λ ending. device.new.part ≡ device.old.part) }
     ensures no_word_due { IfOk result (λ ending. NoWordDue device.new) }
     ensures faults { FaultsCounted (F.state flash.old).faults (F.state flash.new).faults result }
-    ensures only_reads { CallOnlyReads F.Flash flash.old flash.new }
+    ensures only_reads { OnlyReads (F.state flash.old) (F.state flash.new) }
 {
     let size = flash.size();
     begin(device, kept, address);

@@ -1,6 +1,6 @@
 //! Reading a flash by pages.
 ghost use Rattle.std.specs.Prelude.{◌≡◌, ◌*◌, ◌<◌, ◌≤◌, true, OnOk};
-ghost use Rattle.x7_words.specs.FlashCalls.{CallOnlyReads};
+ghost use Rattle.x7_words.specs.Flash.{OnlyReads};
 ghost use Rattle.x7_boot.specs.Image.{flash_limit};
 ghost use Rattle.x7_boot.specs.Pages.{IsBlock, BlockCalls, FaultsCounted, most_pages_at_once, page_size};
 ghost use Rattle.x7_boot.specs.Reads.{HasCalled, answers_since};
@@ -29,7 +29,7 @@ pub(crate) fn read_block<F: Flash>(
     ensures read { OnOk result (IsBlock (answers_since (F.state flash.old) (F.state flash.new)) number count block.new.items) }
     ensures called { HasCalled (BlockCalls number block.new.items result) (F.state flash.old) (F.state flash.new) }
     ensures faults { FaultsCounted (F.state flash.old).faults (F.state flash.new).faults result }
-    ensures only_reads { CallOnlyReads F.Flash flash.old flash.new }
+    ensures only_reads { OnlyReads (F.state flash.old) (F.state flash.new) }
 {
     let start = number * PAGE_SIZE;
     let end = ((number + count) * PAGE_SIZE).min(flash.size());

@@ -2,9 +2,10 @@
 use Rattle.std.proofs.Common.{◌≡◌, ◌<◌, ◌≤◌, ◌++◌, ℕ, Bool, List, [], ◌∷◌, append_assoc, length, Option, None, Some, Result, Ok, Err, IfErr, IfOk, refl, ap, subst, sym, ◌∙◌, inl, inr, ◌⊎◌, arith}
 use Rattle.std.proofs.lemmas.Bool.{cases_lt}
 use Rattle.std.proofs.lemmas.List.Elements.{All-head, All-tail}
-use Rattle.std.specs.Prelude.{IsTrue, All}
-use Rattle.x7_words.specs.Flash.{FlashIsAskedFor, FlashFails, FlashState, ExtentIsLength, OnlyReads, IfKnown}
-use Rattle.x7_words.specs.FlashHistory.{Gave, IsWithin, Makes, MayLeave, history_of}
+use Rattle.std.specs.Prelude.{All}
+use Rattle.x7_words.specs.Flash.{BecomesBytes, FlashFails, FlashState, ExtentIsLength, KeepsBytes, OnlyReads, IfKnown}
+use Rattle.x7_words.specs.FlashHistory.{FollowsCalls, Gave, IsHistory, IsWithin, Makes, MayLeave, history_of}
+use Rattle.x7_words.proofs.FollowLemmas.{follow_on}
 use Rattle.x7_words.specs.Word.{AreBytes}
 use Rattle.x7_words.specs.declared.flash_call.FlashCall.{FlashCall}
 use Rattle.x7_words.specs.declared.flash_call.FlashCall.TheVariants.{Attached, NotAttached, Erased, EraseFailed, Programmed, ProgramFailed}
@@ -29,8 +30,8 @@ use Rattle.x7_forms.specs.Known.{Answer, Held, flash_found}
 use Rattle.x7_outcome.specs.Outcome.{IsBootText, FlashBoots, boot_event, has_failed}
 use Rattle.x7_outcome.specs.Called.{AttachedAs}
 use Rattle.x7_outcome.specs.Leaving.{LeavesAsItWas}
-use Rattle.x7_outcome.specs.Outside.{ReadsFlash}
-use Rattle.x7_outcome.proofs.FlashLemmas.{since_are}
+use Rattle.x7_outcome.specs.Outside.{IsAskedFor, ReadsFlash}
+use Rattle.x7_outcome.proofs.FlashLemmas.{attached_follows, since_are}
 use Rattle.x7_outcome.specs.Ending.{FlashComes}
 use Rattle.x7_outcome.specs.Play.{play_answer}
 use Rattle.x7_report.specs.Reports.{PlayTextState, report_text}
@@ -110,13 +111,13 @@ large_flash name part None extent event e l is = is
 large_flash name part (Some all) extent event e l is = (omega (arith, l, e), is)
 
 -- a boot that came to no end
-pub fault_boots : (name : List ℕ) (part : PartData) (old mid new : FlashState) (past since : ℕ → List ℕ → Type 0) (fault : BootFault) (event : Event) → ReadsFlash name old mid → FlashIsAskedFor old name mid → ExtentIsLength mid → OnlyReads mid new past since → event ≡ boot_event name fault
+pub fault_boots : (name : List ℕ) (part : PartData) (old mid new : FlashState) (fault : BootFault) (event : Event) → ReadsFlash name old mid → IsAskedFor name old mid → ExtentIsLength mid → OnlyReads mid new → event ≡ boot_event name fault
     → (fault ≡ boot_fault.Failed → FlashFails mid new) → (fault ≡ boot_fault.TooLarge → flash_limit < mid.extent) → FlashComes name part old new (Err event)
-fault_boots name part old mid new past since boot_fault.Failed event r a s o is failed large =
-    inr (inl (inr (is, record { among = inl refl; asked = subst (λ (names : List ℕ → Bool). IsTrue (names name)) (sym o.names) a.asked; risen = risen_from old.faults mid.faults new.faults r.faults (failed refl) })))
-fault_boots name part old mid new past since boot_fault.TooLarge event r a s o is failed large =
+fault_boots name part old mid new boot_fault.Failed event r a s o is failed large =
+    inr (inl (inr (is, record { among = inl refl; asked = o.names ∙ a; risen = risen_from old.faults mid.faults new.faults r.faults (failed refl) })))
+fault_boots name part old mid new boot_fault.TooLarge event r a s o is failed large =
     inr (inr (subst (λ (f : Option (List ℕ)). FlashBoots name part (flash_found f) (Err event)) r.bytes (large_flash name part mid.bytes mid.extent event s (large refl) is), omega (arith, large refl, o.extent)))
-fault_boots name part old mid new past since boot_fault.NoMemory event r a s o is failed large = inl is
+fault_boots name part old mid new boot_fault.NoMemory event r a s o is failed large = inl is
 
 -- ---- what a boot called
 
@@ -148,6 +149,26 @@ boot_leaves name part flash old mid new a c = λ all found h.
     by : (all found : List ℕ) → MayLeave (Attached name mid.extent ∷ c.calls) all found → found ≡ all
     by all found (inl same) = same
     by all found (inr h) = all_leave c.calls (boot_read part flash c.calls c.such) h.0 found h.2 ∙ h.1
+
+-- reads that gave the bytes of a flash make nothing of them
+gave_history : (calls : List FlashCall) (all : List ℕ) → All IsPageRead calls → Gave all calls → IsHistory calls all all
+gave_history [] all each g = refl
+gave_history (call.Read place bytes ∷ calls) all each g = (all, (refl, g.0), gave_history calls all (All-tail IsPageRead (call.Read place bytes) calls each) g.1)
+gave_history (call.ReadFailed place count ∷ calls) all each g = (all, refl, gave_history calls all (All-tail IsPageRead (call.ReadFailed place count) calls each) g)
+gave_history (Attached name size ∷ calls) all each g = absurd (All-head IsPageRead (Attached name size) calls each).1
+gave_history (NotAttached name fault ∷ calls) all each g = absurd (All-head IsPageRead (NotAttached name fault) calls each).1
+gave_history (Erased sector ∷ calls) all each g = absurd (All-head IsPageRead (Erased sector) calls each).1
+gave_history (EraseFailed sector ∷ calls) all each g = absurd (All-head IsPageRead (EraseFailed sector) calls each).1
+gave_history (Programmed place given ∷ calls) all each g = absurd (All-head IsPageRead (Programmed place given) calls each).1
+gave_history (ProgramFailed place given ∷ calls) all each g = absurd (All-head IsPageRead (ProgramFailed place given) calls each).1
+
+-- the bytes of a flash that was attached and booted from follow its calls
+pub boot_follows : (name : List ℕ) (part : PartData) (flash : FlashAnswers) (old mid new : FlashState) → KeepsBytes old mid → AttachedAs name old (history_of mid) → new.bytes ≡ mid.bytes → HasCalled (ReadsInBoot part flash) mid new → FollowsCalls old new
+boot_follows name part flash old mid new s a same c = follow_on old mid new (attached_follows name old mid s (inl a)) (record { calls = c.calls; made = c.are; bytes = go mid.bytes same c.gave })
+  where
+    go : (known : Option (List ℕ)) → new.bytes ≡ known → IfKnown known (λ all. Gave all c.calls) → BecomesBytes (IsHistory c.calls) known new.bytes
+    go None same gave = same
+    go (Some all) same gave = (all, same, gave_history c.calls all (boot_read part flash c.calls c.such) gave)
 
 -- a flash that gives what was read since before the attach gives what was read since
 agrees_since : (name : List ℕ) (P : List FlashCall → Type 0) (old mid new : FlashState) (all : List ℕ) → AttachedAs name old (history_of mid) → HasCalled P mid new → Agrees (answers_since old new) all → Agrees (answers_since mid new) all

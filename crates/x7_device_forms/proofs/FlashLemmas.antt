@@ -1,7 +1,6 @@
 -- How a boot from a flash ends, and how large a flash is, and when it fails, by the event that ends a form.
-use Rattle.std.proofs.Common.{◌≡◌, ◌∙◌, ap, arith, ℕ, ◌≤◌, Bool, true, false, IfErr, IfOk, List, [], ◌∷◌, Option, None, Some, Result, Ok, Err, refl, subst, sym, inl, inr}
-use Rattle.std.specs.Prelude.{IsTrue}
-use Rattle.x7_words.specs.Flash.{FlashState, OnlyReads}
+use Rattle.std.proofs.Common.{◌≡◌, ◌∙◌, ap, arith, ℕ, ◌≤◌, Bool, true, false, IfErr, IfOk, List, [], ◌∷◌, ◌++◌, ◌⊎◌, Option, None, Some, Result, Ok, Err, refl, subst, sym, inl, inr}
+use Rattle.x7_words.specs.Flash.{FlashState, OnlyReads, names_asked}
 use Rattle.x7_words.specs.Input.{InputsState}
 use Rattle.x7_part.specs.Part.{PartData}
 use Rattle.x7_part.specs.declared.fault.PartFault.{PartFault}
@@ -211,12 +210,11 @@ part_refused old new name part_name event read =
 -- ---- a flash that is read at most
 
 -- a flash that was read at most, and then read again
-pub reads_on : (name : List ℕ) (old mid new : FlashState) (past since : ℕ → List ℕ → Type 0) → ReadsFlash name old mid → OnlyReads mid new past since → ReadsFlash name old new
-reads_on name old mid new past since r o = record {
+pub reads_on : (name : List ℕ) (old mid new : FlashState) → ReadsFlash name old mid → OnlyReads mid new → ReadsFlash name old new
+reads_on name old mid new r o = record {
   bytes = o.bytes ∙ r.bytes;
-  write_faults = o.unwritten.write_faults ∙ r.write_faults;
-  moments = o.unwritten.moments ∙ r.moments;
+  write_faults = o.write_faults ∙ r.write_faults;
   faults = omega (arith, r.faults, o.faults);
   absences = omega (arith, r.absences, o.absences);
-  no_other = λ other h. r.no_other other (subst (λ (names : List ℕ → Bool). IsTrue (names other)) o.names h);
+  asked = subst (λ (names : List (List ℕ)). (names ≡ names_asked old.calls) ⊎ (names ≡ names_asked old.calls ++ name ∷ [])) (sym o.names) r.asked;
 }

@@ -1,21 +1,22 @@
 -- How an update ends, by what it came to, and what it leaves of the flash.
 use Rattle.std.proofs.Common.{◌≡◌, ◌≤◌, ◌-◌, ◌∙◌, ap, arith, ℕ, Bool, true, false, List, [], ◌∷◌, length, length-drop, take, take_all, drop, Option, None, Some, Result, Ok, Err, refl, subst, sym, inl, inr}
-use Rattle.std.specs.Prelude.{IsTrue, if◌then◌else◌}
+use Rattle.std.specs.Prelude.{if◌then◌else◌}
 use Rattle.std.specs.Str.{bytes_eq}
 use Rattle.x7_words.specs.Count.{HasRisen}
-use Rattle.x7_words.specs.Flash.{FlashIsAskedFor, FlashState, KeepsBytes, IfKnown}
+use Rattle.x7_words.specs.Flash.{BecomesBytes, FlashState, KeepsBytes, IfKnown}
+use Rattle.x7_words.specs.FlashHistory.{FollowsCalls}
+use Rattle.x7_words.proofs.FollowLemmas.{follow_on}
 use Rattle.x7_words.specs.Input.{InputsState}
 use Rattle.x7_words.specs.Sink.{SinkState}
 use Rattle.x7_words.proofs.CountLemmas.{risen_from}
 use Rattle.x7_words.proofs.SinkLemmas.{appended_nil}
 use Rattle.x7_boot.specs.Image.{flash_limit}
-use Rattle.x7_update.specs.After.{IsAfterUpdate, MayBeLeft}
+use Rattle.x7_update.specs.After.{IsAfterUpdate}
 use Rattle.x7_update.specs.Layout.{IsUpdatable}
 use Rattle.x7_update.specs.Fault.{CanBeUpdatedWith, HasCause, IsEarly, IsTooLong, NoLayoutAt}
-use Rattle.x7_update.specs.Writing.{AtAnyMoment, Becomes, BecomesBytes, OnlyUses}
+use Rattle.x7_update.specs.Writing.{Becomes, OnlyUses}
 use Rattle.x7_update.specs.declared.fault.UpdateFault.{UpdateFault}
 use Rattle.x7_update.specs.declared.fault.UpdateFault.TheVariants.{Differs, Failed, NoLayout, NoMemory, TooLong}
-use Rattle.x7_update.proofs.KnownLemmas.{moments_weaker, only_read, read_moments}
 use Rattle.x7_forms.specs.declared.bad_input.InputFault.TheVariants as input
 use Rattle.x7_forms.specs.declared.refusal.Why.{Why}
 use Rattle.x7_forms.specs.declared.refusal.Why.TheVariants as why
@@ -26,12 +27,12 @@ use Rattle.x7_forms.specs.Known.{Absent, Answer, Failing, Found, Known, Lacking,
 use Rattle.x7_forms.specs.Step.{Among, CameIn, DueBy, IsCaused, IsDecided, IsDue, IsPossible, IsUnplayed, step_over}
 use Rattle.x7_forms.proofs.ReadLemmas.{outside_goes}
 use Rattle.x7_outcome.specs.Called.{CallsUpdate, OnlyAttaches, RefusesUpdate}
-use Rattle.x7_outcome.specs.Leaving.{HasData, BytesAfterReason, LeavesAnyFlash, MayBeFound, UsesFlash}
+use Rattle.x7_outcome.specs.Leaving.{HasData, BytesAfterReason, LeavesAnyFlash, UsesFlash}
 use Rattle.x7_outcome.specs.Outcome.{FlashUpdates, FormGives, IsUpdateFault, UpdateNames, UpdatesBytes, UpdatesWith, no_text, stream_data, update_event}
-use Rattle.x7_outcome.specs.Outside.{CameInRun, Outside, known_in, sources}
+use Rattle.x7_outcome.specs.Outside.{CameInRun, IsAskedFor, Outside, known_in, sources}
 use Rattle.x7_outcome.specs.Ending.{GivesIfKnown, AnswersOver, CommandEndsAs, FailsLast, IsMeasured, IsUnattachedOrLarge}
 use Rattle.x7_device_forms.proofs.FlashLemmas.{bad_small, detached, other_fault, known_flash, unattached_measured, unread_last, unread_measured}
-use Rattle.x7_outcome.proofs.FlashLemmas.{attached_leaves, came_wider, not_fault, not_large}
+use Rattle.x7_outcome.proofs.FlashLemmas.{attached_follows, attached_leaves, came_wider, not_fault, not_large}
 use Rattle.x7_outcome.proofs.EndingLemmas.{has_cause, leaves_all, near_all, no_break}
 use Rattle.x7_words.proofs.ListLemmas.{same_by_test, same_as_itself}
 
@@ -213,7 +214,7 @@ cause_from bytes a b c (Failed true) e w f h = (subst (λ (n : ℕ). HasRisen n 
 cause_from bytes a b c (Failed false) e w f h = (risen_from a.faults b.faults c.faults f h.0, h.1)
 cause_from bytes a b c TooLong e w f h = subst (λ (o : Option (List ℕ)). IfKnown o (IsTooLong bytes)) e h
 cause_from bytes a b c (NoLayout place) e w f h = subst (λ (o : Option (List ℕ)). IfKnown o (λ flash. NoLayoutAt (length flash) flash place)) e h
-cause_from bytes a b c (Differs place wrote read) e w f h = (h.0, sym e ∙ h.1, h.2)
+cause_from bytes a b c (Differs place wrote read) e w f h = sym e ∙ h
 cause_from bytes a b c NoMemory e w f h = tt
 
 -- the flash can take the stream's data
@@ -240,7 +241,7 @@ fault_last flash stream bytes inputs new (Differs place wrote read) has size = n
 fault_last flash stream bytes inputs new NoMemory has size = not_fault (Some (UpdatingFlash flash stream)) inputs new no_memory (λ r. absurd (cc))
 
 -- an update that came to no end
-pub fault_ends : (flash stream bytes : List ℕ) (old new : Outside) (fault : UpdateFault) → new.out ≡ old.out → IsTrue (new.flash.names flash) → IsWithin old.flash.bytes → HasData (known_in old new) stream bytes
+pub fault_ends : (flash stream bytes : List ℕ) (old new : Outside) (fault : UpdateFault) → new.out ≡ old.out → IsAskedFor flash old.flash new.flash → IsWithin old.flash.bytes → HasData (known_in old new) stream bytes
     → HasData (with_inputs new.inputs.contents None) stream bytes → new.flash.extent ≤ flash_limit → HasCause bytes old.flash new.flash fault → (IsEarly fault → new.flash.bytes ≡ old.flash.bytes)
     → RefusesUpdate (names flash stream) old new (update_event (names flash stream) fault) → CommandEndsAs (Some (UpdatingFlash flash stream)) old new (Err (update_event (names flash stream) fault))
 fault_ends flash stream bytes old new (Failed true) out asked within has reads size h early called =
@@ -268,9 +269,9 @@ fault_ends flash stream bytes old new (NoLayout place) out asked within has read
     (λ t e. fault_known (names flash stream) old.flash.bytes (stream_data t stream) bytes (NoLayout place) within (data_at (known_in old new) stream bytes has t e) h)) (early tt) called
 fault_ends flash stream bytes old new (Differs place wrote read) out asked within has reads size h early called = record {
   cause = (
-    (place, refl, h.1, record { bytes = bytes; has_data = has; wrote = wrote; read = read; wrong = h.0; first = h.2 }),
+    (place, refl, h),
     agreed (known_in old new) old.flash.bytes flash stream (Err (differs flash place)) (known_flash new.inputs.contents old.flash.bytes flash)
-        (λ t e. fault_known (names flash stream) old.flash.bytes (stream_data t stream) bytes (Differs place wrote read) within (data_at (known_in old new) stream bytes has t e) ((new.flash.extent, h.0), h.1)),
+        (λ t e. fault_known (names flash stream) old.flash.bytes (stream_data t stream) bytes (Differs place wrote read) within (data_at (known_in old new) stream bytes has t e) h),
   );
   wrote = out_same old new out;
   near = near_all (UpdatingFlash flash stream) (status_of_event (differs flash place)) old new refl;
@@ -308,27 +309,23 @@ done_ends flash stream bytes old new out within has updatable size becomes calle
 -- ---- what an update leaves of the flash
 
 -- a flash that was attached at most
-pub uses_opened : (flash stream : List ℕ) (inputs : InputsState) (old new : FlashState) (past since : ℕ → List ℕ → Type 0) → KeepsBytes old new past since → FlashIsAskedFor old flash new → OnlyAttaches flash old new → UsesFlash (Some (UpdatingFlash flash stream)) (sources inputs old) new past since
-uses_opened flash stream inputs old new past since s a only =
-    let known = with_inputs inputs.contents old.bytes in
-    record {
-      keeps = record { faults = s.faults; absences = s.absences; write_faults = omega (arith, s.unwritten.write_faults); no_other = a.no_other };
-      moments = only_read old new past since (MayBeFound known (Some stream)) (λ all e. inl refl) s.bytes s.unwritten;
-      left = λ f found long fits h. inl (attached_leaves flash old new f found only h);
-    }
+pub uses_opened : (flash stream : List ℕ) (inputs : InputsState) (old new : FlashState) → KeepsBytes old new → IsAskedFor flash old new → OnlyAttaches flash old new → UsesFlash (Some (UpdatingFlash flash stream)) (sources inputs old) new
+uses_opened flash stream inputs old new s a only = record {
+  keeps = record { faults = s.faults; absences = s.absences; write_faults = omega (arith, s.write_faults); asked = inr a };
+  follows = attached_follows flash old new s only;
+  left = λ f found long fits h. inl (attached_leaves flash old new f found only h);
+}
 
 -- a flash that was attached and updated
-pub uses_updated : (flash stream bytes : List ℕ) (inputs : InputsState) (old mid new : FlashState) (past mids since : ℕ → List ℕ → Type 0) → KeepsBytes old mid past mids → FlashIsAskedFor old flash mid → HasData (with_inputs inputs.contents old.bytes) stream bytes
-    → OnlyUses mid new → AtAnyMoment mid new mids since (MayBeLeft bytes) → LeavesAnyFlash (Some (UpdatingFlash flash stream)) (sources inputs old) new → UsesFlash (Some (UpdatingFlash flash stream)) (sources inputs old) new past since
-uses_updated flash stream bytes inputs old mid new past mids since s a has o m left =
-    let P = MayBeFound (with_inputs inputs.contents old.bytes) (Some stream) in
-    record {
-      keeps = record {
-        faults = omega (arith, s.faults, o.faults);
-        absences = omega (arith, s.absences, o.absences);
-        write_faults = omega (arith, s.unwritten.write_faults, o.write_faults);
-        no_other = λ other h. a.no_other other (subst (λ (asked : List ℕ → Bool). IsTrue (asked other)) o.names h);
-      };
-      moments = read_moments old mid new past mids since P (λ all e. inl refl) s.bytes s.unwritten (moments_weaker mid new mids since (MayBeLeft bytes) P (λ all found e h. inr (bytes, has, h)) m);
-      left = left;
-    }
+pub uses_updated : (flash stream : List ℕ) (inputs : InputsState) (old mid new : FlashState) → KeepsBytes old mid → IsAskedFor flash old mid → OnlyAttaches flash old mid → OnlyUses mid new → FollowsCalls mid new → LeavesAnyFlash (Some (UpdatingFlash flash stream)) (sources inputs old) new
+    → UsesFlash (Some (UpdatingFlash flash stream)) (sources inputs old) new
+uses_updated flash stream inputs old mid new s a only o follows left = record {
+  keeps = record {
+    faults = omega (arith, s.faults, o.faults);
+    absences = omega (arith, s.absences, o.absences);
+    write_faults = omega (arith, s.write_faults, o.write_faults);
+    asked = inr (o.names ∙ a);
+  };
+  follows = follow_on old mid new (attached_follows flash old mid s only) follows;
+  left = left;
+}

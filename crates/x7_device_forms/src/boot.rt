@@ -1,6 +1,6 @@
 //! The command `boot`: which image a device starts from a flash, and why not another.
 ghost use Rattle.std.specs.Prelude.{◌≡◌, ◌≤◌, ℕ, List, [], Some, Ok, IfErr, IfOk, true};
-ghost use Rattle.x7_words.specs.FlashCalls.{CallWritesNothing};
+ghost use Rattle.x7_words.specs.FlashHistory.{FollowsCalls};
 ghost use Rattle.x7_part.specs.Part.{PartData};
 ghost use Rattle.x7_boot.specs.Boot.{IsBoot};
 ghost use Rattle.x7_engine.specs.Standing.{NoWordDue};
@@ -106,7 +106,7 @@ fn boot_from<'w, F: Flash>(
     ensures caused { FlashComes flash_name.now part.now (F.state flash.old) (F.state flash.new) (result_by play_answer result) }
     ensures failed { IfErr result (λ r. event_of r ≡ reading_failed flash_name.now → (F.state flash.new).attached ≡ true → (F.state flash.new).extent ≤ flash_limit) }
     ensures reads { ReadsFlash flash_name.now (F.state flash.old) (F.state flash.new) }
-    ensures unwritten { CallWritesNothing F.Flash flash.old flash.new }
+    ensures follows { FollowsCalls (F.state flash.old) (F.state flash.new) }
     ensures as_read { IfOk result (λ text. IfAgrees (answers_since (F.state flash.old) (F.state flash.new))
         (λ all. FlashBoots flash_name.now part.now (Some (Held all)) (Ok (play_answer text)))) }
     ensures left { LeavesAsItWas (F.state flash.old) (F.state flash.new) }
@@ -129,7 +129,7 @@ pub fn boot<'w, I: Inputs, F: Flash>(
     ensures ready { MakesReadyFrom (Booting part_name.now flash_name.now) (sources (I.state inputs.old) (F.state flash.old))
         (sources (I.state inputs.new) (F.state flash.new)) (result_by play_answer result) }
     ensures reads { ReadsFlash flash_name.now (F.state flash.old) (F.state flash.new) }
-    ensures unwritten { CallWritesNothing F.Flash flash.old flash.new }
+    ensures follows { FollowsCalls (F.state flash.old) (F.state flash.new) }
     ensures left { LeavesAsItWas (F.state flash.old) (F.state flash.new) }
 {
     let part = read_part(alloc, inputs, part_name)?;

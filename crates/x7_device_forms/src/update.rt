@@ -3,7 +3,7 @@ ghost use Rattle.std.specs.Prelude.{◌≡◌, Some, false};
 ghost use Rattle.x7_forms.specs.Form.{UpdatingFlash};
 ghost use Rattle.x7_forms.specs.Event.{event_of};
 ghost use Rattle.x7_forms.specs.Step.{result_by};
-ghost use Rattle.x7_outcome.specs.Leaving.{CallUsesFlash};
+ghost use Rattle.x7_outcome.specs.Leaving.{UsesFlash};
 ghost use Rattle.x7_outcome.specs.Outcome.{update_event};
 ghost use Rattle.x7_outcome.specs.Outside.{sources};
 ghost use Rattle.x7_outcome.specs.Ending.{AnsweredSilently};
@@ -54,7 +54,7 @@ pub fn update<'w, I: Inputs, F: Flash>(
 ) -> Result<(), Refusal<'w>>
     ensures answered { AnsweredSilently (UpdatingFlash flash_name.now stream_name.now) (sources (I.state inputs.old) (F.state flash.old))
         (sources (I.state inputs.new) (F.state flash.new)) (result_by (λ _. false) result) }
-    ensures flash { CallUsesFlash F.Flash (Some (UpdatingFlash flash_name.now stream_name.now)) (I.state inputs.new) flash.old flash.new }
+    ensures flash { UsesFlash (Some (UpdatingFlash flash_name.now stream_name.now)) (sources (I.state inputs.new) (F.state flash.old)) (F.state flash.new) }
 {
     open_flash(flash, flash_name)?;
     let read = read_stream(alloc, inputs, stream_name)?;

@@ -1,10 +1,10 @@
 -- Lemmas on a file as a flash: what it counts is what a caller of any flash may know.
-use Rattle.std.proofs.Common.{◌≡◌, ◌≤◌, ℕ, ◌+◌, List, [], ◌∷◌, ◌++◌, length, subst, true, false, Option, None, Some, Result, Ok, Err, OnOk, OnErr, IfErr, is_some, refl, sym, ap, ◌∙◌, inl, arith}
+use Rattle.std.proofs.Common.{◌≡◌, ◌≤◌, ℕ, ◌+◌, List, [], ◌∷◌, ◌++◌, length, subst, true, false, Option, None, Some, Result, Ok, Err, OnOk, OnErr, IfErr, is_some, refl, sym, ap, ◌∙◌, arith}
 use Rattle.std.proofs.lemmas.List.{append-nil, length-append}
 use Rattle.std.proofs.lemmas.List.Folds.{concat-append}
 use Rattle.std.specs.List.{concat}
 use Rattle.x7_words.specs.Count.{HasRisen, raised}
-use Rattle.x7_words.specs.Flash.{TimeElapses, OnlyReads, OnlyWrites, FlashRefuses, WritesNothing}
+use Rattle.x7_words.specs.Flash.{OnlyReads, OnlyWrites, FlashRefuses, names_asked}
 use Rattle.x7_words.proofs.CountLemmas.{raised_risen}
 use Rattle.x7_words.specs.FlashHistory.{CallsFor, NoFlashFault, attach_call}
 use Rattle.x7_words.specs.declared.flash_call.FlashCall.{FlashCall}
@@ -76,10 +76,6 @@ pub unknown_read_at : (answer : Result (Unit {0}) FailedCall) → OnOk answer (U
 unknown_read_at (Ok _) = tt
 unknown_read_at (Err _) = tt
 
--- a call that writes nothing leaves all that may be found
-pub unknown_unwritten : {F : Type 0} → (old new : RealFlash F) → new.write_faults ≡ old.write_faults → WritesNothing (known_flash old) (known_flash new) (λ moment found. Unit {0}) (λ moment found. Unit {0})
-unknown_unwritten old new e = record { write_faults = e; moments = refl; nothing_else = λ moment found since. tt; keeps = λ moment found since. tt }
-
 -- a read leaves all but the file, the count of faults and the calls
 read_keeps : {F A : Type 0} → (part : RealFlash F → A) → ((f : RealFlash F) (file : Option F) (n : ℕ) (calls : List FlashCall) → part (record f { file = file; faults = n; calls = calls }) ≡ part f)
     → (old new : RealFlash F) (file : Option F) (calls : List FlashCall) (answer : Result (Unit {0}) FailedCall)
@@ -97,16 +93,15 @@ read_called old new place size buffer (Err _) was is l o e =
 
 pub only_reads : {F : Type 0} → (old new : RealFlash F) (calls : List FlashCall) (answer : Result (Unit {0}) FailedCall) → is_some old.file ≡ true → is_some new.file ≡ true
     → OnOk answer (new ≡ record old { file = new.file; calls = calls }) → OnErr answer (new ≡ record old { file = new.file; faults = raised old.faults; calls = calls }) → old.faults ≤ new.faults
-    → OnlyReads (known_flash old) (known_flash new) (λ moment found. Unit {0}) (λ moment found. Unit {0})
-only_reads old new calls answer was is o e rises = record {
+    → names_asked new.calls ≡ names_asked old.calls → OnlyReads (known_flash old) (known_flash new)
+only_reads old new calls answer was is o e rises names = record {
   bytes = refl;
   extent = read_keeps (λ f. f.extent) (λ f file n calls. refl) old new new.file calls answer o e;
   attached = is ∙ sym was;
-  names = refl;
-  seen = λ place byte h. refl;
+  names = names;
   faults = rises;
   absences = read_keeps (λ f. f.absences) (λ f file n calls. refl) old new new.file calls answer o e;
-  unwritten = unknown_unwritten old new (read_keeps (λ f. f.write_faults) (λ f file n calls. refl) old new new.file calls answer o e);
+  write_faults = read_keeps (λ f. f.write_faults) (λ f file n calls. refl) old new new.file calls answer o e;
 }
 
 -- ---- a write
@@ -160,11 +155,11 @@ write_called old new call (Err _) was is o e = (tt, called_by old new (call (Err
 
 pub only_writes : {F : Type 0} → (old new : RealFlash F) (calls : List FlashCall) (answer : Result (Unit {0}) FailedCall) → is_some old.file ≡ true → is_some new.file ≡ true
     → OnOk answer (new ≡ record old { file = new.file; calls = calls }) → OnErr answer (new ≡ record old { file = new.file; write_faults = raised old.write_faults; calls = calls }) → old.write_faults ≤ new.write_faults
-    → OnlyWrites (known_flash old) (known_flash new)
-only_writes old new calls answer was is o e rises = record {
+    → names_asked new.calls ≡ names_asked old.calls → OnlyWrites (known_flash old) (known_flash new)
+only_writes old new calls answer was is o e rises names = record {
   extent = write_keeps (λ f. f.extent) (λ f file n calls. refl) old new new.file calls answer o e;
   attached = is ∙ sym was;
-  names = refl;
+  names = names;
   faults = write_keeps (λ f. f.faults) (λ f file n calls. refl) old new new.file calls answer o e;
   absences = write_keeps (λ f. f.absences) (λ f file n calls. refl) old new new.file calls answer o e;
   write_faults = rises;
@@ -175,10 +170,6 @@ pub unknown_written : (answer : Result (Unit {0}) FailedCall) (known : Option (L
 unknown_written (Ok _) known = refl
 unknown_written (Err _) known = tt
 
-pub unknown_torn : (answer : Result (Unit {0}) FailedCall) → OnErr answer (Unit {0})
-unknown_torn (Ok _) = tt
-unknown_torn (Err _) = tt
-
--- anything may be found of what isn't known, at any time
-pub unknown_passes : TimeElapses 0 0 (λ moment found. Unit {0}) (λ moment found. Unit {0}) (λ found. Unit {0})
-unknown_passes = record { later = omega arith; nothing_else = λ moment found le since. inl tt; keeps = λ moment found le since. tt }
+pub unknown_torn : (answer : Result (Unit {0}) FailedCall) (known : Option (List ℕ)) → OnErr answer (known ≡ known)
+unknown_torn (Ok _) known = tt
+unknown_torn (Err _) known = refl

@@ -107,12 +107,9 @@ known_flash f = record {
   bytes = None;
   extent = f.extent;
   attached = is_some f.file;
-  names = λ _. true;
-  seen = λ _ _. true;
   faults = f.faults;
   absences = f.absences;
   write_faults = f.write_faults;
-  moments = 0;
   calls = f.calls;
 }
 

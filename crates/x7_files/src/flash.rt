@@ -198,13 +198,7 @@ impl<'r, R: Files> FileFlash<'r, R> {
 impl<'r, R: Files> Flash for FileFlash<'r, R> {
     ghost state = { known_flash };
 
-    ghost found_since = { λ _ _ _. Unit {0} };
-
     ghost counted = { λ _. tt };
-
-    ghost found_now = { λ _ _ _ _ _. tt };
-
-    ghost only_now = { λ _ _ _. tt };
 
     fn attach(&mut self, name: &str) -> Result<(), SelectFault>
         ensures after { self.new ≡ after_attach self.old name.now result self.new }

@@ -1,6 +1,4 @@
 mod MemoryFlashLemmas
-mod FoundSinceLemmas
 mod NamedBytesLemmas
-mod RecordLemmas
 mod TornLemmas
 mod HistoryLemmas

@@ -1,5 +1,5 @@
 -- What objects in memory hold, and what their calls answer (this project's choice).
-use Rattle.std.specs.Prelude.{◌==◌, ◌||◌, not, nat_le, ℕ, ◌+◌, ◌-◌, ◌^◌, List, [], ◌∷◌, ◌++◌, Bool, true, false, ◌&&◌, nat_lt, Option, None, Some, Result, Ok, Err, if◌then◌else◌, is_none, is_some, length, take, drop, get_or, min, max, option_map, option_and_then, unwrap_or, slice_range, bit_and, bit_or, bit_xor}
+use Rattle.std.specs.Prelude.{◌==◌, ◌||◌, not, nat_le, ℕ, ◌+◌, ◌-◌, List, [], ◌∷◌, ◌++◌, Bool, false, ◌&&◌, nat_lt, Option, None, Some, Result, Ok, Err, if◌then◌else◌, is_none, is_some, length, take, drop, min, option_map, option_and_then, unwrap_or, slice_range, bit_and, bit_or, bit_xor}
 use Rattle.std.specs.List.{list_any}
 use Rattle.std.specs.Str.{bytes_eq}
 use Rattle.x7_words.specs.Count.{ends_counted, raised}
@@ -146,53 +146,18 @@ after_write s piece =
       bytes = if sink_write_fails s piece then s.bytes else s.bytes ++ take (write_count s piece) piece;
     }
 
--- one write of a flash in memory
-pub record PastWrite : Type 0 where
-  -- where the write's range begins
-  pub place : ℕ
-  -- the bytes of the range before the write
-  pub before : List ℕ
-  -- the bytes that the write was to bring there
-  pub target : List ℕ
-
--- the writes that a flash in memory has recorded, and the room that it has for further ones
-pub record WriteRecord : Type 0 where
-  -- the recorded writes, the first one first
-  pub past : List PastWrite
-  -- how many writes more can be recorded
-  pub writes_left : ℕ
-  -- how many bytes the ranges of further writes may have in all
-  pub bytes_left : ℕ
-
--- no write, and no room for one
-abbrev pub no_writes : WriteRecord
-no_writes = record { past = []; writes_left = 0; bytes_left = 0 }
-
--- the record with room for `writes` writes more than before, whose ranges have `bytes` bytes in all
-abbrev pub with_room : WriteRecord → ℕ → ℕ → WriteRecord
-with_room w writes bytes = record w { writes_left = w.writes_left + writes; bytes_left = w.bytes_left + bytes }
-
--- a write of `count` bytes can be recorded
-abbrev pub has_room : WriteRecord → ℕ → Bool
-has_room w count = nat_lt 0 w.writes_left && nat_le count w.bytes_left
-
--- the record with one write more
-abbrev pub recorded : WriteRecord → ℕ → List ℕ → List ℕ → WriteRecord
-recorded w place before target =
-    record w {
-      past = w.past ++ record { place = place; before = before; target = target } ∷ [];
-      writes_left = w.writes_left - 1;
-      bytes_left = w.bytes_left - length target;
-    }
-
 -- a byte torn by a pattern: the old one's bits where the pattern has 1, the target's where it has 0
 abbrev pub torn_byte : ℕ → ℕ → ℕ → ℕ
 torn_byte pattern old target = bit_or (bit_and old pattern) (bit_xor target (bit_and target pattern))
 
--- what a write leaves in its range: the target, or each byte of it torn by a pattern
+-- what a write leaves of a byte: the target, or it torn by a pattern
+abbrev pub left_byte : Option ℕ → ℕ → ℕ → ℕ
+left_byte None old target = target
+left_byte (Some pattern) old target = torn_byte pattern old target
+
+-- what a write leaves in its range, torn by a pattern or not
 abbrev pub left_by : Option ℕ → List ℕ → List ℕ → List ℕ
-left_by None before target = target
-left_by (Some pattern) before target = zip_with (torn_byte pattern) before target
+left_by torn before target = zip_with (left_byte torn) before target
 
 -- a call that is to be torn, if it is a write
 pub record Tear : Type 0 where
@@ -207,12 +172,6 @@ pub record FlashInMemory : Type 0 where
   pub name : List ℕ
   pub bytes : List ℕ
   pub attached : Bool
-  -- whether the flash was asked for under its name
-  pub asked : Bool
-  -- the least place where a read without a fault began since the last write; 2^64 - 1 where none did
-  pub seen_from : ℕ
-  -- the greatest place where a read without a fault ended since the last write, after its last byte; 0 where none did
-  pub seen_to : ℕ
   -- how many absences there were; the count stops at 2^64 - 1
   pub absences : ℕ
   pub calls : CallPlan
@@ -220,53 +179,36 @@ pub record FlashInMemory : Type 0 where
   pub read_faults : ℕ
   -- how many faults of writes there were; the count stops at 2^64 - 1
   pub write_faults : ℕ
-  pub writes : WriteRecord
   pub tear : Option Tear
   -- whether a write was torn: all calls fail from then on
   pub stopped : Bool
   -- the calls with their answers, the newest last
   pub history : List FlashCall
 
--- a flash of these bytes under the name, not attached, with no room for a write
+-- a flash of these bytes under the name, not attached
 abbrev pub new_flash : List ℕ → List ℕ → FlashInMemory
 new_flash name bytes = record {
   name = name;
   bytes = bytes;
   attached = false;
-  asked = false;
-  seen_from = 2 ^ 64 - 1;
-  seen_to = 0;
   absences = 0;
   calls = no_calls;
   read_faults = 0;
   write_faults = 0;
-  writes = no_writes;
   tear = None;
   stopped = false;
   history = [];
 }
 
--- the names that the flash may have been asked for: its own only where it was, and any other, since these aren't kept
-abbrev pub names_asked : FlashInMemory → List ℕ → Bool
-names_asked f name = if bytes_eq f.name name then f.asked else true
-
--- whether a byte may have been read at a place since the last write: it stands there, and the place is neither before
--- all reads nor after them
-abbrev pub seen_in : FlashInMemory → ℕ → ℕ → Bool
-seen_in f place byte = nat_le f.seen_from place && (nat_lt place f.seen_to && (byte == get_or f.bytes place 0))
-
--- what is known of the flash: all but the other names that it was asked for, and the gaps between its reads
+-- what is known of the flash: all
 abbrev pub known_flash : FlashInMemory → FlashState
 known_flash f = record {
   bytes = Some f.bytes;
   extent = length f.bytes;
   attached = f.attached;
-  names = names_asked f;
-  seen = seen_in f;
   faults = f.read_faults;
   absences = f.absences;
   write_faults = f.write_faults;
-  moments = length f.writes.past;
   calls = f.history;
 }
 
@@ -297,61 +239,39 @@ after_memory_attach f name =
       calls = numbered f.calls;
       read_faults = raised_if (flash_call_fails f) f.read_faults;
       attached = not (flash_call_fails f) && bytes_eq f.name name;
-      asked = f.asked || bytes_eq f.name name;
       absences = absences_after_attach f name;
     }
 
--- the flash after a read of `count` bytes from a place on
-abbrev pub after_read_at : FlashInMemory → ℕ → ℕ → FlashInMemory
-after_read_at f place count =
-    record f {
-      calls = numbered f.calls;
-      read_faults = raised_if (flash_call_fails f) f.read_faults;
-      seen_from = if flash_call_fails f then f.seen_from else min f.seen_from place;
-      seen_to = if flash_call_fails f then f.seen_to else max f.seen_to (place + count);
-    }
-
--- a write of `count` bytes is refused and changes no byte: as planned, since a write was torn, or since the record has
--- no room
-abbrev pub write_refused : FlashInMemory → ℕ → Bool
-write_refused f count = flash_call_fails f || not (has_room f.writes count)
-
--- the pattern by which the next call, if it is a write, is torn; none where it isn't the call that is to be torn
-abbrev pub next_tear : FlashInMemory → Option ℕ
-next_tear f = option_and_then (λ tear. if tear.call == raised f.calls.last then Some tear.pattern else None) f.tear
+-- the flash after a read
+abbrev pub after_read_at : FlashInMemory → FlashInMemory
+after_read_at f = record f { calls = numbered f.calls; read_faults = raised_if (flash_call_fails f) f.read_faults }
 
 -- the pattern by which the latest call, a write, is torn; none where it isn't the call that is to be torn
 abbrev pub latest_tear : FlashInMemory → Option ℕ
 latest_tear f = option_and_then (λ tear. if tear.call == f.calls.last then Some tear.pattern else None) f.tear
 
--- the flash after a write that was torn: all later calls fail
-abbrev pub after_tear : FlashInMemory → FlashInMemory
-after_tear f = record f { stopped = true; write_faults = raised f.write_faults }
+-- the pattern by which the next call, a write, is torn; none where that call fails, or isn't the one that is to be torn
+abbrev pub next_tear : FlashInMemory → Option ℕ
+next_tear f = if flash_call_fails f then None else latest_tear (record f { calls = numbered f.calls })
 
--- a write of `count` bytes fails
-abbrev pub flash_write_fails : FlashInMemory → ℕ → Bool
-flash_write_fails f count = write_refused f count || is_some (next_tear f)
+-- the next call, a write, fails: it is refused, as planned or since a write was torn, or it is torn itself
+abbrev pub flash_write_fails : FlashInMemory → Bool
+flash_write_fails f = flash_call_fails f || is_some (next_tear f)
 
--- the flash as a write begins: the call has its number, and no byte is seen any more
+-- the flash after a write but for its bytes; once it is torn all later calls fail
 abbrev pub begun : FlashInMemory → FlashInMemory
-begun f = record f { calls = numbered f.calls; seen_from = 2 ^ 64 - 1; seen_to = 0 }
-
--- the flash after a write that is refused
-abbrev pub after_refusal : FlashInMemory → FlashInMemory
-after_refusal f = record (begun f) { write_faults = raised f.write_faults }
-
--- the flash after a write of the target that was not refused, torn by a pattern or not
-abbrev pub after_begun_write : FlashInMemory → ℕ → List ℕ → Option ℕ → FlashInMemory
-after_begun_write f place target tear =
-    record (begun f) {
-      stopped = is_some tear || f.stopped;
-      write_faults = raised_if (is_some tear) f.write_faults;
-      bytes = replaced place (left_by tear (slice_range f.bytes place (place + length target)) target) f.bytes;
-      writes = recorded f.writes place (slice_range f.bytes place (place + length target)) target;
+begun f =
+    record f {
+      calls = numbered f.calls;
+      write_faults = raised_if (flash_write_fails f) f.write_faults;
+      stopped = f.stopped || is_some (next_tear f);
     }
 
--- the flash after a write of the target at the place
+-- the bytes with what a write of the target at the place leaves of them, torn by a pattern or not
+abbrev pub written : Option ℕ → ℕ → List ℕ → List ℕ → List ℕ
+written torn place target bytes = replaced place (left_by torn (slice_range bytes place (place + length target)) target) bytes
+
+-- the flash after a write of the target at the place; one that is refused changes no byte
 abbrev pub after_flash_write : FlashInMemory → ℕ → List ℕ → FlashInMemory
 after_flash_write f place target =
-    if write_refused f (length target) then after_refusal f
-    else after_begun_write f place target (next_tear f)
+    record (begun f) { bytes = if flash_call_fails f then f.bytes else written (next_tear f) place target f.bytes }

@@ -1,15 +1,14 @@
 //! A flash in memory.
-ghost use Rattle.std.specs.Prelude.{◌≡◌, ◌+◌, ◌<◌, ◌≤◌, ◌^◌, length, slice_range, IsTrue, Option, Some, None, true, false, is_some, OnOk, OnErr, IfOk, is_err, bit_and, vec_capacity};
+ghost use Rattle.std.specs.Prelude.{◌≡◌, ◌+◌, ◌≤◌, length, slice_range, Some, true, OnOk, OnErr, IfOk, is_err, is_some, bit_and};
 ghost use Rattle.x7_words.specs.Count.{IsLaterCount};
 ghost use Rattle.x7_words.specs.Word.{AreBytes};
-ghost use Rattle.x7_words.specs.Flash.{zip_with, cleared, erased_sector, replaced, sector_size, sector_place};
+ghost use Rattle.x7_words.specs.Flash.{zip_with, cleared, erased_sector, sector_size, sector_place};
 ghost use Rattle.x7_words.specs.FlashHistory.{attach_call};
 ghost use Rattle.x7_ghost.specs.Answered.{erase_call, program_call, read_call};
 ghost use Rattle.x7_in_memory.specs.History.{IsCallOf};
-ghost use Rattle.x7_in_memory.specs.Memory.{new_flash, with_call, with_failing_call, flash_call_fails, numbered, with_room, has_room, recorded, left_by, torn_byte, attach_answer, after_memory_attach, after_read_at, write_refused, flash_write_fails, begun, after_refusal, after_flash_write, latest_tear, after_tear};
+ghost use Rattle.x7_in_memory.specs.Memory.{new_flash, with_call, with_failing_call, flash_call_fails, numbered, left_byte, left_by, attach_answer, after_memory_attach, after_read_at, flash_write_fails, latest_tear, next_tear, begun, after_flash_write};
 
 use crate::calls::Calls;
-use crate::record::Record;
 use std::alloc::Global;
 use std::marker::Model;
 use x7_ghost::FlashCalls;
@@ -24,18 +23,12 @@ struct Torn {
 
 /// A flash in memory under one name, known whole.
 ///
-/// Each attach, read, erase and program has the next number, from 1, and those that are to fail fail. So do writes for
-/// which no room was made, and all calls once a write was torn.
+/// Each attach, read, erase and program has the next number, from 1, and those that are to fail fail. So do all calls
+/// once a write was torn.
 pub struct MemoryFlash {
     name: String,
     bytes: Vec<u8>,
     attached: bool,
-    // whether the flash was asked for under its name
-    asked: bool,
-    // of reads without a fault since the last write, the least place where one began, and the greatest where one ended,
-    // after its last byte; usize::MAX and 0 before any
-    seen_from: usize,
-    seen_to: usize,
     // how many attaches asked for another name
     absences: u64,
     calls: Calls,
@@ -43,9 +36,6 @@ pub struct MemoryFlash {
     read_faults: u64,
     // how many erases and programs failed
     write_faults: u64,
-    writes: Record,
-    // what the present write is to bring, in memory that was taken before
-    target: Vec<u8>,
     tear: Option<Torn>,
     // whether a write was torn: all calls fail from then on
     stopped: bool,
@@ -59,15 +49,10 @@ impl Drop for MemoryFlash {
             name: _,
             bytes: _,
             attached: _,
-            asked: _,
-            seen_from: _,
-            seen_to: _,
             absences: _,
             calls: _,
             read_faults: _,
             write_faults: _,
-            writes: _,
-            target: _,
             tear: _,
             stopped: _,
             history: _,
@@ -76,7 +61,7 @@ impl Drop for MemoryFlash {
 }
 
 impl Model for MemoryFlash {
-    ghost use Rattle.std.specs.Prelude.{◌<◌, ◌≤◌, ◌^◌, string_bytes, vec_capacity};
+    ghost use Rattle.std.specs.Prelude.{◌<◌, ◌^◌, string_bytes};
     ghost use Rattle.x7_in_memory.specs.Memory.{FlashInMemory};
     ghost use Rattle.x7_in_memory.specs.Tearing.{tear_of};
 
@@ -86,73 +71,60 @@ impl Model for MemoryFlash {
       name = string_bytes f.name;
       bytes = f.bytes.items;
       attached = f.attached;
-      asked = f.asked;
-      seen_from = f.seen_from;
-      seen_to = f.seen_to;
       absences = f.absences;
       calls = f.calls;
       read_faults = f.read_faults;
       write_faults = f.write_faults;
-      writes = f.writes;
       tear = tear_of f.tear;
       stopped = f.stopped;
       history = f.history;
     } };
 
-    ghost invariant = { λ f. (f.absences < 2 ^ 64) × (f.read_faults < 2 ^ 64) × (f.write_faults < 2 ^ 64)
-        × (f.writes.bytes_left ≤ vec_capacity f.target) };
+    ghost invariant = { λ f. (f.absences < 2 ^ 64) × (f.read_faults < 2 ^ 64) × (f.write_faults < 2 ^ 64) };
 }
 
-/// Puts into the target what programming makes of the bytes: each bit is 1 where it was and the given one is.
-fn put_cleared(target: &mut Vec<u8>, bytes: &[u8], given: &[u8])
-    requires lengths { length bytes.now ≡ length given.now }
-    requires room { length given.now ≤ vec_capacity target.old }
-    ensures items { target.new.items ≡ zip_with bit_and bytes.now given.now }
-    ensures capacity { vec_capacity target.old ≤ vec_capacity target.new }
+/// What a write leaves of a byte, torn by a pattern or not.
+fn left_byte(torn: Option<u8>, old: u8, target: u8) -> u8
+    ensures { result ≡ left_byte torn old target }
 {
-    target.clear();
-    for i in 0..given.len() {
-        let Ok(()) = target.push(bytes[i] & given[i]) else {
-            unreachable!()
-        };
-    }
-}
-
-/// Puts the target in the place of the bytes, but leaves the bits of the pattern as they were.
-fn tear(bytes: &mut [u8], target: &[u8], pattern: u8)
-    requires { length bytes.old ≡ length target.now }
-    ensures { bytes.new ≡ zip_with (torn_byte pattern) bytes.old target.now }
-{
-    for i in 0..target.len() {
-        bytes[i] = bytes[i] & pattern | target[i] ^ target[i] & pattern;
-    }
-}
-
-/// Leaves in the range of the target what a write of it leaves, torn by a pattern or not, and records the write.
-fn write_target(
-    bytes: &mut [u8],
-    writes: &mut Record,
-    place: usize,
-    target: &[u8],
-    torn: Option<u8>,
-)
-    requires within { place + length target.now ≤ length bytes.old }
-    requires room { IsTrue (has_room writes.old (length target.now)) }
-    ensures bytes { bytes.new ≡ replaced place
-        (left_by torn (slice_range bytes.old place (place + length target.now)) target.now) bytes.old }
-    ensures writes { writes.new ≡ recorded writes.old place
-        (slice_range bytes.old place (place + length target.now)) target.now }
-{
-    let range = &mut bytes[place..place + target.len()];
-    writes.push(place, range, target);
     match torn {
-        None => range.copy_from_slice(target),
-        Some(pattern) => tear(range, target, pattern),
+        None => target,
+        Some(pattern) => old & pattern | target ^ target & pattern,
+    }
+}
+
+/// Erases the bytes of a sector in place, torn by a pattern or not.
+fn erase_in_place(bytes: &mut [u8], torn: Option<u8>)
+    requires { length bytes.old ≡ sector_size }
+    ensures { bytes.new ≡ left_by torn bytes.old erased_sector }
+{
+    for i in 0..bytes.len() {
+        bytes[i] = left_byte(torn, bytes[i], ERASED_BYTE);
+    }
+}
+
+/// Programs the given bytes in place, torn by a pattern or not: each bit stays 1 where the given one is 1.
+fn program_in_place(bytes: &mut [u8], given: &[u8], torn: Option<u8>)
+    requires { length bytes.old ≡ length given.now }
+    ensures { bytes.new ≡ left_by torn bytes.old (zip_with bit_and bytes.old given.now) }
+{
+    for i in 0..given.len() {
+        bytes[i] = left_byte(torn, bytes[i], bytes[i] & given[i]);
+    }
+}
+
+/// What a write answers that wasn't refused: an error where it was torn.
+fn answer_of(torn: Option<u8>) -> Result<(), Failed>
+    ensures { is_err result ≡ is_some torn }
+{
+    match torn {
+        None => Ok(()),
+        Some(_) => Err(Failed),
     }
 }
 
 impl MemoryFlash {
-    /// A flash of these bytes under the name, not attached, with no room for a write.
+    /// A flash of these bytes under the name, not attached.
     pub fn new(alloc: Global, name: &str, bytes: &[u8]) -> Result<MemoryFlash, NoMemory>
         ensures { IfOk result (λ f. f ≡ new_flash name.now bytes.now) }
     {
@@ -160,15 +132,10 @@ impl MemoryFlash {
             name: String::from_str(alloc, name)?,
             bytes: Vec::from_slice(alloc, bytes)?,
             attached: false,
-            asked: false,
-            seen_from: usize::MAX,
-            seen_to: 0,
             absences: 0,
             calls: Calls::new(alloc),
             read_faults: 0,
             write_faults: 0,
-            writes: Record::new(alloc),
-            target: Vec::new(alloc),
             tear: None,
             stopped: false,
             history: FlashCalls::new(),
@@ -181,18 +148,6 @@ impl MemoryFlash {
         ensures unchanged { OnErr result (self.new ≡ self.old) }
     {
         self.calls.fail_at(call)
-    }
-
-    /// Makes room for `writes` writes more than there is room for, whose ranges have `bytes` bytes in all. A new flash
-    /// has room for none.
-    pub fn make_room(&mut self, writes: u64, bytes: u64) -> Result<(), NoMemory>
-        ensures room { OnOk result (self.new ≡ record self.old { writes = with_room self.old.writes writes bytes }) }
-        ensures unchanged { OnErr result (self.new ≡ self.old) }
-    {
-        let all = self.writes.bytes_left().checked_add(bytes).ok_or(NoMemory)?;
-        self.target.clear();
-        self.target.reserve(all as usize)?;
-        self.writes.make_room(writes, bytes)
     }
 
     /// The call of this number, from 1, if it is an erase or a program that isn't refused, is to leave each byte of its
@@ -230,23 +185,6 @@ impl MemoryFlash {
         Ok(())
     }
 
-    /// Begins a write of `count` bytes: its call has the next number, and no byte is seen any more. It is refused where
-    /// that call is to fail, where a write was torn before, or where the record has no room for the write.
-    fn begin_write(&mut self, count: usize) -> Result<(), Failed>
-        ensures answer { is_err result ≡ write_refused self.old count }
-        ensures begun { OnOk result (self.new ≡ begun self.old) }
-        ensures refused { OnErr result (self.new ≡ after_refusal self.old) }
-        ensures never_falls { self.old.write_faults ≤ self.new.write_faults }
-    {
-        self.seen_from = usize::MAX;
-        self.seen_to = 0;
-        if self.next_call().is_ok() && self.writes.has_room(count) {
-            return Ok(());
-        }
-        self.write_faults = raised(self.write_faults);
-        Err(Failed)
-    }
-
     /// The pattern by which the latest call, a write, is torn; none where it isn't the call that is to be torn.
     fn torn(&self) -> Option<u8>
         ensures { result ≡ latest_tear self.now }
@@ -259,18 +197,25 @@ impl MemoryFlash {
         }
     }
 
-    /// Ends a write, which was torn or not. Torn it is a fault, and all later calls fail.
-    fn end_write(&mut self, torn: Option<u8>) -> Result<(), Failed>
-        ensures answer { is_err result ≡ is_some torn }
-        ensures unchanged { OnOk result (self.new ≡ self.old) }
-        ensures torn { OnErr result (self.new ≡ after_tear self.old) }
+    /// Begins a write: its call has the next number. It is refused where that call is to fail, or a write was torn
+    /// before; else the pattern comes back by which it is torn, if it is. Refused or torn it is a fault, and once it is
+    /// torn all later calls fail.
+    fn begin_write(&mut self) -> Result<Option<u8>, Failed>
+        ensures answer { is_err result ≡ flash_call_fails self.old }
+        ensures torn { IfOk result (λ torn. torn ≡ next_tear self.old) }
+        ensures begun { self.new ≡ begun self.old }
+        ensures write_faults { IsLaterCount self.old.write_faults self.new.write_faults }
     {
-        if torn.is_none() {
-            return Ok(());
-        }
+        let Ok(()) = self.next_call() else {
+            self.write_faults = raised(self.write_faults);
+            return Err(Failed);
+        };
+        let Some(pattern) = self.torn() else {
+            return Ok(None);
+        };
         self.stopped = true;
         self.write_faults = raised(self.write_faults);
-        Err(Failed)
+        Ok(Some(pattern))
     }
 
     /// `attach` but for keeping the call.
@@ -284,7 +229,6 @@ impl MemoryFlash {
         are_bytes(&self.bytes);
         self.attached = false;
         let is_own = self.name.as_str() == name;
-        self.asked = self.asked || is_own;
         let Ok(()) = self.next_call() else {
             self.read_faults = raised(self.read_faults);
             return Err(SelectFault::Failed);
@@ -306,7 +250,7 @@ impl MemoryFlash {
             slice_range self.old.bytes place (place + length buf.old)) }
         ensures same_buffer { OnErr result (buf.new ≡ buf.old) }
         ensures length { length buf.new ≡ length buf.old }
-        ensures after { self.new ≡ after_read_at self.old place (length buf.old) }
+        ensures after { self.new ≡ after_read_at self.old }
         ensures faults { IsLaterCount self.old.read_faults self.new.read_faults }
     {
         let Ok(()) = self.next_call() else {
@@ -314,10 +258,7 @@ impl MemoryFlash {
             return Err(Failed);
         };
         let place = place as usize;
-        let end = place + buf.len();
-        buf.copy_from_slice(&self.bytes[place..end]);
-        self.seen_from = self.seen_from.min(place);
-        self.seen_to = self.seen_to.max(end);
+        buf.copy_from_slice(&self.bytes[place..place + buf.len()]);
         Ok(())
     }
 
@@ -325,61 +266,39 @@ impl MemoryFlash {
     fn try_erase(&mut self, sector: u64) -> Result<(), Failed>
         requires attached { self.old.attached ≡ true }
         requires within { sector_place sector + sector_size ≤ length self.old.bytes }
-        ensures answer { is_err result ≡ flash_write_fails self.old sector_size }
+        ensures answer { is_err result ≡ flash_write_fails self.old }
         ensures after { self.new ≡ after_flash_write self.old (sector_place sector) erased_sector }
         ensures write_faults { IsLaterCount self.old.write_faults self.new.write_faults }
     {
-        self.begin_write(SECTOR_SIZE as usize)?;
-        self.target.clear();
-        let Ok(()) = self.target.resize(SECTOR_SIZE as usize, ERASED_BYTE) else {
-            unreachable!()
-        };
-        let torn = self.torn();
-        write_target(
-            &mut self.bytes,
-            &mut self.writes,
-            (sector * SECTOR_SIZE) as usize,
-            &self.target,
-            torn,
-        );
-        self.end_write(torn)
+        let torn = self.begin_write()?;
+        let bytes = self.bytes.as_mut_slice();
+        let place = (sector * SECTOR_SIZE) as usize;
+        erase_in_place(&mut bytes[place..place + SECTOR_SIZE as usize], torn);
+        answer_of(torn)
     }
 
     /// `program` but for keeping the call.
     fn try_program(&mut self, place: u64, given: &[u8]) -> Result<(), Failed>
         requires attached { self.old.attached ≡ true }
         requires within { place + length given.now ≤ length self.old.bytes }
-        ensures answer { is_err result ≡ flash_write_fails self.old (length given.now) }
+        ensures answer { is_err result ≡ flash_write_fails self.old }
         ensures after { self.new ≡ after_flash_write self.old place (cleared place given.now self.old.bytes) }
         ensures write_faults { IsLaterCount self.old.write_faults self.new.write_faults }
     {
-        self.begin_write(given.len())?;
+        let torn = self.begin_write()?;
         let place = place as usize;
-        put_cleared(
-            &mut self.target,
-            &self.bytes[place..place + given.len()],
-            given,
-        );
-        let torn = self.torn();
-        write_target(&mut self.bytes, &mut self.writes, place, &self.target, torn);
-        self.end_write(torn)
+        program_in_place(&mut self.bytes[place..place + given.len()], given, torn);
+        answer_of(torn)
     }
 }
 
 impl Flash for MemoryFlash {
     ghost use Rattle.std.proofs.Common.{refl};
     ghost use Rattle.x7_in_memory.specs.Memory.{known_flash};
-    ghost use Rattle.x7_in_memory.specs.FoundSince.{FoundSince, found_last, only_bytes};
 
     ghost state = { known_flash };
 
-    ghost found_since = { λ f moment found. FoundSince f.writes.past f.bytes moment found };
-
     ghost counted = { λ _. refl };
-
-    ghost found_now = { λ f moment all le is. found_last f.writes.past f.bytes moment all is };
-
-    ghost only_now = { λ f found since. only_bytes f.writes.past f.bytes found since };
 
     fn attach(&mut self, name: &str) -> Result<(), SelectFault>
         ensures answer { result ≡ attach_answer self.old name.now }
@@ -412,7 +331,7 @@ impl Flash for MemoryFlash {
         ensures same_buffer { OnErr result (buf.new ≡ buf.old) }
         ensures length { length buf.new ≡ length buf.old }
         ensures after { self.new ≡ with_call (read_call place buf.new result)
-            (after_read_at self.old place (length buf.old)) }
+            (after_read_at self.old) }
         ensures is_call { IsCallOf (read_call place buf.new result) self.old self.new }
         ensures faults { IsLaterCount self.old.read_faults self.new.read_faults }
     {
@@ -424,7 +343,7 @@ impl Flash for MemoryFlash {
     fn erase(&mut self, sector: u64) -> Result<(), Failed>
         requires attached { self.old.attached ≡ true }
         requires within { sector_place sector + sector_size ≤ length self.old.bytes }
-        ensures answer { is_err result ≡ flash_write_fails self.old sector_size }
+        ensures answer { is_err result ≡ flash_write_fails self.old }
         ensures after { self.new ≡ with_call (erase_call sector result)
             (after_flash_write self.old (sector_place sector) erased_sector) }
         ensures is_call { IsCallOf (erase_call sector result) self.old self.new }
@@ -438,7 +357,7 @@ impl Flash for MemoryFlash {
     fn program(&mut self, place: u64, given: &[u8]) -> Result<(), Failed>
         requires attached { self.old.attached ≡ true }
         requires within { place + length given.now ≤ length self.old.bytes }
-        ensures answer { is_err result ≡ flash_write_fails self.old (length given.now) }
+        ensures answer { is_err result ≡ flash_write_fails self.old }
         ensures after { self.new ≡ with_call (program_call place given.now result)
             (after_flash_write self.old place (cleared place given.now self.old.bytes)) }
         ensures is_call { IsCallOf (program_call place given.now result) self.old self.new }

@@ -6,7 +6,6 @@ mod flash;
 mod inputs;
 mod laws;
 mod named_bytes;
-mod record;
 mod sink;
 
 pub use flash::MemoryFlash;

@@ -1,9 +1,10 @@
 -- What more may fail where a form may have a flash, and why a flash was not attached.
-use Rattle.std.proofs.Common.{◌≡◌, ap, ◌∙◌, ℕ, List, [], ◌∷◌, ◌++◌, append_assoc, arith, drop, length, Option, None, Some, Result, Err, subst, sym, inl, inr, ◌⊎◌}
+use Rattle.std.proofs.Common.{◌≡◌, ap, ◌∙◌, ℕ, List, [], ◌∷◌, ◌++◌, append_assoc, arith, drop, length, Option, None, Some, Result, Err, refl, subst, sym, inl, inr, ◌⊎◌}
 use Rattle.std.proofs.Math.Seq.{drop-append_seam, drop-length}
 use Rattle.x7_words.specs.Count.{HasRisen}
-use Rattle.x7_words.specs.Flash.{FlashIsAskedFor, FlashFails, FlashState, KeepsBytes, FlashRefuses}
-use Rattle.x7_words.specs.FlashHistory.{FlashHistory, Makes, MayLeave, IsWithin, history_of}
+use Rattle.x7_words.specs.Flash.{BecomesBytes, FlashFails, FlashState, KeepsBytes, FlashRefuses, names_asked}
+use Rattle.x7_words.specs.FlashHistory.{FlashHistory, FollowsCalls, IsHistory, Makes, MayLeave, IsWithin, attach_call, history_of}
+use Rattle.x7_words.proofs.FlashLemmas.{asks_name}
 use Rattle.x7_words.specs.Input.{InputsState}
 use Rattle.x7_words.specs.Word.{AreBytes}
 use Rattle.x7_words.specs.declared.flash_call.FlashCall.{FlashCall}
@@ -19,7 +20,7 @@ use Rattle.x7_forms.specs.Known.{Answer, Failing, Lacking, Mishap, with_inputs}
 use Rattle.x7_outcome.specs.Called.{AttachedAs, OnlyAttaches}
 use Rattle.x7_outcome.specs.Leaving.{HasData, LeavesAnyFlash, LeavesAsItWas, calls_since}
 use Rattle.x7_outcome.specs.Outcome.{FormGives}
-use Rattle.x7_outcome.specs.Outside.{CameInRun, Outside, ReadsFlash, known_in, sources}
+use Rattle.x7_outcome.specs.Outside.{CameInRun, IsAskedFor, Outside, ReadsFlash, known_in, sources}
 use Rattle.x7_outcome.specs.Ending.{AnswersOver, IsMeasured, FailsLast}
 use Rattle.x7_forms.specs.Step.{CameIn, IsCausedBy, step_over}
 use Rattle.x7_forms.proofs.ReadLemmas.{caused_on_by}
@@ -58,9 +59,13 @@ was_missing old new fault e h = subst (λ (f : SelectFault). FlashRefuses old ne
 pub was_failed : (old new : FlashState) (fault : SelectFault) → fault ≡ Failed → FlashRefuses old new fault → FlashFails old new
 was_failed old new fault e h = subst (λ (f : SelectFault). FlashRefuses old new f) e h
 
+-- an attach asks for its name
+pub attach_asks : (name : List ℕ) (old new : FlashState) (answer : Result (Unit {0}) SelectFault) → new.calls ≡ old.calls ++ attach_call name new.extent answer ∷ [] → IsAskedFor name old new
+attach_asks name old new answer called = ap names_asked called ∙ asks_name old.calls name new.extent answer
+
 -- an attach that asks for this name
-pub reads_asked : (name : List ℕ) (old new : FlashState) (past since : ℕ → List ℕ → Type 0) → KeepsBytes old new past since → FlashIsAskedFor old name new → ReadsFlash name old new
-reads_asked name old new past since s a = record { bytes = s.bytes; write_faults = s.unwritten.write_faults; moments = s.unwritten.moments; faults = s.faults; absences = s.absences; no_other = a.no_other }
+pub reads_asked : (name : List ℕ) (old new : FlashState) → KeepsBytes old new → IsAskedFor name old new → ReadsFlash name old new
+reads_asked name old new s a = record { bytes = s.bytes; write_faults = s.write_faults; faults = s.faults; absences = s.absences; asked = inr a }
 
 -- ---- what was called
 
@@ -97,3 +102,18 @@ updated_leaves name stream bytes inputs old mid new a size has l = λ flash foun
     by : (flash found : List ℕ) → AreBytes flash → length flash ≡ mid.extent → MayLeave (Attached name mid.extent ∷ l.calls) flash found → (found ≡ flash) ⊎ ((some : List ℕ) × HasData (with_inputs inputs.contents (Some flash)) stream some × MayBeLeft some flash found)
     by flash found fits long (inl same) = inl same
     by flash found fits long (inr (now, made, rest)) = inr (bytes, has flash, l.leaves flash found fits long (subst (λ (x : List ℕ). MayLeave l.calls x found) made rest))
+
+-- ---- bytes that follow the calls
+
+-- a call that leaves the bytes
+follows_kept : (call : FlashCall) (old new : FlashState) → new.calls ≡ old.calls ++ call ∷ [] → new.bytes ≡ old.bytes → ((all : List ℕ) → Makes call all all) → FollowsCalls old new
+follows_kept call old new made same leaves = record { calls = call ∷ []; made = made; bytes = go old.bytes same }
+  where
+    go : (known : Option (List ℕ)) → new.bytes ≡ known → BecomesBytes (IsHistory (call ∷ [])) known new.bytes
+    go None same = same
+    go (Some all) same = (all, same, (all, leaves all, refl))
+
+-- the bytes of a flash that was attached at most follow its calls
+pub attached_follows : (name : List ℕ) (old new : FlashState) → KeepsBytes old new → OnlyAttaches name old new → FollowsCalls old new
+attached_follows name old new s (inl a) = follows_kept (Attached name new.extent) old new a.made s.bytes (λ all. refl)
+attached_follows name old new s (inr (fault, e)) = follows_kept (NotAttached name fault) old new e s.bytes (λ all. refl)

@@ -5,7 +5,6 @@ use Rattle.x7_words.specs.Flash.{FlashState, IfKnown}
 use Rattle.x7_words.specs.Input.{AsksAtMost, InputsState, InputsStay}
 use Rattle.x7_boot.specs.Image.{flash_limit}
 use Rattle.x7_boot.specs.Reads.{IfAgrees, answers_since}
-use Rattle.x7_update.specs.Writing.{IsFirstRead, IsReadWrong}
 use Rattle.x7_words.specs.Sink.{PutsAll, PutsPrefix, PutsSome, SinkFails, SinkState}
 use Rattle.x7_words.specs.Word.{AreBytes}
 use Rattle.x7_listing.specs.StreamListing.{stream_listing}
@@ -41,20 +40,10 @@ GivesIfKnown (Some known) form end = FormGives known form end
 abbrev pub ReportsMishap : AskedForm → Outside → Outside → Event → Type 0
 ReportsMishap form old new event = IsOfMishap Answer (known_in old new) (CameInRun (Some form) old new) (λ known end. FormGives known form end) event
 
--- At `place` of the flash another byte was read than an update with the data of the stream named `stream` writes there.
--- This byte is the first such one of these data and the FF after them, or of the switch word of the slot that is
--- opened. Where the contents aren't known, this holds for some data.
-pub record ReadsWrongAt (known : Option Known) (stream : List ℕ) (new : FlashState) (place : ℕ) : Type 0 where
-  pub bytes : List ℕ
-  pub has_data : HasData known stream bytes
-  pub wrote : ℕ
-  pub read : ℕ
-  pub wrong : IsReadWrong new.extent bytes place wrote read
-  pub first : IsFirstRead new wrong.from wrong.piece place read
-
--- the event says that a byte differs, of a flash that the form updates and whose bytes aren't known
+-- the event says that a byte differs, of a flash that the form updates and whose bytes aren't known; which byte it is the
+-- flash's calls show (`UpdateCalled`)
 abbrev pub IsDifference : AskedForm → Outside → Outside → Event → Type 0
-IsDifference (UpdatingFlash name stream) old new event = (place : ℕ) × (event ≡ differs name place) × (old.flash.bytes ≡ None) × ReadsWrongAt (known_in old new) stream new.flash place
+IsDifference (UpdatingFlash name stream) old new event = (place : ℕ) × (event ≡ differs name place) × (old.flash.bytes ≡ None)
 IsDifference _ old new event = ⊥
 
 -- A write of the flash of a form failed: the flash is within the limit, and where the contents are known, the form
@@ -289,8 +278,8 @@ pub record MakesReadyFrom (form : AskedForm) (old new : Sources) (got : Result A
   pub asks : AsksAtMost old.inputs (length (names_of (Some form))) new.inputs
   pub stays : InputsStay old.inputs new.inputs
 
--- the flash of a name isn't there, or it failed: it may have been asked for by that name, and its count of absences, or
--- of faults, rose
+-- the flash of a name isn't there, or it failed: it was asked for by that name, and its count of absences, or of faults,
+-- rose
 abbrev pub IsMissingOrFailed : List ℕ → FlashState → FlashState → Event → Type 0
 IsMissingOrFailed name old new event = ((event ≡ missing name) × FlashLacksAmong (name ∷ []) old new name) ⊎ ((event ≡ reading_failed name) × FlashFailsAmong (name ∷ []) old new name)
 

@@ -1,20 +1,18 @@
 -- What a run leaves of a flash, and what may be found of it after a power loss at any moment (this project's choice).
 use Rattle.std.specs.Prelude.{◌≡◌, ℕ, List, drop, length, Option, None, Some, Result, Ok, Err, ◌⊎◌}
 use Rattle.x7_words.specs.Flash.{FlashFails, FlashState}
-use Rattle.x7_words.specs.FlashCalls.{FlashModel}
-use Rattle.x7_words.specs.FlashHistory.{MayLeave}
-use Rattle.x7_words.specs.Input.{InputsState}
+use Rattle.x7_words.specs.FlashHistory.{FollowsCalls, MayLeave}
 use Rattle.x7_words.specs.Word.{AreBytes}
 use Rattle.x7_words.specs.declared.flash_call.FlashCall.{FlashCall}
 use Rattle.x7_update.specs.After.{IsAfterUpdate, MayBeLeft}
-use Rattle.x7_update.specs.Writing.{AtAnyMoment, Becomes}
+use Rattle.x7_update.specs.Writing.{Becomes}
 use Rattle.x7_forms.specs.declared.refusal.Why.{Why}
 use Rattle.x7_forms.specs.declared.refusal.Why.TheVariants as why
 use Rattle.x7_forms.specs.Event.{Event}
 use Rattle.x7_forms.specs.Form.{AskedForm, flash_use, updated_by}
 use Rattle.x7_forms.specs.Known.{Answer, Known}
 use Rattle.x7_outcome.specs.Outcome.{stream_data}
-use Rattle.x7_outcome.specs.Outside.{UsesFlashAs, Outside, Sources, known_from, known_in, sources}
+use Rattle.x7_outcome.specs.Outside.{UsesFlashAs, Outside, Sources, known_from, known_in}
 
 -- where the contents are known, `bytes` are the data of the stream under the name `stream`
 abbrev pub HasData : Option Known → List ℕ → List ℕ → Type 0
@@ -47,16 +45,12 @@ LeavesAnyFlash form old new =
     (flash found : List ℕ) → length flash ≡ new.extent → AreBytes flash → MayLeave (calls_since old.flash new) flash found
     → MayBeFound (known_from (record old { flash = holding flash old.flash })) (updated_by form) flash found
 
--- what a run does to the flash; and what the flash may hold, after a power loss at any moment of the run and at its end
-pub record UsesFlash (form : Option AskedForm) (old : Sources) (new : FlashState) (past since : ℕ → List ℕ → Type 0) : Type 0 where
+-- what a form does to the flash; that the flash's bytes, where they are known, are what its calls make of them; and what a
+-- power loss at any moment of the calls may leave there, whatever the flash held before
+pub record UsesFlash (form : Option AskedForm) (old : Sources) (new : FlashState) : Type 0 where
   pub keeps : UsesFlashAs (flash_use form) old.flash new
-  pub moments : AtAnyMoment old.flash new past since (MayBeFound (known_from old) (updated_by form))
+  pub follows : FollowsCalls old.flash new
   pub left : LeavesAnyFlash form old new
-
--- what a call for a form, over these inputs, does to the flash; and what the flash may hold, after a power loss at any
--- moment of the call and at its end
-abbrev pub CallUsesFlash : {F : Type 0} → FlashModel F → Option AskedForm → InputsState → F → F → Type 0
-CallUsesFlash f form inputs old new = UsesFlash form (sources inputs (f.state old)) (f.state new) (f.found_since old) (f.found_since new)
 
 -- by the reason of an update that wasn't done: the flash's bytes stay, unless a write or a read of the flash failed, or
 -- a byte differs

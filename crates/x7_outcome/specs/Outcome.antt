@@ -26,7 +26,6 @@ use Rattle.x7_boot.specs.declared.boots.BootEnd.TheVariants as boot_end
 use Rattle.x7_boot.specs.declared.fault.BootFault.{BootFault}
 use Rattle.x7_boot.specs.declared.fault.BootFault.TheVariants as fault
 use Rattle.x7_update.specs.Fault.{CanBeUpdatedWith, IsTooLong, NoLayoutAt}
-use Rattle.x7_update.specs.Writing.{IsReadWrong}
 use Rattle.x7_update.specs.declared.fault.UpdateFault.{UpdateFault}
 use Rattle.x7_update.specs.declared.fault.UpdateFault.TheVariants as update_fault
 use Rattle.x7_engine.specs.Kept.{on_the_bench}
@@ -311,7 +310,7 @@ update_event names update_fault.NoMemory = no_memory
 abbrev pub IsUpdateFault : Option (List ℕ) → List ℕ → UpdateFault → Type 0
 IsUpdateFault bytes stream (update_fault.NoLayout place) = IfKnown bytes (λ flash. NoLayoutAt (length flash) flash place)
 IsUpdateFault bytes stream update_fault.TooLong = IfKnown bytes (IsTooLong stream)
-IsUpdateFault bytes stream (update_fault.Differs place wrote read) = ((size : ℕ) × IsReadWrong size stream place wrote read) × (bytes ≡ None)
+IsUpdateFault bytes stream (update_fault.Differs place wrote read) = bytes ≡ None
 IsUpdateFault bytes stream (update_fault.Failed writing) = ⊥
 IsUpdateFault bytes stream update_fault.NoMemory = ⊥
 

@@ -1,7 +1,7 @@
 -- What a command works over, and what is known of it and has failed (this project's choice).
-use Rattle.std.specs.Prelude.{◌≡◌, ◌≤◌, ℕ, IsTrue, List, Option, None, Some, ◌⊎◌}
+use Rattle.std.specs.Prelude.{◌≡◌, ◌≤◌, ℕ, List, [], ◌∷◌, ◌++◌, Option, None, Some, ◌⊎◌}
 use Rattle.x7_words.specs.Count.{HasRisen}
-use Rattle.x7_words.specs.Flash.{FlashFails, FlashState, WriteFails}
+use Rattle.x7_words.specs.Flash.{FlashFails, FlashState, WriteFails, names_asked}
 use Rattle.x7_words.specs.Input.{InputsState}
 use Rattle.x7_words.specs.Sink.{SinkFails, SinkState}
 use Rattle.x7_forms.specs.Form.{AskedForm, FlashUse, Read, Unused, Updated, flash_names, names_of, updated_by}
@@ -53,17 +53,20 @@ outside inputs flash out err = record { inputs = inputs; flash = flash; out = ou
 abbrev pub known_in : Outside → Outside → Option Known
 known_in old new = with_inputs new.inputs.contents old.flash.bytes
 
--- the flash `name`, one of `names`, failed: it may have been asked for by that name, and its count of faults rose
+-- the flash was asked for once, by this name
+abbrev pub IsAskedFor : List ℕ → FlashState → FlashState → Type 0
+IsAskedFor name old new = names_asked new.calls ≡ names_asked old.calls ++ name ∷ []
+
+-- the flash `name`, one of `names`, failed: it was asked for by that name, and its count of faults rose
 pub record FlashFailsAmong (names : List (List ℕ)) (old new : FlashState) (name : List ℕ) : Type 0 where
   pub among : Among names name
-  pub asked : IsTrue (new.names name)
+  pub asked : IsAskedFor name old new
   pub risen : FlashFails old new
 
--- the flash `name`, one of `names`, was missing: it may have been asked for by that name, and its count of absences
--- rose
+-- the flash `name`, one of `names`, was missing: it was asked for by that name, and its count of absences rose
 pub record FlashLacksAmong (names : List (List ℕ)) (old new : FlashState) (name : List ℕ) : Type 0 where
   pub among : Among names name
-  pub asked : IsTrue (new.names name)
+  pub asked : IsAskedFor name old new
   pub risen : HasRisen old.absences new.absences
 
 -- the input `name` failed, which the form reads, or the flash `name`, which it reads or updates
@@ -93,22 +96,25 @@ NothingFailed form old new =
 
 -- ---- the flash
 
--- A flash was read at most: its bytes stay and nothing was written, no count falls, and it was asked for no name but
+-- the flash was asked for once at most, by this name
+abbrev pub IsAskedAtMost : List ℕ → FlashState → FlashState → Type 0
+IsAskedAtMost name old new = (names_asked new.calls ≡ names_asked old.calls) ⊎ IsAskedFor name old new
+
+-- A flash was read at most: its bytes stay and no write failed, no count falls, and it was asked for once at most, by
 -- `name`.
 pub record ReadsFlash (name : List ℕ) (old new : FlashState) : Type 0 where
   pub bytes : new.bytes ≡ old.bytes
   pub write_faults : new.write_faults ≡ old.write_faults
-  pub moments : new.moments ≡ old.moments
   pub faults : old.faults ≤ new.faults
   pub absences : old.absences ≤ new.absences
-  pub no_other : (other : List ℕ) → IsTrue (new.names other) → IsTrue (old.names other) ⊎ (other ≡ name)
+  pub asked : IsAskedAtMost name old new
 
--- A flash may have been read and written: no count falls, and it was asked for no name but `name`.
+-- A flash may have been read and written: no count falls, and it was asked for once at most, by `name`.
 pub record WritesFlash (name : List ℕ) (old new : FlashState) : Type 0 where
   pub faults : old.faults ≤ new.faults
   pub absences : old.absences ≤ new.absences
   pub write_faults : old.write_faults ≤ new.write_faults
-  pub no_other : (other : List ℕ) → IsTrue (new.names other) → IsTrue (old.names other) ⊎ (other ≡ name)
+  pub asked : IsAskedAtMost name old new
 
 -- by what a form does with a flash: it is untouched, read at most, or may be read and written
 abbrev pub UsesFlashAs : FlashUse → FlashState → FlashState → Type 0

@@ -1,12 +1,11 @@
 //! A flash that a command reads or updates, attached under its name.
 ghost use Rattle.std.specs.Prelude.{◌≡◌, ◌≤◌, IfErr, OnErr, OnOk, length, true, false};
-ghost use Rattle.x7_words.specs.Flash.{FlashIsAskedFor, ExtentIsLength, IfKnown};
-ghost use Rattle.x7_words.specs.FlashCalls.{CallKeepsBytes};
+ghost use Rattle.x7_words.specs.Flash.{ExtentIsLength, IfKnown, KeepsBytes};
 ghost use Rattle.x7_words.specs.FlashHistory.{history_of};
 ghost use Rattle.x7_outcome.specs.Called.{AttachedAs, OnlyAttaches};
 ghost use Rattle.x7_boot.specs.Image.{flash_limit};
 ghost use Rattle.x7_forms.specs.Event.{event_of};
-ghost use Rattle.x7_outcome.specs.Outside.{ReadsFlash};
+ghost use Rattle.x7_outcome.specs.Outside.{IsAskedFor, ReadsFlash};
 ghost use Rattle.x7_outcome.specs.Ending.{IsMissingOrFailed, IsUnattachedOrLarge};
 
 use x7_forms::{Refusal, Why};
@@ -18,8 +17,8 @@ pub fn attach<'w, F: Flash>(flash: &mut F, name: &'w str) -> Result<(), Refusal<
     ensures refused { IfErr result (λ r. IsMissingOrFailed name.now (F.state flash.old) (F.state flash.new) (event_of r)) }
     ensures unattached { IfErr result (λ r. (F.state flash.new).attached ≡ false) }
     ensures reads { ReadsFlash name.now (F.state flash.old) (F.state flash.new) }
-    ensures stays { CallKeepsBytes F.Flash flash.old flash.new }
-    ensures asks { FlashIsAskedFor (F.state flash.old) name.now (F.state flash.new) }
+    ensures stays { KeepsBytes (F.state flash.old) (F.state flash.new) }
+    ensures asks { IsAskedFor name.now (F.state flash.old) (F.state flash.new) }
     ensures called { OnOk result (AttachedAs name.now (F.state flash.old) (history_of (F.state flash.new))) }
     ensures called_alone { OnErr result (OnlyAttaches name.now (F.state flash.old) (F.state flash.new)) }
     ensures sized { ExtentIsLength (F.state flash.new) }
@@ -43,8 +42,8 @@ pub fn open_flash<'w, F: Flash>(flash: &mut F, name: &'w str) -> Result<(), Refu
     ensures within { OnOk result (IfKnown (F.state flash.new).bytes (λ all. length all ≤ flash_limit)) }
     ensures size { OnOk result ((F.state flash.new).extent ≤ flash_limit) }
     ensures refused { IfErr result (λ r. IsUnattachedOrLarge name.now (F.state flash.old) (F.state flash.new) (event_of r)) }
-    ensures stays { CallKeepsBytes F.Flash flash.old flash.new }
-    ensures asks { FlashIsAskedFor (F.state flash.old) name.now (F.state flash.new) }
+    ensures stays { KeepsBytes (F.state flash.old) (F.state flash.new) }
+    ensures asks { IsAskedFor name.now (F.state flash.old) (F.state flash.new) }
     ensures called { OnOk result (AttachedAs name.now (F.state flash.old) (history_of (F.state flash.new))) }
     ensures called_alone { OnErr result (OnlyAttaches name.now (F.state flash.old) (F.state flash.new)) }
 {

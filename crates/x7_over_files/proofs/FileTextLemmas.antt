@@ -79,7 +79,7 @@ record WroteWhole (map : NamedBytes) (flash : Option (List ℕ)) (form : AskedFo
 -- a run whose status is one of a whole text wrote it
 wrote_whole : (map : NamedBytes) (form : AskedForm) (asked : Option AskedForm) (old new : Outside) (s : Status) (stopped : Bool) → asked ≡ Some form → new.inputs.contents ≡ Some map → Runs asked old new s → s ≡ text_status stopped
     → WroteWhole map old.flash.bytes form old.out new.out s
-wrote_whole map form asked old new s stopped is known r e = by r.end r.ends_as (at r.wrote) (over r.cause) (kept r.promise)
+wrote_whole map form asked old new s stopped is known r e = by r.end r.ends_as (at r.output.wrote) (over r.cause) (kept r.promise)
   where
     at : OutputGets asked old new r.end → OutputGets (Some form) old new r.end
     at w = subst (λ (f : Option AskedForm). OutputGets f old new r.end) is w

@@ -1,10 +1,11 @@
 -- What a run over files wrote, by the bytes of the files (this project's choice).
-use Rattle.std.specs.Prelude.{◌≡◌, ℕ, Bool, List, Some, Ok, true, false}
+use Rattle.std.specs.Prelude.{◌≡◌, ℕ, Bool, List, [], ◌∷◌, Some, Ok, true, false}
 use Rattle.x7_words.specs.Sink.{PutsAll, SinkState}
 use Rattle.x7_part.specs.Part.{PartData}
 use Rattle.x7_part.specs.PartFile.{part_in}
 use Rattle.x7_listing.specs.Assembly.{IsAsm}
 use Rattle.x7_listing.specs.StreamListing.{stream_listing}
+use Rattle.x7_forms.specs.Form.{AskedForm, Playing}
 use Rattle.x7_forms.specs.Known.{data_in}
 use Rattle.x7_forms.specs.Status.{text_status}
 use Rattle.x7_forms.specs.declared.status.Status.{Status}
@@ -16,6 +17,22 @@ use Rattle.x7_files.specs.Inputs.{RealInputs}
 pub record Read (map : NamedBytes) (inputs : RealInputs) (name bytes : List ℕ) : Type 0 where
   pub agrees : inputs.agreement.agrees ≡ true
   pub has : map name ≡ Some bytes
+
+-- a part file and a stream file by their names, with the text of the one and the bytes of the other
+pub record PlayedFiles : Type 0 where
+  pub part : List ℕ
+  pub text : List ℕ
+  pub stream : List ℕ
+  pub bytes : List ℕ
+
+-- the form `play` with these two files
+abbrev pub play_of : PlayedFiles → AskedForm
+play_of files = Playing files.part (files.stream ∷ [])
+
+-- all that the files gave agrees with the map, which has both of these under their names
+pub record ReadBoth (map : NamedBytes) (inputs : RealInputs) (files : PlayedFiles) : Type 0 where
+  pub part : Read map inputs files.part files.text
+  pub stream : Read map inputs files.stream files.bytes
 
 -- `list` of a file with these bytes: where its status is that of a whole text, it wrote their listing
 abbrev pub Lists : List ℕ → SinkState → SinkState → Status → Type 0

@@ -1,9 +1,9 @@
 //! Runs of the command over files of the system: what they write is what the bytes of the files come to.
 #![tactic(auto)]
 
-ghost use Rattle.std.specs.Prelude.{◌≡◌, [], ◌∷◌, ℕ, List, Some};
-ghost use Rattle.x7_forms.specs.Form.{Assembling, Listing, Playing, form_of_strings};
-ghost use Rattle.x7_over_files.specs.FileTexts.{Assembles, Lists, Plays, Read};
+ghost use Rattle.std.specs.Prelude.{◌≡◌, ℕ, List, Some};
+ghost use Rattle.x7_forms.specs.Form.{Assembling, Listing, form_of_strings};
+ghost use Rattle.x7_over_files.specs.FileTexts.{Assembles, Lists, PlayedFiles, Plays, Read, ReadBoth, play_of};
 
 use std::alloc::Global;
 use std::rt::Files;
@@ -27,9 +27,8 @@ pub fn run_over_files<'r, R: Files, W: World, O: Sink, E: Sink>(
         → Read W.contents result.1 name bytes → Lists bytes (O.state out.old) (O.state out.new) result.0 }
     ensures assembles { (name text : List ℕ) → form_of_strings words.now.items ≡ Some (Assembling name)
         → Read W.contents result.1 name text → Assembles text (O.state out.old) (O.state out.new) result.0 }
-    ensures plays { (part stream text bytes : List ℕ) → form_of_strings words.now.items ≡ Some (Playing part (stream ∷ []))
-        → Read W.contents result.1 part text → Read W.contents result.1 stream bytes
-        → Plays text bytes (O.state out.old) (O.state out.new) result.0 }
+    ensures plays { (files : PlayedFiles) → form_of_strings words.now.items ≡ Some (play_of files)
+        → ReadBoth W.contents result.1 files → Plays files.text files.bytes (O.state out.old) (O.state out.new) result.0 }
 {
     let mut inputs = FileInputs::<R, W>::new(rt);
     let mut flash = FileFlash::new(rt);

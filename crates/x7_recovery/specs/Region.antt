@@ -1,6 +1,7 @@
 -- A region of a flash that is updated: the flash begins with it, and what comes after it is never touched (this
 -- project's choice).
 use Rattle.std.specs.Prelude.{◌≡◌, ◌≤◌, ℕ, List, [], ◌∷◌, ◌++◌, false, length}
+use Rattle.x7_part.specs.Part.{PartData}
 use Rattle.x7_boot.specs.Attempt.{AttemptCourse, attempt_end}
 use Rattle.x7_boot.specs.Boot.{BootedState, IsBoot}
 use Rattle.x7_boot.specs.BootCourse.{course_of}
@@ -11,6 +12,11 @@ use Rattle.x7_recovery.specs.Golden.{StartsAlike, UpdatingByAttempt}
 abbrev pub EndWithin : List ℕ → List AttemptCourse → Type 0
 EndWithin region [] = Unit {0}
 EndWithin region (t ∷ older) = (t.wrapped ≡ false) × (attempt_end t ≤ length region) × EndWithin region older
+
+-- a boot from a flash that is the region alone, of which each attempt ended within it
+pub record BootsWithin (part : PartData) (region : List ℕ) (b : BootedState) : Type 0 where
+  pub boot : IsBoot part region b
+  pub within : EndWithin region (boot.last ∷ boot.older)
 
 -- A boot from a flash of which an update of a region left `found`, with `more` after it. It is that of the region as it
 -- was, with the same bytes after it, or one that starts as the golden stream does, or that of the updated region with

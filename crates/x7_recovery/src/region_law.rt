@@ -1,10 +1,10 @@
 //! What a boot makes of a flash of which a region was updated. The functions do nothing: their contracts are the laws.
-ghost use Rattle.std.specs.Prelude.{List, ℕ, ◌∷◌, ◌++◌};
+ghost use Rattle.std.specs.Prelude.{List, ℕ, ◌++◌};
 ghost use Rattle.x7_words.specs.Word.{AreBytes};
 ghost use Rattle.x7_part.specs.Part.{PartData};
 ghost use Rattle.x7_boot.specs.Boot.{BootedState, IsBoot};
 ghost use Rattle.x7_recovery.specs.Golden.{IsPreparedByAttempt, UpdatingByAttempt};
-ghost use Rattle.x7_recovery.specs.Region.{EndWithin, RegionBootsAlike};
+ghost use Rattle.x7_recovery.specs.Region.{BootsWithin, RegionBootsAlike};
 ghost use Rattle.x7_update.specs.After.{MayBeLeft};
 
 /// Of a flash that begins with a region which can be updated, with any bytes after it. The region's golden stream,
@@ -19,6 +19,5 @@ pub fn updated_regions_boot_alike()
 /// Where each attempt of a boot from a region ends within it, the boot from a flash that begins with the region is the
 /// same, whatever bytes come after it.
 pub fn regions_boot_alone()
-    ensures { (part : PartData) (region more : List ℕ) (b : BootedState) → (boot : IsBoot part region b) → EndWithin region (boot.last ∷ boot.older)
-        → IsBoot part (region ++ more) b }
+    ensures { (part : PartData) (region more : List ℕ) (b : BootedState) → BootsWithin part region b → IsBoot part (region ++ more) b }
 {}

@@ -64,10 +64,6 @@ pub(crate) struct Given {
     pub(crate) damaged: Damaged,
     /// The flash of the run: without bytes and a name where the case has none.
     pub(crate) flash: Named,
-    /// How many writes the flash has room to record.
-    pub(crate) write_room: u32,
-    /// How many bytes the ranges of the recorded writes may have in all.
-    pub(crate) range_room: u32,
     /// The number of the call that is torn, from 1 among the flash's; 0 for none.
     pub(crate) torn_call: u32,
     /// The bits of each byte of the torn write that keep their old value.
@@ -94,8 +90,6 @@ impl Drop for Given {
             inputs: _,
             damaged: _,
             flash: _,
-            write_room: _,
-            range_room: _,
             torn_call: _,
             torn_bits: _,
             pieces: _,
@@ -148,8 +142,6 @@ impl Given {
                 name: String::new(alloc),
                 bytes: Vec::new(alloc),
             },
-            write_room: 0,
-            range_room: 0,
             torn_call: 0,
             torn_bits: 0,
             pieces: Vec::new(alloc),
@@ -174,14 +166,6 @@ impl Given {
         put(self.alloc, &mut flash.bytes, shared, key, rest)
     }
 
-    /// Takes `WRITES BYTES`: what the flash has room to record.
-    fn put_room(&mut self, line: &str) -> Result<(), Fault> {
-        let (writes, bytes) = first_word(line);
-        self.write_room = positive(writes)?;
-        self.range_room = positive(bytes)?;
-        Ok(())
-    }
-
     /// Takes `CALL HEX`: the call that is torn, and the bits that keep their old value.
     fn put_tear(&mut self, line: &str) -> Result<(), Fault> {
         let (call, bits) = first_word(line);
@@ -199,7 +183,6 @@ impl Given {
             "flash" | "flash_slice" => self.put_flash(shared, key, rest),
             "cut_each" => self.damaged.put(Damage::Cut, shared, rest),
             "change_each" => self.damaged.put(Damage::Bit, shared, rest),
-            "flash_room" => self.put_room(rest),
             "flash_tears" => self.put_tear(rest),
             "write_piece" => put_positive(&mut self.write_piece, rest),
             "room" => put_positive(&mut self.room, rest),

@@ -175,8 +175,6 @@ impl Objects {
         let piece = (given.write_piece as usize).max(1);
         self.out.piece(piece);
         self.err.piece(piece);
-        let (writes, bytes) = (given.write_room, given.range_room);
-        self.flash.make_room(u64::from(writes), u64::from(bytes))?;
         if given.torn_call > 0 {
             let call = u64::from(given.torn_call);
             self.flash.tear_at(call, given.torn_bits);

@@ -63,8 +63,8 @@ refused_last old new event s e (inr (inl h)) = inl (e ∙ ap status_of_event h)
 refused_last old new event s e (inr (inr h)) = inr (inr h)
 
 -- what a form does with its flash, by another name of the form
-pub uses_as : (form : Option AskedForm) (asks : AskedForm) (inputs : InputsState) (old new : FlashState) (past since : ℕ → List ℕ → Type 0) → form ≡ Some asks → UsesFlash (Some asks) (sources inputs old) new past since → UsesFlash form (sources inputs old) new past since
-uses_as form asks inputs old new past since e h = subst (λ (f : Option AskedForm). UsesFlash f (sources inputs old) new past since) (sym e) h
+pub uses_as : (form : Option AskedForm) (asks : AskedForm) (inputs : InputsState) (old new : FlashState) → form ≡ Some asks → UsesFlash (Some asks) (sources inputs old) new → UsesFlash form (sources inputs old) new
+uses_as form asks inputs old new e h = subst (λ (f : Option AskedForm). UsesFlash f (sources inputs old) new) (sym e) h
 
 -- ---- the words
 

@@ -1,29 +1,19 @@
--- What may be found of a flash since a run began, and what a boot makes of it.
+-- What may be found of a flash that a run updates, and what a boot makes of it.
 use Rattle.std.proofs.Common.{◌≡◌, ℕ, List, Option, Some, Result, Ok, subst, sym, ◌∙◌, inl, inr, ◌⊎◌, ⊎_elim, arith}
-use Rattle.x7_words.specs.Flash.{FlashState, IfKnown}
+use Rattle.x7_words.specs.Flash.{FlashState}
 use Rattle.x7_words.specs.Input.{InputsState}
 use Rattle.x7_boot.specs.Boot.{BootedState, IsBoot}
 use Rattle.x7_update.specs.After.{MayBeLeft, untouched}
-use Rattle.x7_update.proofs.KnownLemmas.{known_at, known_map}
+use Rattle.x7_words.proofs.FollowLemmas.{known_at}
 use Rattle.x7_recovery.specs.Golden.{BootsAlike, UpdatingByAttempt}
 use Rattle.x7_recovery.proofs.GoldenLemmas.{found_alike}
 use Rattle.x7_forms.specs.Event.{Event}
 use Rattle.x7_forms.specs.Form.{AskedForm, updated_by}
 use Rattle.x7_forms.specs.Known.{Known}
-use Rattle.x7_tool.specs.PowerLoss.{IsUpdateOf, PowerLossMayLeave}
-use Rattle.x7_outcome.specs.Leaving.{MayBeFound, UsesFlash}
+use Rattle.x7_tool.specs.PowerLoss.{EachBootsOfAny, IsUpdateOf, PowerLossMayLeave}
+use Rattle.x7_outcome.specs.Leaving.{LeavesAnyFlash, MayBeFound, holding}
 use Rattle.x7_outcome.specs.Outcome.{stream_data}
 use Rattle.x7_outcome.specs.Outside.{known_from, sources}
-use Rattle.x7_tool.proofs.FlashLemmas.{found_same}
-
--- what may be found since a run began is what the flash held then, or was found within the run
-pub found_since_run : (form : Option AskedForm) (inputs : InputsState) (old new : FlashState) (past since : ℕ → List ℕ → Type 0) → ((found : List ℕ) → past old.moments found → IfKnown old.bytes (λ all. found ≡ all)) → UsesFlash form (sources inputs old) new past since
-    → (found : List ℕ) → since old.moments found → PowerLossMayLeave form (sources inputs old) found
-found_since_run form inputs old new past since only u found had =
-    let known = known_from (sources inputs old) in
-    let P : List ℕ → Type 0 = λ all. MayBeFound known (updated_by form) all found in
-    ⊎_elim (λ before. known_map old.bytes (λ all. found ≡ all) P (λ all e same. subst (λ (x : List ℕ). MayBeFound known (updated_by form) all x) (sym same) (found_same known (updated_by form) all)) (only found before)) (λ within. within)
-    (u.moments.elapses.nothing_else old.moments found (omega arith) had)
 
 ok_is : (a b : List ℕ) (r : Result (List ℕ) Event) → r ≡ Ok a → r ≡ Ok b → a ≡ b
 ok_is a b r e f = let same : Ok a ≡ Ok b = sym e ∙ f in cc
@@ -44,7 +34,11 @@ found_left form inputs flash known name stream all found is_known updates data_k
     left_by (stream_data known name) stream all found data_known may_be
 
 -- whatever is found of a flash that a run updates boots as one of the three
-pub found_run_boots : (form : Option AskedForm) (inputs : InputsState) (flash : FlashState) (u : UpdatingByAttempt) (found : List ℕ) (b : BootedState) → IsUpdateOf form (sources inputs flash) u → PowerLossMayLeave form (sources inputs flash) found → IsBoot u.part found b
+found_run_boots : (form : Option AskedForm) (inputs : InputsState) (flash : FlashState) (u : UpdatingByAttempt) (found : List ℕ) (b : BootedState) → IsUpdateOf form (sources inputs flash) u → PowerLossMayLeave form (sources inputs flash) found → IsBoot u.part found b
     → BootsAlike u found b
 found_run_boots form inputs flash u found b w f boot =
     found_alike u found b w.prepared (found_left form inputs flash w.known w.name u.stream u.flash found w.is_known w.updates w.stream w.bytes f) boot
+
+-- whatever a power loss leaves of any flash boots as one of the three
+pub each_boots : (form : Option AskedForm) (inputs : InputsState) (old new : FlashState) → LeavesAnyFlash form (sources inputs old) new → EachBootsOfAny form (sources inputs old) new
+each_boots form inputs old new left = λ all found long fits h u b w boot. found_run_boots form inputs (holding all old) u found b w (left all found long fits h) boot

@@ -22,13 +22,13 @@ use Rattle.x7_forms.specs.Known.{Answer, Failing, Known, Lacking, Mishap, and_so
 use Rattle.x7_forms.specs.Step.{Among}
 use Rattle.x7_outcome.specs.Ahead.{StaysNear}
 use Rattle.x7_outcome.specs.Called.{UpdateCalled}
-use Rattle.x7_outcome.specs.Leaving.{UpdateLeaves}
+use Rattle.x7_outcome.specs.Leaving.{UpdateLeaves, UsesFlash}
 use Rattle.x7_outcome.specs.Outcome.{AssembledAs, FormGives, IsOutcome, mcs_image}
-use Rattle.x7_outcome.specs.Outside.{CameInRun, NothingFailed, UsesFlashAs, Outside, known_in, sources}
+use Rattle.x7_outcome.specs.Outside.{CameInRun, NothingFailed, Outside, known_in, sources}
 use Rattle.x7_tool.specs.Promise.{Promise}
 use Rattle.x7_outcome.specs.Ending.{GivesIfKnown, AnswersForm, AnswersOver, BootsAsRead, CausedBy, EndIsCaused, CommandEnds, CommandEndsAs, FailsLast, GetsPrefixOfKnown, GetsPrefixOfText, IsMeasured, JudgesFlash, OutputAfterFailure, PutsAnswer}
-use Rattle.x7_tool.specs.Runs.{SaysEnd}
-use Rattle.x7_tool.specs.Runs.{PromisesAsRead, TextsLeadBack, Runs}
+use Rattle.x7_tool.specs.Runs.{OutputFailsLast, PromisesAsRead, Runs, SaysEnd, TextsLeadBack}
+use Rattle.x7_tool.proofs.FoundLemmas.{each_boots}
 use Rattle.x7_outcome.specs.Stopping.{StopsReading}
 use Rattle.x7_outcome.proofs.FlashLemmas.{answers_over, not_fault, not_large}
 use Rattle.x7_tool.proofs.PromiseLemmas.{promised}
@@ -156,32 +156,33 @@ pub record RanAs (form : Option AskedForm) (old new : Outside) (s : Status) : Ty
   pub asks : AsksAtMost old.inputs (length (names_of form)) new.inputs
   pub stays : InputsStay old.inputs new.inputs
 
--- how a command ended is what its run comes to
-pub runs : (form : Option AskedForm) (old new : Outside) (s : Status) → RanAs form old new s → UsesFlashAs (flash_use form) old.flash new.flash → Runs form old new s
-runs form old new s r f =
+-- how a command ended, and what its form did with the flash and the output, is what its run comes to
+pub runs : (form : Option AskedForm) (old new : Outside) (s : Status) → RanAs form old new s → UsesFlash form (sources new.inputs old.flash) new.flash → OutputFailsLast old.out new.out s → Runs form old new s
+runs form old new s r f o =
     let outcome : (known : Known) → known_in old new ≡ Some known → NothingFailed form old new → (s ≡ status.NoMemory) ⊎ IsOutcome known form r.end = outcome_is form old new s r.end r.ends_as r.ends.cause in
     record {
       end = r.end;
       ends_as = r.ends_as;
-      cause = r.ends.cause;
-      wrote = r.ends.wrote;
-      said = r.said;
-      near = subst (λ (x : Status). StaysNear x form old new) (sym r.ends_as) r.ends.near;
-      outcome = outcome;
       no_form = no_form_is form old new s r.end r.ends_as r.ends.cause;
-      back = back_is form old new s r.end outcome;
+      outcome = outcome;
       promise = promise_is form old new r.end r.ends.cause;
-      measured = r.ends.measured;
-      fails_last = r.ends.fails_last;
-      stops = r.stops;
-      judges = r.judges;
-      asks = r.asks;
-      stays = r.stays;
-      flash = f;
-      updates = r.ends.updates;
-      called = r.ends.called;
-      as_read = r.ends.as_read;
-      promise_as_read = promise_read form old new r.end r.ends.as_read;
+      back = back_is form old new s r.end outcome;
+      cause = r.ends.cause;
+      said = r.said;
+      output = record { wrote = r.ends.wrote; near = subst (λ (x : Status). StaysNear x form old new) (sym r.ends_as) r.ends.near; failed_last = o };
+      inputs = record { stops = r.stops; asks = r.asks; stays = r.stays };
+      flash = record {
+        keeps = f.keeps;
+        follows = f.follows;
+        left = f.left;
+        boots = each_boots form new.inputs old.flash new.flash f.left;
+        called = r.ends.called;
+        updates = r.ends.updates;
+        measured = r.ends.measured;
+        judges = r.judges;
+        fails_last = r.ends.fails_last;
+      };
+      boot = record { as_read = r.ends.as_read; promise = promise_read form old new r.end r.ends.as_read };
     }
 
 -- ---- a text that is whole before it is written

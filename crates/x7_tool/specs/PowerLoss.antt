@@ -11,7 +11,7 @@ use Rattle.x7_outcome.specs.Outcome.{stream_data}
 use Rattle.x7_outcome.specs.Outside.{Sources, known_from}
 use Rattle.x7_outcome.specs.Leaving.{MayBeFound, calls_since, holding}
 
--- what a power loss at any moment of a run may leave of its flash, where the flash's bytes are known before the run
+-- what a power loss at any moment of a run may leave of its flash, which held these bytes before the run
 abbrev pub PowerLossMayLeave : Option AskedForm → Sources → List ℕ → Type 0
 PowerLossMayLeave form old found = IfKnown old.flash.bytes (λ all. MayBeFound (known_from old) (updated_by form) all found)
 

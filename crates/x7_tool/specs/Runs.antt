@@ -1,5 +1,6 @@
 -- What a run comes to: how it ended and why, its status, and what the outside holds then (this project's choice).
 use Rattle.std.specs.Prelude.{◌≡◌, ◌≤◌, ℕ, length, List, Option, None, Some, ◌⊎◌, Bool, false, Result, Ok, Err}
+use Rattle.x7_words.specs.FlashHistory.{FollowsCalls}
 use Rattle.x7_words.specs.Input.{AsksAtMost, InputsStay}
 use Rattle.x7_words.specs.Sink.{PutsOrFails, SinkState}
 use Rattle.x7_words.specs.Word.{AreBytes}
@@ -17,7 +18,8 @@ use Rattle.x7_forms.specs.Known.{Answer, Known, stream_limit, with_inputs}
 use Rattle.x7_forms.specs.Step.{result_by}
 use Rattle.x7_outcome.specs.Ahead.{StaysNear}
 use Rattle.x7_outcome.specs.Called.{UpdateCalled}
-use Rattle.x7_outcome.specs.Leaving.{UpdateLeaves}
+use Rattle.x7_outcome.specs.Leaving.{LeavesAnyFlash, UpdateLeaves}
+use Rattle.x7_tool.specs.PowerLoss.{EachBootsOfAny}
 use Rattle.x7_outcome.specs.Outcome.{IsOutcome}
 use Rattle.x7_outcome.specs.Outside.{NothingFailed, UsesFlashAs, Outside, known_in, sources}
 use Rattle.x7_tool.specs.Promise.{Promise}
@@ -74,6 +76,60 @@ PromisesAsRead (Some (Booting part flash)) old new (Ok answer) =
     IfAgrees (answers_since old.flash new.flash) (λ all. Promise (with_inputs new.inputs.contents (Some all)) (Some (Booting part flash)) (Ok answer))
 PromisesAsRead form old new end = Unit {0}
 
+-- what the output got, and how far `list` read ahead of it
+pub record UsesOutput (form : Option AskedForm) (old new : Outside) (s : Status) (end : Result Answer Event) : Type 0 where
+  -- the output got the whole text, or what the event leaves of it
+  pub wrote : OutputGets form old new end
+  -- where the stream and the output are known and `list` ends by an event, at most `most_bytes_ahead` bytes more of the
+  -- stream were read or given than are listed, or, where the header is refused at a byte, none after that byte was read
+  pub near : StaysNear s form old new
+  -- a write that failed is the last one, and no other reason is told after it
+  pub failed_last : OutputFailsLast old.out new.out s
+
+-- what was asked of the inputs
+pub record UsesInputs (form : Option AskedForm) (old new : Outside) (end : Result Answer Event) : Type 0 where
+  -- an event that lies in an input names the last one that was asked for, and no more than a byte over its limit was
+  -- given of that
+  pub stops : StopsReading form old.inputs new.inputs end
+  -- no more inputs were asked for than the words name, and no more ends of inputs were read
+  pub asks : AsksAtMost old.inputs (length (names_of form)) new.inputs
+  -- every input keeps its bytes, and the counts of faults and of absences of inputs don't fall
+  pub stays : InputsStay old.inputs new.inputs
+
+-- What was done with the flash, of every type of flash, a file of the system too.
+pub record UsesItsFlash (form : Option AskedForm) (old new : Outside) (end : Result Answer Event) : Type 0 where
+  -- the flash is untouched, read or written as the form says, and was asked for once at most, by the form's name
+  pub keeps : UsesFlashAs (flash_use form) old.flash new.flash
+  -- the flash's bytes, where they are known, are what its calls make of those that it had before
+  pub follows : FollowsCalls old.flash new.flash
+  -- of a flash that gives what it holds: what a power loss at any moment of the run may leave of it, whatever it held
+  pub left : LeavesAnyFlash form (sources new.inputs old.flash) new.flash
+  -- and a boot from what is left then is the one before the update, or that of the golden stream, or of the updated flash
+  pub boots : EachBootsOfAny form (sources new.inputs old.flash) new.flash
+  -- an update that is done called the flash for the calls of an update with the stream's data, and for no others; one
+  -- that isn't for the attach, or for these up to one that shows why not
+  pub called : UpdateCalled form old new end
+  -- an update that is done leaves the flash as it is after one with the stream's data, or with some bytes where the
+  -- inputs aren't known; one that isn't leaves the flash's bytes, unless a write or a read of the flash failed, or a
+  -- byte differs
+  pub updates : UpdateLeaves (updated_by form) old new end
+  -- the flash of the form is within the limit after a whole text, and over it where the event is that it is too large,
+  -- whether its bytes are known or not; the event may be that of an input of the same name
+  pub measured : IsMeasured form new.flash end
+  -- an update whose flash isn't there, wasn't attached or is too large asks for no stream, unless that has the flash's
+  -- name, and a boot touches its flash only once its part is good, unless memory was wanting or the output failed
+  pub judges : JudgesFlash form (sources old.inputs old.flash) (sources new.inputs new.flash) end
+  -- a fault of a flash that is attached comes last: the flash is within the limit, and the form would have a whole text
+  -- of its inputs; unless an input has its name
+  pub fails_last : FailsLast form new.inputs new.flash end
+
+-- the text of a boot, by what was read of the flash, a file of the system too
+pub record BootsByReads (form : Option AskedForm) (old new : Outside) (end : Result Answer Event) : Type 0 where
+  -- the text is that of every flash of this size that gives what was read
+  pub as_read : BootsAsRead form (sources old.inputs old.flash) (sources new.inputs new.flash) end
+  -- and keeps its promise over each
+  pub promise : PromisesAsRead form old new end
+
 -- What a run of the command came to: `form` is what its words ask for, `old` and `new` the outside before and after it,
 -- and `s` its status.
 pub record Runs (form : Option AskedForm) (old new : Outside) (s : Status) : Type 0 where
@@ -81,11 +137,6 @@ pub record Runs (form : Option AskedForm) (old new : Outside) (s : Status) : Typ
   pub end : Result Answer Event
   -- the status is that of the end
   pub ends_as : s ≡ final_status end
-  -- the output got the whole text, or what the event leaves of it
-  pub wrote : OutputGets form old new end
-  -- the sink of messages got nothing after a whole text, and else the event's one line, or a prefix of that line where
-  -- the sink failed
-  pub said : SaysEnd old.err new.err end
   -- words without a form are a wrong usage
   pub no_form : form ≡ None → s ≡ status.Usage
   -- where the bytes of the inputs are known, and nothing failed or was missing, the end is what the words come to, or
@@ -100,35 +151,14 @@ pub record Runs (form : Option AskedForm) (old new : Outside) (s : Status) : Typ
   -- where the contents are known, a whole text is theirs, and an event has its cause in them; or the event reports a
   -- fault, an absence, a failed write or a byte that differs, which came; or memory was wanting
   pub cause : EndIsCaused form old new end
-  -- an event that lies in an input names the last one that was asked for, and no more than a byte over its limit was
-  -- given of that
-  pub stops : StopsReading form old.inputs new.inputs end
-  -- no more inputs were asked for than the words name, and no more ends of inputs were read
-  pub asks : AsksAtMost old.inputs (length (names_of form)) new.inputs
-  -- where the stream and the output are known and `list` ends by an event, at most `most_bytes_ahead` bytes more of the
-  -- stream were read or given than are listed, or, where the header is refused at a byte, none after that byte was read
-  pub near : StaysNear s form old new
-  -- every input keeps its bytes, and the counts of faults and of absences of inputs don't fall
-  pub stays : InputsStay old.inputs new.inputs
-  -- the flash is untouched, read or written as the form says, and was asked for no name but the form's
-  pub flash : UsesFlashAs (flash_use form) old.flash new.flash
-  -- an update that is done leaves the flash as it is after one with the stream's data, or with some bytes where the
-  -- inputs aren't known; one that isn't leaves the flash's bytes, unless a write or a read of the flash failed, or a
-  -- byte differs
-  pub updates : UpdateLeaves (updated_by form) old new end
-  -- of every flash, a file of the system too: an update that is done called it for the calls of an update with the
-  -- stream's data, and for no others; one that isn't for the attach, or for these up to one that shows why not
-  pub called : UpdateCalled form old new end
-  -- the text of a boot is that of every flash of this size that gives what was read, a file of the system too, and keeps
-  -- its promise over each
-  pub as_read : BootsAsRead form (sources old.inputs old.flash) (sources new.inputs new.flash) end
-  pub promise_as_read : PromisesAsRead form old new end
-  -- the flash of the form is within the limit after a whole text, and over it where the event is that it is too large,
-  -- whether its bytes are known or not; the event may be that of an input of the same name
-  pub measured : IsMeasured form new.flash end
-  -- an update whose flash isn't there, wasn't attached or is too large asks for no stream, unless that has the flash's
-  -- name, and a boot touches its flash only once its part is good, unless memory was wanting or the output failed
-  pub judges : JudgesFlash form (sources old.inputs old.flash) (sources new.inputs new.flash) end
-  -- a fault of a flash that is attached comes last: the flash is within the limit, and the form would have a whole text
-  -- of its inputs; unless an input has its name
-  pub fails_last : FailsLast form new.inputs new.flash end
+  -- the sink of messages got nothing after a whole text, and else the event's one line, or a prefix of that line where
+  -- the sink failed
+  pub said : SaysEnd old.err new.err end
+  -- what the output got
+  pub output : UsesOutput form old new s end
+  -- what was asked of the inputs
+  pub inputs : UsesInputs form old new end
+  -- what was done with the flash, and what a power loss may leave of it
+  pub flash : UsesItsFlash form old new end
+  -- of which flashes the text of a boot is
+  pub boot : BootsByReads form old new end

@@ -1,13 +1,12 @@
 //! The call that runs a command: the form of its words is carried out.
-ghost use Rattle.std.specs.Prelude.{◌≡◌, ℕ, List, Some, false};
+ghost use Rattle.std.specs.Prelude.{◌≡◌, Some, false};
 ghost use Rattle.x7_forms.specs.Form.{asked_by, form_of_strings};
 ghost use Rattle.x7_forms.specs.Step.{result_by};
-ghost use Rattle.x7_tool.specs.PowerLoss.{EachBoots, EachBootsOfAny, PowerLossMayLeave};
-ghost use Rattle.x7_outcome.specs.Leaving.{CallUsesFlash};
+ghost use Rattle.x7_outcome.specs.Leaving.{UsesFlash};
 ghost use Rattle.x7_outcome.specs.Outside.{sources};
 ghost use Rattle.x7_tool.specs.Calls.{CallAnswers, CallRuns};
 ghost use Rattle.x7_outcome.specs.Ending.{FailsOutLast};
-ghost use Rattle.x7_tool.specs.Runs.{OutputFailsLast, stopped_or_event};
+ghost use Rattle.x7_tool.specs.Runs.{stopped_or_event};
 
 use std::alloc::Global;
 use x7_device_forms::boot::boot;
@@ -46,7 +45,7 @@ fn answer<'w, I: Inputs, O: Sink, F: Flash>(
 ) -> Result<bool, Refusal<'w>>
     ensures answered { CallAnswers (I.state, F.state, O.state) (asked_by form.entry)
         (inputs.old, flash.old, out.old) (inputs.new, flash.new, out.new) (stopped_or_event result) }
-    ensures flash { CallUsesFlash F.Flash (Some (asked_by form.entry)) (I.state inputs.new) flash.old flash.new }
+    ensures flash { UsesFlash (Some (asked_by form.entry)) (sources (I.state inputs.new) (F.state flash.old)) (F.state flash.new) }
     ensures failed_last { FailsOutLast (O.state out.old) (O.state out.new) (stopped_or_event result) }
 {
     match form {
@@ -83,40 +82,15 @@ fn answer<'w, I: Inputs, O: Sink, F: Flash>(
     }
 }
 
-/// Runs the command. The other two clauses of `run`, on a power loss, follow from `flash`.
-fn carry_out<I: Inputs, O: Sink, E: Sink, F: Flash>(
-    alloc: Global,
-    words: &Vec<String>,
-    inputs: &mut I,
-    flash: &mut F,
-    out: &mut O,
-    err: &mut E,
-) -> Status
-    ensures ran { CallRuns (I.state, F.state, O.state, E.state) (form_of_strings words.now.items)
-        (inputs.old, flash.old, out.old, err.old) (inputs.new, flash.new, out.new, err.new) result }
-    ensures flash { CallUsesFlash F.Flash (form_of_strings words.now.items) (I.state inputs.new) flash.old flash.new }
-    ensures failed_last { OutputFailsLast (O.state out.old) (O.state out.new) result }
-{
-    let form = match words_of(words) {
-        Some(form) => form,
-        None => return Refusal::unnamed(Why::Usage).tell(err),
-    };
-    match answer(alloc, form, inputs, flash, out) {
-        Ok(stopped) => Status::of_text(stopped),
-        Err(refusal) => refusal.tell(err),
-    }
-}
-
 /// Runs the command that `words` ask for, those of the command line after the program's name.
 ///
 /// The text goes to `out`, that of `list` while the stream is read, and any other once it is ready; where a command has
 /// no whole text, one line goes to `err`.
 ///
-/// Power may be lost at any moment. Where the bytes of the flash are known, what is found of it then is what it held,
-/// or what an update may leave of it. Take that the stream is known too, that the flash can be updated, and that the
-/// golden stream, whoever made it, starts after an erased first sector and ends at the update's place or before it.
-/// Then a boot from what is found is the one before the update, or starts as the golden stream does, or is the one
-/// after the update.
+/// Power may be lost at any moment. Of a flash that gives what it holds, a file of the system too, what is found then is
+/// what it held, or what an update may leave of it. Where the stream is known, the flash can be updated, and the golden
+/// stream, whoever made it, starts after an erased first sector and ends at the update's place or before it, a boot from
+/// what is found is the one before the update, or starts as the golden stream does, or is the one after the update.
 ///
 /// The full stream of a plan is such a golden stream (`x7_recovery::full_streams_start`).
 pub fn run<I: Inputs, O: Sink, E: Sink, F: Flash>(
@@ -129,13 +103,13 @@ pub fn run<I: Inputs, O: Sink, E: Sink, F: Flash>(
 ) -> Status
     ensures ran { CallRuns (I.state, F.state, O.state, E.state) (form_of_strings words.now.items)
         (inputs.old, flash.old, out.old, err.old) (inputs.new, flash.new, out.new, err.new) result }
-    ensures flash { CallUsesFlash F.Flash (form_of_strings words.now.items) (I.state inputs.new) flash.old flash.new }
-    ensures found { (found : List ℕ) → F.found_since flash.new (F.state flash.old).moments found
-        → PowerLossMayLeave (form_of_strings words.now.items) (sources (I.state inputs.new) (F.state flash.old)) found }
-    ensures boots { (found : List ℕ) → F.found_since flash.new (F.state flash.old).moments found
-        → EachBoots (form_of_strings words.now.items) (sources (I.state inputs.new) (F.state flash.old)) found }
-    ensures failed_last { OutputFailsLast (O.state out.old) (O.state out.new) result }
-    ensures boots_of_any { EachBootsOfAny (form_of_strings words.now.items) (sources (I.state inputs.new) (F.state flash.old)) (F.state flash.new) }
 {
-    carry_out(alloc, words, inputs, flash, out, err)
+    let form = match words_of(words) {
+        Some(form) => form,
+        None => return Refusal::unnamed(Why::Usage).tell(err),
+    };
+    match answer(alloc, form, inputs, flash, out) {
+        Ok(stopped) => Status::of_text(stopped),
+        Err(refusal) => refusal.tell(err),
+    }
 }

@@ -17,15 +17,9 @@ pub(crate) struct Forgetful<F: Flash> {
 }
 
 impl<F: Flash> Flash for Forgetful<F> {
-    ghost state = { λ f. record (F.state f.flash) { bytes = None; moments = 0; calls = f.calls } };
-
-    ghost found_since = { λ _ _ _. Unit {0} };
+    ghost state = { λ f. record (F.state f.flash) { bytes = None; calls = f.calls } };
 
     ghost counted = { λ _. tt };
-
-    ghost found_now = { λ _ _ _ _ _. tt };
-
-    ghost only_now = { λ _ _ _. tt };
 
     fn attach(&mut self, name: &str) -> Result<(), SelectFault> {
         let answer = self.flash.attach(name);

@@ -94,13 +94,10 @@ fn updated<F: Flash>(alloc: Global, flash: &mut F, name: &str, message: &[u8]) -
     Some((status, text.is_empty() && told.as_slice() == message))
 }
 
-/// A flash in memory that holds the image, with room for the writes of an update: 20, of 1,000,000 bytes in all. None
-/// without memory.
+/// A flash in memory that holds the image. None without memory.
 fn flash_of(alloc: Global) -> Option<MemoryFlash> {
     let image = image(alloc)?;
-    let mut flash = MemoryFlash::new(alloc, "i", &image).ok()?;
-    flash.make_room(20, 1_000_000).ok()?;
-    Some(flash)
+    MemoryFlash::new(alloc, "i", &image).ok()
 }
 
 /// Updates a flash in memory that forgets the update: what the command comes to, which should write `message`, and

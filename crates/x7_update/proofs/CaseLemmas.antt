@@ -1,17 +1,15 @@
 -- Lemmas on what may be left of a flash: from one case to the next.
-use Rattle.std.proofs.Common.{◌≡◌, ℕ, ◌+◌, ◌*◌, ◌%◌, ◌<◌, ◌≤◌, ◌⊎◌, inl, inr, ⊎_elim, List, Option, None, Some, option_map, length, get_or, Bool, true, false, refl, ap, sym, subst, ◌∙◌, arith}
+use Rattle.std.proofs.Common.{◌≡◌, ℕ, ◌+◌, ◌*◌, ◌%◌, ◌<◌, ◌≤◌, ◌⊎◌, inl, inr, List, length, get_or, Bool, true, false, refl, ap, sym, subst, ◌∙◌, arith}
 use Rattle.std.proofs.lemmas.Bool.{cases_eq, cases_lt}
 use Rattle.x7_words.specs.Word.{AreBytes}
-use Rattle.x7_words.specs.Flash.{FlashState, IfKnown}
 use Rattle.x7_packets.specs.FlashSlot.{flash_slot_size, flash_slot_count}
 use Rattle.x7_update.specs.Layout.{IsUpdatable, HasSlots, IsOpen, IsFree, IsNextFreeSlot, switch_of, open_switch, free_switch, spent_switch, update_place, switch_size}
 use Rattle.x7_update.specs.After.{SpendsOpenSlot, already, spends, IsAfterUpdate, IsBetweenSlots, MayBeLeft, untouched, between, after, with_switch_word, with_stream}
-use Rattle.x7_update.specs.Writing.{AtAnyMoment, SpendingSlot, HasWanted, KeepsBelow, OnlySwitch, OpeningSlot, UpdateReplaced, ReplacingUpdate}
+use Rattle.x7_update.specs.Writing.{SpendingSlot, HasWanted, KeepsBelow, OnlySwitch, OpeningSlot, UpdateReplaced, ReplacingUpdate}
 use Rattle.x7_update.specs.Slots.{IsTargetIn}
 use Rattle.x7_update.specs.declared.slots.UpdateTarget.{UpdateTarget}
 use Rattle.x7_update.proofs.StreamLemmas.{length_with_stream, with_stream_below, with_stream_wanted}
 use Rattle.x7_update.proofs.SwitchLemmas.{length_switched, switched_others, switch_switched, switch_other}
-use Rattle.x7_update.proofs.KnownLemmas.{known_map}
 
 pub true_or_false : (b : Bool) → b ≡ true → b ≡ false → ⊥
 true_or_false b t f = let same : true ≡ false = sym t ∙ f in cc
@@ -105,15 +103,6 @@ between_opening slot all mid found b next only = record {
       | inr n ↦ b.none_open other k (sym (only_other slot other mid found n only) ∙ o)
     ]
 
--- a free slot that nothing has opened as yet
-pub opening_none : (slot : ℕ) (all : List ℕ) → IsFree all slot → OpeningSlot slot all all
-opening_none slot all free = inr (record { size = refl; others = λ i h. refl; not_open = λ o. open_not_free all slot o free })
-
--- known bytes whose free slot was opened have an open slot
-pub opened_is_open : (known new : Option (List ℕ)) (slot : ℕ) → new ≡ option_map (with_switch_word slot open_switch) known → IfKnown known (λ all. flash_slot_size * slot + switch_size ≤ length all) → IfKnown new (λ all. IsOpen all slot)
-opened_is_open None new slot is within = subst (λ (o : Option (List ℕ)). IfKnown o (λ all. IsOpen all slot)) (sym is) tt
-opened_is_open (Some all) new slot is within = subst (λ (o : Option (List ℕ)). IfKnown o (λ all. IsOpen all slot)) (sym is) (switch_switched slot 0xAA 0x99 0x55 0x66 all within)
-
 -- the next slot is free still when the stream is written
 pub next_free : (next : ℕ) (all spent found : List ℕ) → HasSlots (length all) all → IsNextFreeSlot all next → SpendsOpenSlot all spent → KeepsBelow (update_place all) spent found → IsFree found next
 next_free next all spent found has n is_spent keeps =
@@ -184,10 +173,3 @@ module _ (all : List ℕ) (target : UpdateTarget) (finds : IsTargetIn (length al
     pub opening_left : (found : List ℕ) → OpeningSlot target.slots.next now found → AreBytes found → MayBeLeft stream all found
     opening_left found (inl is) fits = after updatable (subst (IsAfterUpdate stream all) (sym is) opened_after)
     opening_left found (inr only) fits = between updatable fits (between_opening target.slots.next all now found replaced_between finds.next only)
-
--- what may be found since a call's start is what was there then, or was found within it
-pub found_left : (stream : List ℕ) (old new : FlashState) (past since : ℕ → List ℕ → Type 0) → ((found : List ℕ) → past old.moments found → IfKnown old.bytes (λ all. found ≡ all)) → AtAnyMoment old new past since (MayBeLeft stream)
-    → (found : List ℕ) → since old.moments found → IfKnown old.bytes (λ all. MayBeLeft stream all found)
-found_left stream old new past since only m found had =
-    let now : old.moments ≤ old.moments = omega arith in
-    ⊎_elim (λ before. known_map old.bytes (λ all. found ≡ all) (λ all. MayBeLeft stream all found) (λ all e same. untouched same) (only found before)) (λ within. within) (m.elapses.nothing_else old.moments found now had)

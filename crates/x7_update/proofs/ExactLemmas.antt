@@ -5,7 +5,7 @@ use Rattle.x7_update.specs.Layout.{IsUpdatable, LeadsToUpdate}
 use Rattle.x7_update.specs.Fault.{HasNoCause, DiffersAt, HasCause, IsTooLong, NoLayoutAt, bad_first, bad_place, bad_size, bad_slot, last_taken}
 use Rattle.x7_update.specs.declared.fault.UpdateFault.{UpdateFault}
 use Rattle.x7_update.specs.declared.fault.UpdateFault.TheVariants.{Differs, Failed, NoLayout, NoMemory, TooLong}
-use Rattle.x7_update.proofs.KnownLemmas.{known_at}
+use Rattle.x7_words.proofs.FollowLemmas.{known_at}
 
 differs_not : (flash : List ℕ) (slot place : ℕ) → LeadsToUpdate flash slot → DiffersAt flash slot place → ⊥
 differs_not flash slot place leads d = d.differs (ap (λ p. get_or flash p 0) d.is ∙ leads d.i d.after_switch d.within)
@@ -30,7 +30,7 @@ only_memory stream old new TooLong cause can =
     absurd (omega (arith, long.passes, can.fits))
 only_memory stream old new (NoLayout place) cause can =
     absurd (updatable_or_not can.flash place can.updatable (known_at old.bytes (λ flash. NoLayoutAt (length flash) flash place) cause can.flash can.known))
-only_memory stream old new (Differs at wrote read) cause can = let both : None ≡ Some can.flash = sym cause.1 ∙ can.known in cc
+only_memory stream old new (Differs at wrote read) cause can = let both : None ≡ Some can.flash = sym cause ∙ can.known in cc
 only_memory stream old new NoMemory cause can = refl
 
 pub if_only_memory : {A : Type 0} (stream : List ℕ) (old new : FlashState) (answer : Result A UpdateFault) → IfErr answer (HasCause stream old new) → IfErr answer (λ fault. HasNoCause stream old new → fault ≡ NoMemory)

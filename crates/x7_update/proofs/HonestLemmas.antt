@@ -13,14 +13,11 @@ use Rattle.x7_words.specs.declared.flash_call.FlashCall.{FlashCall}
 use Rattle.x7_words.specs.declared.flash_call.FlashCall.TheVariants.{Attached, NotAttached, Read, ReadFailed, Erased, EraseFailed, Programmed, ProgramFailed}
 use Rattle.x7_words.specs.FlashHistory.{IsHistory}
 use Rattle.x7_update.specs.UpdateCalls.{free_from, open_among, update_calls, spending, erasing, reading, replacing, verifying, opening, padded, calls_to, calls_to_open, sectors_from}
+use Rattle.x7_words.proofs.FollowLemmas.{happens_on}
 use Rattle.x7_update.proofs.CallLemmas.{history_on}
 use Rattle.x7_update.proofs.CaseLemmas.{replaced_between, replaced_wanted}
 use Rattle.x7_update.proofs.MadeLemmas.{sector_long, sector_wanted}
 use Rattle.x7_update.proofs.UpdateCallLemmas.{next_within, opens_whole, replaced_by}
-
-pub happens_on : (xs ys : List FlashCall) (a b c : List ℕ) → IsHistory xs a b → IsHistory ys b c → IsHistory (xs ++ ys) a c
-happens_on [] ys a b c h k = subst (λ f. IsHistory ys f c) h k
-happens_on (x ∷ xs) ys a b c h k = (h.0, h.1, happens_on xs ys h.0 b c h.2 k)
 
 spending_happens : (one : Option ℕ) (a : List ℕ) → (b : List ℕ) × IsHistory (spending one) a b
 spending_happens None a = (a, refl)

@@ -91,8 +91,8 @@ erasing_last first sector h =
     let at : first + (sector - first) ≡ sector = omega arith in
     ap (λ k. erasing first k) count ∙ erasing_split first (sector - first) 1 ∙ ap (λ s. erasing first (sector - first) ++ erasing s 1) at
 
-pub erasing_from : (first sector end : ℕ) → first ≤ sector → sector < end → erasing first (end - first) ≡ erasing first (sector - first) ++ Erased sector ∷ erasing (suc sector) (end - suc sector)
-erasing_from first sector end h k =
+pub erasing_split_at : (first sector end : ℕ) → first ≤ sector → sector < end → erasing first (end - first) ≡ erasing first (sector - first) ++ Erased sector ∷ erasing (suc sector) (end - suc sector)
+erasing_split_at first sector end h k =
     let count : end - first ≡ sector - first + suc (end - suc sector) = omega arith in
     let at : first + (sector - first) ≡ sector = omega arith in
     ap (λ n. erasing first n) count ∙ erasing_split first (sector - first) (suc (end - suc sector)) ∙ ap (λ s. erasing first (sector - first) ++ erasing s (suc (end - suc sector))) at
@@ -121,8 +121,8 @@ module _ (size : ℕ) (stream : List ℕ) (place : ℕ) where
       let at : first + (sector - first) ≡ sector = omega arith in
       ap (λ k. each first k) count ∙ reading_split first (sector - first) 1 ∙ ap (λ s. each first (sector - first) ++ each s 1) at
 
-  pub reading_from : (first sector end : ℕ) → first ≤ sector → sector < end → each first (end - first) ≡ each first (sector - first) ++ (each sector 1 ++ each (sector + 1) (end - (sector + 1)))
-  reading_from first sector end h k =
+  pub reading_split_at : (first sector end : ℕ) → first ≤ sector → sector < end → each first (end - first) ≡ each first (sector - first) ++ (each sector 1 ++ each (sector + 1) (end - (sector + 1)))
+  reading_split_at first sector end h k =
       let count : end - first ≡ sector - first + (1 + (end - (sector + 1))) = omega arith in
       let at : first + (sector - first) ≡ sector = omega arith in
       ap (λ n. each first n) count

@@ -39,9 +39,7 @@ module _ (first_sector stream : List ℕ) (target : UpdateTarget) (first mid : F
   stopped last fault s = record {
     first_sector = first_sector;
     whole = read.whole;
-    sized = found.sized;
-    has = found.has;
-    fits = omega (arith, fits, found.update);
+    room = record { sized = found.sized; has = found.has; fits = omega (arith, fits, found.update) };
     stops = subst (λ h. Stops (calls_after first.size stream (target_in first_sector)) h last fault) read.made (subst (λ l. Stops l mid last fault) plan_is s);
   }
 
@@ -64,9 +62,7 @@ module _ (first_sector stream : List ℕ) (target : UpdateTarget) (first mid : F
     all_done last (Ok _) made = record {
       first_sector = first_sector;
       whole = read.whole;
-      sized = found.sized;
-      has = found.has;
-      fits = omega (arith, fits, found.update);
+      room = record { sized = found.sized; has = found.has; fits = omega (arith, fits, found.update) };
       made = calls_on (Read 0 first_sector ∷ []) (replacing first.size stream target ++ (verifying first.size stream target ++ opening target.slots.next)) first mid last read.made
           (calls_on (replacing first.size stream target) (verifying first.size stream target ++ opening target.slots.next) mid then last replaced made)
           ∙ ap (λ l. with_calls first (Read 0 first_sector ∷ l)) plan_is;
@@ -117,13 +113,13 @@ module _ (stream : List ℕ) (bytes : AreBytes stream) (old new : FlashHistory) 
       update_leaves flash stream target found_there (omega (arith, fits, size)) bytes first_sector found are plan
 
   updated_leaves : HasUpdated stream old new → LeavesAny stream old new
-  updated_leaves u = record { calls = update_calls old.size u.first_sector stream; made = u.made; leaves = plan_leaves u.first_sector u.whole u.sized u.has u.fits }
+  updated_leaves u = record { calls = update_calls old.size u.first_sector stream; made = u.made; leaves = plan_leaves u.first_sector u.whole u.room.sized u.room.has u.room.fits }
 
   stopped_leaves : (fault : UpdateFault) → HasStopped stream old new fault → LeavesAny stream old new
   stopped_leaves fault s = record {
     calls = Read 0 s.first_sector ∷ (s.stops.before ++ s.stops.call ∷ []);
     made = calls_on (Read 0 s.first_sector ∷ []) (s.stops.before ++ s.stops.call ∷ []) old (with_calls old (Read 0 s.first_sector ∷ [])) new refl s.stops.made;
-    leaves = λ flash found are size m. plan_leaves s.first_sector s.whole s.sized s.has s.fits flash found are size
+    leaves = λ flash found are size m. plan_leaves s.first_sector s.whole s.room.sized s.room.has s.room.fits flash found are size
         (follows_leaves (Read 0 s.first_sector ∷ (s.stops.before ++ s.stops.call ∷ [])) (update_calls old.size s.first_sector stream) flash found
         (inl (refl, stops_follows (calls_after old.size stream (target_in s.first_sector)) (with_calls old (Read 0 s.first_sector ∷ [])) new fault s.stops)) m);
   }
@@ -161,8 +157,8 @@ module _ (stream : List ℕ) (bytes : AreBytes stream) (old new : FlashHistory) 
   -- all was done: it is updated
   pub updated_becomes : (u : HasUpdated stream old new) (flash now : List ℕ) → length flash ≡ old.size → IsHistory (update_calls old.size u.first_sector stream) flash now → IsAfterUpdate stream flash now
   updated_becomes u flash now size h =
-      let t = honest_target u.first_sector flash u.whole u.sized u.has size h.1.1 in
-      update_becomes flash stream (target_in u.first_sector) t (omega (arith, t.update, u.fits, size)) bytes u.first_sector now (subst (λ n. IsHistory (update_calls n u.first_sector stream) flash now) (sym size) h)
+      let t = honest_target u.first_sector flash u.whole u.room.sized u.room.has size h.1.1 in
+      update_becomes flash stream (target_in u.first_sector) t (omega (arith, t.update, u.room.fits, size)) bytes u.first_sector now (subst (λ n. IsHistory (update_calls n u.first_sector stream) flash now) (sym size) h)
 
   -- no byte differs
   pub honest_never_differs : (at wrote read : ℕ) (s : HasStopped stream old new (Differs at wrote read)) (flash now : List ℕ) → length flash ≡ old.size
@@ -170,8 +166,8 @@ module _ (stream : List ℕ) (bytes : AreBytes stream) (old new : FlashHistory) 
   honest_never_differs at wrote read s flash now size h =
       let target = target_in s.first_sector in
       let b = s.stops.breaks in
-      let t = honest_target s.first_sector flash s.whole s.sized s.has size h.1.1 in
-      let done = update_happens flash stream target t (omega (arith, t.update, s.fits, size)) bytes s.first_sector h.1.1 in
+      let t = honest_target s.first_sector flash s.whole s.room.sized s.room.has size h.1.1 in
+      let done = update_happens flash stream target t (omega (arith, t.update, s.room.fits, size)) bytes s.first_sector h.1.1 in
       let plan_of : calls_after (length flash) stream target ≡ s.stops.before ++ Read b.place b.wanted ∷ s.stops.after =
       ap (λ n. calls_after n stream target) size ∙ s.stops.is ∙ ap (λ c. s.stops.before ++ c ∷ s.stops.after) b.is_next in
       let whole : AreWhole (s.stops.before ++ Read b.place b.wanted ∷ s.stops.after) = subst AreWhole plan_of (calls_whole (length flash) s.first_sector stream target) in

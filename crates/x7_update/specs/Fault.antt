@@ -3,7 +3,6 @@ use Rattle.std.specs.Prelude.{◌≡◌, ◌≢◌, ℕ, ◌+◌, ◌-◌, ◌*�
 use Rattle.x7_words.specs.Flash.{FlashFails, FlashState, IfKnown, WriteFails}
 use Rattle.x7_packets.specs.FlashSlot.{flash_slot_size, flash_slot_count}
 use Rattle.x7_update.specs.Layout.{CanStandAt, IsUpdatable, IsUpdatableSize, IsFree, IsOpen, LeadsToUpdate, first_slot, start_word_offset, switch_size, update_place}
-use Rattle.x7_update.specs.Writing.{IsFirstRead, IsReadWrong}
 use Rattle.x7_update.specs.declared.fault.UpdateFault.{UpdateFault}
 use Rattle.x7_update.specs.declared.fault.UpdateFault.TheVariants.{Differs, Failed, NoLayout, NoMemory, TooLong}
 
@@ -72,11 +71,8 @@ HasCause stream old new (Failed false) = FlashFails old new × IsUpdatableSize n
 HasCause stream old new TooLong = IfKnown old.bytes (IsTooLong stream)
 -- a flash whose bytes are known can't be updated, as the place shows
 HasCause stream old new (NoLayout place) = IfKnown old.bytes (λ flash. NoLayoutAt (length flash) flash place)
--- The bytes aren't known. The byte that was read at the place, with no write since, is another than the one written
--- there. It is the first such byte of its piece, which is the stream and FF after it, or the switch word: each byte of
--- the piece before that place was read as it was written, with no write since.
-HasCause stream old new (Differs place wrote read) =
-    (wrong : IsReadWrong new.extent stream place wrote read) × (old.bytes ≡ None) × IsFirstRead new wrong.from wrong.piece place read
+-- the bytes aren't known; which byte was read in the place of which other one the calls say (`IsRefused`)
+HasCause stream old new (Differs place wrote read) = old.bytes ≡ None
 -- want of memory has no cause
 HasCause stream old new NoMemory = Unit {0}
 

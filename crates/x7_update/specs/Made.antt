@@ -4,7 +4,7 @@ use Rattle.x7_packets.specs.FlashSlot.{sector_size}
 use Rattle.x7_words.specs.declared.flash_call.FlashCall.{FlashCall}
 use Rattle.x7_words.specs.declared.flash_call.FlashCall.TheVariants.{Read, ReadFailed, Erased, EraseFailed, Programmed, ProgramFailed}
 use Rattle.x7_words.specs.FlashHistory.{FlashHistory, MayLeave, with_calls}
-use Rattle.x7_update.specs.UpdateCalls.{calls_after, target_in, update_calls}
+use Rattle.x7_update.specs.UpdateCalls.{HasRoom, calls_after, target_in, update_calls}
 use Rattle.x7_update.specs.Layout.{HasSlots, IsUpdatableSize, update_place}
 use Rattle.x7_words.specs.Word.{AreBytes}
 use Rattle.x7_update.specs.After.{MayBeLeft}
@@ -73,18 +73,14 @@ pub record ReadFirst (old new : FlashHistory) (first_sector : List ℕ) : Type 0
 pub record HasUpdated (stream : List ℕ) (old new : FlashHistory) : Type 0 where
   pub first_sector : List ℕ
   pub whole : length first_sector ≡ sector_size
-  pub sized : IsUpdatableSize old.size
-  pub has : HasSlots old.size first_sector
-  pub fits : update_place first_sector + length stream ≤ old.size
+  pub room : HasRoom old.size first_sector stream
   pub made : new ≡ with_calls old (update_calls old.size first_sector stream)
 
 -- a call of an update after the first read ended it
 pub record HasStopped (stream : List ℕ) (old new : FlashHistory) (fault : UpdateFault) : Type 0 where
   pub first_sector : List ℕ
   pub whole : length first_sector ≡ sector_size
-  pub sized : IsUpdatableSize old.size
-  pub has : HasSlots old.size first_sector
-  pub fits : update_place first_sector + length stream ≤ old.size
+  pub room : HasRoom old.size first_sector stream
   pub stops : Stops (calls_after old.size stream (target_in first_sector)) (with_calls old (Read 0 first_sector ∷ [])) new fault
 
 -- the read of the first sector failed

@@ -1,6 +1,6 @@
 -- What a look at the first sector of a flash finds (this project's choice).
 use Rattle.std.specs.Prelude.{◌≡◌, ◌≢◌, ℕ, suc, ◌<◌, ◌≤◌, true, List, length, Option, None, Some}
-use Rattle.x7_words.specs.Flash.{FlashState, IfKnown}
+use Rattle.x7_words.specs.Flash.{FlashState}
 use Rattle.x7_packets.specs.FlashSlot.{sector_size, flash_slot_count}
 use Rattle.x7_update.specs.Layout.{CanStandAt, IsUpdatableSize, HasSlots, IsFree, IsNextFreeSlot, IsOpen, LeadsToUpdate, first_slot, free_switch, open_switch, switch_of, update_place}
 use Rattle.x7_update.specs.Fault.{OpensAgain}
@@ -50,8 +50,7 @@ pub record TargetFits (size : ℕ) (target : UpdateTarget) : Type 0 where
   pub next : target.slots.next < flash_slot_count
   pub opens : WithinSlots target.slots.open_slot
 
--- a flash is attached, and its update goes to this target, which fits its size, and its bytes where these are known
+-- a flash is attached, and its update goes to this target, which fits its size
 pub record HasTarget (state : FlashState) (target : UpdateTarget) : Type 0 where
   pub attached : state.attached ≡ true
   pub fits : TargetFits state.extent target
-  pub finds : IfKnown state.bytes (λ all. IsTargetIn (length all) all target)

@@ -1,9 +1,9 @@
 -- The calls of an update, as a list: each of them, in its order, with the answer that it has where all goes well (this
 -- project's choice).
-use Rattle.std.specs.Prelude.{ℕ, zero, suc, ◌+◌, ◌-◌, ◌*◌, ◌/◌, List, [], ◌∷◌, ◌++◌, Option, None, Some, if◌then◌else◌, length, replicate, slice_range, bytes_eq}
+use Rattle.std.specs.Prelude.{ℕ, zero, suc, ◌+◌, ◌-◌, ◌*◌, ◌/◌, ◌≤◌, List, [], ◌∷◌, ◌++◌, Option, None, Some, if◌then◌else◌, length, replicate, slice_range, bytes_eq}
 use Rattle.x7_words.specs.Flash.{erased_byte, sector_size, sector_place}
 use Rattle.x7_packets.specs.FlashSlot.{flash_slot_size, flash_slot_count}
-use Rattle.x7_update.specs.Layout.{free_switch, open_switch, spent_switch, switch_of, update_place}
+use Rattle.x7_update.specs.Layout.{HasSlots, IsUpdatableSize, free_switch, open_switch, spent_switch, switch_of, update_place}
 use Rattle.x7_words.specs.declared.flash_call.FlashCall.{FlashCall}
 use Rattle.x7_words.specs.declared.flash_call.FlashCall.TheVariants.{Read, Erased, Programmed}
 use Rattle.x7_update.specs.declared.slots.UpdateTarget.{UpdateTarget}
@@ -50,18 +50,33 @@ reading size stream place sector (suc count) =
 abbrev pub sectors_from : ℕ → ℕ → ℕ
 sectors_from place size = size / sector_size - place / sector_size
 
--- the calls up to the last write of the stream
-abbrev pub replacing : ℕ → List ℕ → UpdateTarget → List FlashCall
-replacing size stream target =
-    spending target.slots.open_slot ++ (erasing (target.place / sector_size) (sectors_from target.place size) ++ Programmed target.place stream ∷ [])
-
--- the reads that verify the stream
-abbrev pub verifying : ℕ → List ℕ → UpdateTarget → List FlashCall
-verifying size stream target = reading size stream target.place (target.place / sector_size) (sectors_from target.place size)
-
 -- the next slot is opened, and its switch word is read
 abbrev pub opening : ℕ → List FlashCall
 opening slot = Programmed (flash_slot_size * slot) open_switch ∷ Read (flash_slot_size * slot) open_switch ∷ []
+
+-- all from a place on of a flash of a size is erased
+abbrev pub erasing_from : ℕ → ℕ → List FlashCall
+erasing_from size place = erasing (place / sector_size) (sectors_from place size)
+
+-- all from a place on of a flash of a size is read, and holds what an update with a stream at that place leaves
+abbrev pub reading_from : ℕ → List ℕ → ℕ → List FlashCall
+reading_from size stream place = reading size stream place (place / sector_size) (sectors_from place size)
+
+-- the stream is written at its place, where all from there on is erased before
+abbrev pub writing : ℕ → List ℕ → ℕ → List FlashCall
+writing size stream place = erasing_from size place ++ Programmed place stream ∷ []
+
+-- the calls up to the last write of the stream
+abbrev pub replacing : ℕ → List ℕ → UpdateTarget → List FlashCall
+replacing size stream target = spending target.slots.open_slot ++ writing size stream target.place
+
+-- the reads that verify the stream
+abbrev pub verifying : ℕ → List ℕ → UpdateTarget → List FlashCall
+verifying size stream target = reading_from size stream target.place
+
+-- the reads that verify the stream, and the next slot is opened
+abbrev pub finishing : ℕ → List ℕ → UpdateTarget → List FlashCall
+finishing size stream target = verifying size stream target ++ opening target.slots.next
 
 -- the calls before the next slot is opened
 abbrev pub calls_to_open : ℕ → List ℕ → List ℕ → UpdateTarget → List FlashCall
@@ -78,3 +93,9 @@ calls_to size first_sector stream target = Read 0 first_sector ∷ calls_after s
 -- the calls of an update with a stream of a flash of a size with this first sector
 abbrev pub update_calls : ℕ → List ℕ → List ℕ → List FlashCall
 update_calls size first_sector stream = calls_to size first_sector stream (target_in first_sector)
+
+-- a flash of a size whose first sector is this one has slots as the layout has them, and room for a stream where they lead
+pub record HasRoom (size : ℕ) (first_sector stream : List ℕ) : Type 0 where
+  pub sized : IsUpdatableSize size
+  pub has : HasSlots size first_sector
+  pub fits : update_place first_sector + length stream ≤ size

@@ -1,62 +1,39 @@
--- What the steps of an update do to the flash, what they verify, and why they fail (this project's choice).
+-- What the steps of an update do to the flash, and what they compare (this project's choice).
 use Rattle.std.specs.Prelude.{◌≡◌, ◌≢◌, ℕ, ◌+◌, ◌-◌, ◌*◌, ◌%◌, ◌<◌, ◌≤◌, ◌⊎◌, IsTrue, List, length, get_or, Option, Some, None, nat_lt, if◌then◌else◌, true, false}
-use Rattle.x7_words.specs.Flash.{erased_byte, TimeElapses, FlashFails, FlashState, IfKnown, OnlyWrites, WriteFails}
-use Rattle.x7_words.specs.FlashCalls.{FlashModel}
-use Rattle.x7_words.specs.Word.{AreBytes}
+use Rattle.x7_words.specs.Flash.{erased_byte, names_asked, BecomesBytes, FlashFails, FlashState, OnlyReads, OnlyWrites, WriteFails}
+use Rattle.x7_words.specs.FlashHistory.{FollowsCalls}
 use Rattle.x7_packets.specs.FlashSlot.{sector_size, flash_slot_size, flash_slot_count}
 use Rattle.x7_update.specs.After.{SpendsOpenSlot, IsBetweenSlots, with_switch_word, with_stream}
 use Rattle.x7_update.specs.Layout.{CanStandAt, IsUpdatableSize, open_switch, switch_size, switch_of}
 use Rattle.x7_update.specs.declared.fault.UpdateFault.{UpdateFault}
 use Rattle.x7_update.specs.declared.fault.UpdateFault.TheVariants.{Differs, Failed, NoLayout, NoMemory, TooLong}
 
--- bytes that were known are still known, and in this relation to what they were
-abbrev pub StaysKnown : FlashState → FlashState → (List ℕ → List ℕ → Type 0) → Type 0
-StaysKnown old new Relates = IfKnown old.bytes (λ all. (now : List ℕ) × (new.bytes ≡ Some now) × Relates all now)
-
--- bytes that were known are still known, and in this relation to what they were; bytes that weren't known still aren't
-abbrev pub BecomesBytes : (List ℕ → List ℕ → Type 0) → Option (List ℕ) → Option (List ℕ) → Type 0
-BecomesBytes Relates None new = new ≡ None
-BecomesBytes Relates (Some all) new = (now : List ℕ) × (new ≡ Some now) × Relates all now
-
 -- a flash's bytes that were known are still known, and in this relation to what they were; bytes that weren't known
 -- still aren't
 abbrev pub Becomes : FlashState → FlashState → (List ℕ → List ℕ → Type 0) → Type 0
 Becomes old new Relates = BecomesBytes Relates old.bytes new.bytes
 
--- Bytes that were known at the start stay known; at any moment from one state to the next, and at the end, the bytes
--- are in this relation to them.
-pub record AtAnyMoment (old new : FlashState) (past since : ℕ → List ℕ → Type 0) (Relates : List ℕ → List ℕ → Type 0) : Type 0 where
-  pub leaves : StaysKnown old new Relates
-  pub elapses : TimeElapses old.moments new.moments past since (λ found. IfKnown old.bytes (λ all. Relates all found))
-
--- at any moment of a call, and at its end, the flash's bytes are in this relation to those before the call
-abbrev pub CallAtAnyMoment : {F : Type 0} → FlashModel F → F → F → (List ℕ → List ℕ → Type 0) → Type 0
-CallAtAnyMoment f old new Relates = AtAnyMoment (f.state old) (f.state new) (f.found_since old) (f.found_since new) Relates
-
--- the flash is used: nothing changed but its bytes, what was seen of them, the moment, and the counts of faults and of
--- write faults, which don't fall
+-- the flash is used: nothing changed but its bytes, its calls, and the counts of faults and of write faults, which don't
+-- fall; and it was asked for no name
 pub record OnlyUses (old new : FlashState) : Type 0 where
   pub extent : new.extent ≡ old.extent
   pub attached : new.attached ≡ old.attached
-  pub names : new.names ≡ old.names
+  pub names : names_asked new.calls ≡ names_asked old.calls
   pub absences : new.absences ≡ old.absences
   pub faults : old.faults ≤ new.faults
   pub write_faults : old.write_faults ≤ new.write_faults
 
--- where the flash's content was bytes, so is what is found
-abbrev pub StaysBytes : List ℕ → List ℕ → Type 0
-StaysBytes old found = AreBytes old → AreBytes found
-
--- A step that writes: at any moment the bytes are in this relation to those at its start, and bytes where these were;
--- nothing else changed but what was seen, the moment, and the count of write faults, which doesn't fall.
-pub record IsWriteStep (old new : FlashState) (past since : ℕ → List ℕ → Type 0) (Relates : List ℕ → List ℕ → Type 0) : Type 0 where
-  pub any_moment : AtAnyMoment old new past since Relates
-  pub bytes : AtAnyMoment old new past since StaysBytes
+-- a step that writes: the bytes follow its calls, and nothing else changed but the count of write faults, which doesn't
+-- fall
+pub record IsWriteStep (old new : FlashState) : Type 0 where
+  pub follows : FollowsCalls old new
   pub only : OnlyWrites old new
 
--- a call is a step that writes, at any moment of which the flash's bytes are in this relation to those before the call
-abbrev pub CallWrites : {F : Type 0} → FlashModel F → F → F → (List ℕ → List ℕ → Type 0) → Type 0
-CallWrites f old new Relates = IsWriteStep (f.state old) (f.state new) (f.found_since old) (f.found_since new) Relates
+-- a step that reads: the bytes stay and gave what its calls say, and nothing else changed but the count of faults, which
+-- doesn't fall
+pub record IsReadStep (old new : FlashState) : Type 0 where
+  pub follows : FollowsCalls old new
+  pub only : OnlyReads old new
 
 -- the switch word of a slot can be written: the flash is attached, the slot is one of a first sector, and its switch
 -- word is within the flash
@@ -118,19 +95,14 @@ wanted_at stream_place stream place = if nat_lt (place - stream_place) (length s
 abbrev pub HasWanted : ℕ → List ℕ → List ℕ → Type 0
 HasWanted stream_place stream flash = (place : ℕ) → stream_place ≤ place → place < length flash → get_or flash place 0 ≡ wanted_at stream_place stream place
 
--- an update with a stream can be verified: the flash is attached and of a good size, the stream fits at its place and
--- stands there with FF after it where the bytes are known, and the buffer is of a sector's size
+-- an update with a stream can be verified: the flash is attached and of a good size, the stream fits at its place, and
+-- the buffer is of a sector's size
 pub record CanVerify (state : FlashState) (stream_place : ℕ) (stream buffer : List ℕ) : Type 0 where
   pub attached : state.attached ≡ true
   pub size : IsUpdatableSize state.extent
   pub place : CanStandAt state.extent stream_place
   pub fits : stream_place + length stream ≤ state.extent
-  pub wanted : IfKnown state.bytes (HasWanted stream_place stream)
   pub buffer_is : length buffer ≡ sector_size
-
--- from one place up to another each byte was read as it is wanted, and nothing was written since
-abbrev pub SeesWanted : ℕ → List ℕ → ℕ → ℕ → FlashState → Type 0
-SeesWanted stream_place stream from to state = (place : ℕ) → from ≤ place → place < to → IsTrue (state.seen place (wanted_at stream_place stream place))
 
 -- this many bytes of what was read from a place on are as they are wanted there
 abbrev pub ReadsWantedTo : ℕ → List ℕ → ℕ → List ℕ → ℕ → Type 0
@@ -150,37 +122,11 @@ IsWrong stream_place stream place buffer TooLong = ⊥
 IsWrong stream_place stream place buffer (NoLayout at) = ⊥
 IsWrong stream_place stream place buffer NoMemory = ⊥
 
--- A piece that an update with a stream writes in a flash of a size, from one place on up to another. It is the stream,
--- and FF after it up to the flash's end, from a place on at which the stream can stand and fits; or the switch word of
--- the slot that is opened.
-pub data IsWritten (size : ℕ) (stream piece : List ℕ) (from end : ℕ) : Type 0 where
-  in_stream : CanStandAt size from → from + length stream ≤ size → piece ≡ stream → end ≡ size → IsWritten size stream piece from end
-  in_switch : (slot : ℕ) → slot < flash_slot_count → from ≡ flash_slot_size * slot → piece ≡ open_switch → end ≡ from + switch_size → IsWritten size stream piece from end
-
--- a byte is another than the one that an update with this stream writes at a place of a flash of a good size
-pub record IsReadWrong (size : ℕ) (stream : List ℕ) (place wrote read : ℕ) : Type 0 where
-  pub sized : IsUpdatableSize size
-  pub piece : List ℕ
-  pub from : ℕ
-  pub end : ℕ
-  pub written : IsWritten size stream piece from end
-  pub begun : from ≤ place
-  pub before : place < end
-  pub wants : wrote ≡ wanted_at from piece place
-  pub differs : wrote ≢ read
-
--- a byte was read at a place, and each byte of a piece before that place as it is wanted; with no write since
-pub record IsFirstRead (state : FlashState) (from : ℕ) (piece : List ℕ) (place read : ℕ) : Type 0 where
-  pub seen : IsTrue (state.seen place read)
-  pub wanted : SeesWanted from piece from place state
-
--- why an update with a stream fails once the stream is written: a read or a write failed, or the bytes aren't known and
--- one was read that is another than the one written, the first of its piece that is
-abbrev pub HasLateCause : List ℕ → FlashState → FlashState → UpdateFault → Type 0
-HasLateCause stream old new (Differs at wrote read) =
-    (wrong : IsReadWrong new.extent stream at wrote read) × (old.bytes ≡ None) × IsFirstRead new wrong.from wrong.piece at read
-HasLateCause stream old new (Failed true) = WriteFails old new
-HasLateCause stream old new (Failed false) = FlashFails old new
-HasLateCause stream old new TooLong = ⊥
-HasLateCause stream old new (NoLayout at) = ⊥
-HasLateCause stream old new NoMemory = ⊥
+-- a fault of a read or of a write was counted
+abbrev pub CountsFault : FlashState → FlashState → UpdateFault → Type 0
+CountsFault old new (Failed true) = WriteFails old new
+CountsFault old new (Failed false) = FlashFails old new
+CountsFault old new (Differs at wrote read) = Unit {0}
+CountsFault old new TooLong = Unit {0}
+CountsFault old new (NoLayout at) = Unit {0}
+CountsFault old new NoMemory = Unit {0}

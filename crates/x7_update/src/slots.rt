@@ -1,13 +1,12 @@
 //! A look at the first sector: where the update goes, which slot is open, and which is the next.
 ghost use Rattle.std.specs.Prelude.{◌≡◌, ◌+◌, ◌<◌, ℕ, List, true, length, IfErr, IfOk, IfNone, IfSome};
-ghost use Rattle.x7_words.specs.Flash.{KnownAreBytes};
-ghost use Rattle.x7_words.specs.FlashCalls.{CallOnlyReads};
 ghost use Rattle.x7_words.specs.FlashHistory.{history_of};
 ghost use Rattle.x7_packets.specs.FlashSlot.{sector_size, flash_slot_count};
 ghost use Rattle.x7_update.specs.Layout.{IsUpdatableSize, LeadsToUpdate};
-ghost use Rattle.x7_update.specs.Fault.{DiffersAt, HasCause, IsBadSlotAt, IsGoodSlot, NoLayoutAt, UntouchedUnlessSized};
+ghost use Rattle.x7_update.specs.Fault.{DiffersAt, IsBadSlotAt, IsGoodSlot, NoLayoutAt, UntouchedUnlessSized};
 ghost use Rattle.x7_update.specs.Made.{IsRefused, ReadFirst};
 ghost use Rattle.x7_update.specs.Slots.{IsTargetIn, HasFirstSlot, HasTarget, SlotsAmong};
+ghost use Rattle.x7_update.specs.Writing.{CountsFault, IsReadStep};
 ghost use Rattle.x7_update.specs.declared.fault.UpdateFault.TheVariants.{NoMemory};
 
 use crate::fault::UpdateFault;
@@ -146,11 +145,10 @@ pub(crate) fn find_target<F: Flash>(
     ensures found_in { IfOk result (IsTargetIn (F.state flash.old).extent buffer.new) }
     ensures length { length buffer.new ≡ sector_size }
     ensures refused_calls { (stream : List ℕ) → IfErr result (IsRefused stream (history_of (F.state flash.old)) (history_of (F.state flash.new))) }
-    ensures refused { (stream : List ℕ) → IfErr result (HasCause stream (F.state flash.old) (F.state flash.new)) }
+    ensures counted { IfErr result (CountsFault (F.state flash.old) (F.state flash.new)) }
     ensures memory { IfErr result (λ fault. fault ≡ NoMemory → ⊥) }
     ensures bad_size { UntouchedUnlessSized (F.state flash.old) (F.state flash.new) }
-    ensures bytes { KnownAreBytes (F.state flash.old) }
-    ensures only_reads { CallOnlyReads F.Flash flash.old flash.new }
+    ensures reads { IsReadStep (F.state flash.old) (F.state flash.new) }
 {
     let size = flash.size();
     if !has_size(size) {

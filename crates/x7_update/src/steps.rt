@@ -1,17 +1,15 @@
 //! The steps of an update, in their order: look, spend the open slot, write, verify, open the next.
-ghost use Rattle.std.specs.Prelude.{◌≡◌, ◌+◌, ◌*◌, ◌<◌, ◌≤◌, ◌⊎◌, ◌++◌, ℕ, List, true, length, IfErr, OnOk, OnErr, option_map};
-ghost use Rattle.x7_words.specs.Flash.{IfKnown, SeesBytes, WriteFails};
-ghost use Rattle.x7_words.specs.FlashCalls.{CallOnlyReads};
-ghost use Rattle.x7_words.specs.FlashHistory.{history_of, with_calls};
-ghost use Rattle.x7_packets.specs.FlashSlot.{flash_slot_size, flash_slot_count};
-ghost use Rattle.x7_update.specs.After.{SpendsOpenSlot, IsAfterUpdate, MayBeLeft, with_switch_word};
-ghost use Rattle.x7_update.specs.Layout.{IsUpdatable, HasNoOpenSlot, IsFree, open_switch};
-ghost use Rattle.x7_update.specs.Verified.{AllVerified, OpensVerified, WasReady};
+ghost use Rattle.std.specs.Prelude.{◌≡◌, ◌+◌, ◌<◌, ◌≤◌, true, length, IfErr, OnOk, OnErr};
+ghost use Rattle.x7_words.specs.Flash.{IfKnown, OnlyReads, WriteFails};
+ghost use Rattle.x7_words.specs.FlashHistory.{FollowsCalls, history_of, with_calls};
+ghost use Rattle.x7_packets.specs.FlashSlot.{flash_slot_count};
+ghost use Rattle.x7_update.specs.After.{IsAfterUpdate};
+ghost use Rattle.x7_update.specs.Layout.{IsUpdatable};
 ghost use Rattle.x7_update.specs.Fault.{HasNoCause, HasCause, IsEarly, UntouchedForWant, UntouchedUnlessSized};
 ghost use Rattle.x7_update.specs.Slots.{HasTarget, TargetFits};
-ghost use Rattle.x7_update.specs.UpdateCalls.{opening, replacing, spending, verifying};
+ghost use Rattle.x7_update.specs.UpdateCalls.{finishing, replacing, spending};
 ghost use Rattle.x7_update.specs.Made.{HasUpdated, IsRefused, LeavesAny, Stops, write_failed};
-ghost use Rattle.x7_update.specs.Writing.{Becomes, CanVerify, HasLateCause, OnlyUses, OpeningSlot, UpdateReplaced, ReplacingUpdate, StaysBytes, CallWrites, CallAtAnyMoment};
+ghost use Rattle.x7_update.specs.Writing.{Becomes, CanVerify, CountsFault, IsWriteStep, OnlyUses};
 ghost use Rattle.x7_update.specs.declared.fault.UpdateFault.TheVariants.{NoMemory};
 
 use crate::fault::UpdateFault;
@@ -25,10 +23,9 @@ use x7_words::{Failed, Flash, SECTOR_SIZE};
 /// Spends the open slot, if there is one.
 fn spend_open_slot<F: Flash>(flash: &mut F, target: UpdateTarget) -> Result<(), Failed>
     requires { HasTarget (F.state flash.old) target }
-    ensures spent { OnOk result (Becomes (F.state flash.old) (F.state flash.new) SpendsOpenSlot) }
     ensures spent_calls { OnOk result (history_of (F.state flash.new) ≡ with_calls (history_of (F.state flash.old)) (spending target.slots.open_slot)) }
     ensures failed_calls { OnErr result (Stops (spending target.slots.open_slot) (history_of (F.state flash.old)) (history_of (F.state flash.new)) write_failed) }
-    ensures writes { CallWrites F.Flash flash.old flash.new ReplacingUpdate }
+    ensures writes { IsWriteStep (F.state flash.old) (F.state flash.new) }
     ensures failed { OnErr result (WriteFails (F.state flash.old) (F.state flash.new)) }
 {
     match target.slots.open_slot {
@@ -41,10 +38,9 @@ fn spend_open_slot<F: Flash>(flash: &mut F, target: UpdateTarget) -> Result<(), 
 fn replace<F: Flash>(flash: &mut F, target: UpdateTarget, stream: &[u8]) -> Result<(), Failed>
     requires found { HasTarget (F.state flash.old) target }
     requires stream { target.place + length stream.now ≤ (F.state flash.old).extent }
-    ensures replaced { OnOk result (Becomes (F.state flash.old) (F.state flash.new) (UpdateReplaced target.place stream.now)) }
     ensures replaced_calls { OnOk result (history_of (F.state flash.new) ≡ with_calls (history_of (F.state flash.old)) (replacing (F.state flash.old).extent stream.now target)) }
     ensures failed_calls { OnErr result (Stops (replacing (F.state flash.old).extent stream.now target) (history_of (F.state flash.old)) (history_of (F.state flash.new)) write_failed) }
-    ensures writes { CallWrites F.Flash flash.old flash.new ReplacingUpdate }
+    ensures writes { IsWriteStep (F.state flash.old) (F.state flash.new) }
     ensures failed { OnErr result (WriteFails (F.state flash.old) (F.state flash.new)) }
 {
     spend_open_slot(flash, target)?;
@@ -61,18 +57,10 @@ fn verify_and_open<F: Flash>(
     requires written { CanVerify (F.state flash.old) target.place stream.now buffer.old }
     requires target { TargetFits (F.state flash.old).extent target }
     requires next { target.slots.next < flash_slot_count }
-    requires free { IfKnown (F.state flash.old).bytes (λ all. IsFree all target.slots.next) }
-    requires none_open { IfKnown (F.state flash.old).bytes HasNoOpenSlot }
-    ensures opened { OnOk result ((F.state flash.new).bytes ≡ option_map (with_switch_word target.slots.next open_switch) (F.state flash.old).bytes) }
-    ensures any_moment { CallAtAnyMoment F.Flash flash.old flash.new (OpeningSlot target.slots.next) }
-    ensures stays_bytes { CallAtAnyMoment F.Flash flash.old flash.new StaysBytes }
-    ensures opened_calls { OnOk result (history_of (F.state flash.new) ≡ with_calls (history_of (F.state flash.old))
-        (verifying (F.state flash.old).extent stream.now target ++ opening target.slots.next)) }
-    ensures fault_calls { IfErr result (Stops (verifying (F.state flash.old).extent stream.now target ++ opening target.slots.next) (history_of (F.state flash.old)) (history_of (F.state flash.new))) }
-    ensures was_ready { OnOk result (WasReady F.state target.place stream.now (F.state flash.new)) }
-    ensures seen { OnOk result (SeesBytes (F.state flash.new) (flash_slot_size * target.slots.next) open_switch) }
-    ensures opens { CallAtAnyMoment F.Flash flash.old flash.new (λ all found. (found ≡ all) ⊎ WasReady F.state target.place stream.now (F.state flash.new)) }
-    ensures fault { IfErr result (HasLateCause stream.now (F.state flash.old) (F.state flash.new)) }
+    ensures opened_calls { OnOk result (history_of (F.state flash.new) ≡ with_calls (history_of (F.state flash.old)) (finishing (F.state flash.old).extent stream.now target)) }
+    ensures fault_calls { IfErr result (Stops (finishing (F.state flash.old).extent stream.now target) (history_of (F.state flash.old)) (history_of (F.state flash.new))) }
+    ensures counted { IfErr result (CountsFault (F.state flash.old) (F.state flash.new)) }
+    ensures follows { FollowsCalls (F.state flash.old) (F.state flash.new) }
     ensures only_uses { OnlyUses (F.state flash.old) (F.state flash.new) }
 {
     verify_stream(flash, target.place, stream, buffer)?;
@@ -86,24 +74,20 @@ fn verify_and_open<F: Flash>(
 /// Updates a flash with a stream: the open slot is spent, the stream is written at its place with FF after it and
 /// verified, and the next slot is opened.
 ///
-/// Power may be lost at any moment. What is found then is the flash as it was, or a flash without an open slot, whose
-/// golden stream stands, or the updated flash. `HasCause` tells why an update is refused.
+/// `HasUpdated` lists the calls of a finished update. Power may be lost at any moment: of a flash that gives what was
+/// written, what is found then is the flash as it was, or a flash without an open slot, whose golden stream stands, or
+/// the updated flash (`LeavesAny`). `IsRefused` tells by the calls why an update is refused, and `HasCause` by the counts.
 pub fn update<F: Flash>(alloc: Global, flash: &mut F, stream: &[u8]) -> Result<(), UpdateFault>
     requires { (F.state flash.old).attached ≡ true }
     ensures updated_calls { OnOk result (HasUpdated stream.now (history_of (F.state flash.old)) (history_of (F.state flash.new))) }
     ensures refused_calls { IfErr result (IsRefused stream.now (history_of (F.state flash.old)) (history_of (F.state flash.new))) }
     ensures left { LeavesAny stream.now (history_of (F.state flash.old)) (history_of (F.state flash.new)) }
+    ensures follows { FollowsCalls (F.state flash.old) (F.state flash.new) }
     ensures updated { OnOk result (Becomes (F.state flash.old) (F.state flash.new) (IsAfterUpdate stream.now)) }
     ensures updatable { OnOk result (IfKnown (F.state flash.old).bytes IsUpdatable) }
-    ensures found { (found : List ℕ) → F.found_since flash.new (F.state flash.old).moments found →
-        IfKnown (F.state flash.old).bytes (λ all. MayBeLeft stream.now all found) }
-    ensures any_moment { CallAtAnyMoment F.Flash flash.old flash.new (MayBeLeft stream.now) }
-    ensures verified { OnOk result (AllVerified F.state stream.now (F.state flash.old) (F.state flash.new)) }
-    ensures opens { CallAtAnyMoment F.Flash flash.old flash.new (OpensVerified F.state stream.now (F.state flash.old) (F.state flash.new)) }
     ensures refused { IfErr result (HasCause stream.now (F.state flash.old) (F.state flash.new)) }
     ensures complete { IfErr result (λ fault. HasNoCause stream.now (F.state flash.old) (F.state flash.new) → fault ≡ NoMemory) }
-    ensures unchanged { IfErr result (λ fault. IsEarly fault →
-        CallOnlyReads F.Flash flash.old flash.new) }
+    ensures unchanged { IfErr result (λ fault. IsEarly fault → OnlyReads (F.state flash.old) (F.state flash.new)) }
     ensures no_memory { IfErr result (UntouchedForWant (F.state flash.old) (F.state flash.new)) }
     ensures bad_size { UntouchedUnlessSized (F.state flash.old) (F.state flash.new) }
     ensures only_uses { OnlyUses (F.state flash.old) (F.state flash.new) }

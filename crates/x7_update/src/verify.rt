@@ -1,14 +1,12 @@
 //! What an update has written is verified: read again and compared.
-ghost use Rattle.std.specs.Prelude.{◌≡◌, ◌+◌, ◌*◌, ◌/◌, ◌<◌, ◌≤◌, ◌^◌, ℕ, List, [], ◌∷◌, true, length, IfErr, OnOk};
-ghost use Rattle.x7_words.specs.Flash.{IfKnown, SeesBytes};
-ghost use Rattle.x7_words.specs.FlashCalls.{CallOnlyReads};
-ghost use Rattle.x7_packets.specs.FlashSlot.{sector_size, flash_slot_size, flash_slot_count};
-ghost use Rattle.x7_update.specs.Layout.{IsUpdatableSize, IsOpen, open_switch};
+ghost use Rattle.std.specs.Prelude.{◌≡◌, ◌+◌, ◌*◌, ◌<◌, ◌≤◌, ◌^◌, ℕ, [], ◌∷◌, true, length, IfErr, OnOk};
 ghost use Rattle.x7_words.specs.FlashHistory.{CallsFor, history_of, with_calls};
 ghost use Rattle.x7_words.specs.declared.flash_call.FlashCall.TheVariants.{Read};
-ghost use Rattle.x7_update.specs.UpdateCalls.{reading, sectors_from};
+ghost use Rattle.x7_packets.specs.FlashSlot.{sector_size, flash_slot_size, flash_slot_count};
+ghost use Rattle.x7_update.specs.Layout.{IsUpdatableSize, open_switch};
+ghost use Rattle.x7_update.specs.UpdateCalls.{reading, reading_from};
 ghost use Rattle.x7_update.specs.Made.{Stops};
-ghost use Rattle.x7_update.specs.Writing.{CanVerify, HasLateCause, IsWrong, ReadsWanted, SeesWanted, wanted_at};
+ghost use Rattle.x7_update.specs.Writing.{CanVerify, CountsFault, IsReadStep, IsWrong, ReadsWanted, wanted_at};
 
 use crate::fault::UpdateFault;
 use crate::layout::OPEN_SWITCH;
@@ -56,13 +54,10 @@ pub(crate) fn verify_stream<F: Flash>(
     buffer: &mut [u8],
 ) -> Result<(), UpdateFault>
     requires { CanVerify (F.state flash.old) stream_place stream.now buffer.old }
-    ensures seen { OnOk result (SeesWanted stream_place stream.now stream_place (F.state flash.old).extent (F.state flash.new)) }
-    ensures verified_calls { OnOk result (history_of (F.state flash.new) ≡ with_calls (history_of (F.state flash.old))
-        (reading (F.state flash.old).extent stream.now stream_place (stream_place / sector_size) (sectors_from stream_place (F.state flash.old).extent))) }
-    ensures fault_calls { IfErr result (Stops (reading (F.state flash.old).extent stream.now stream_place (stream_place / sector_size) (sectors_from stream_place (F.state flash.old).extent))
-        (history_of (F.state flash.old)) (history_of (F.state flash.new))) }
-    ensures fault { IfErr result (HasLateCause stream.now (F.state flash.old) (F.state flash.new)) }
-    ensures only_reads { CallOnlyReads F.Flash flash.old flash.new }
+    ensures verified_calls { OnOk result (history_of (F.state flash.new) ≡ with_calls (history_of (F.state flash.old)) (reading_from (F.state flash.old).extent stream.now stream_place)) }
+    ensures fault_calls { IfErr result (Stops (reading_from (F.state flash.old).extent stream.now stream_place) (history_of (F.state flash.old)) (history_of (F.state flash.new))) }
+    ensures counted { IfErr result (CountsFault (F.state flash.old) (F.state flash.new)) }
+    ensures reads { IsReadStep (F.state flash.old) (F.state flash.new) }
 {
     for sector in stream_place / SECTOR_SIZE..flash.size() / SECTOR_SIZE {
         verify_sector(flash, sector, stream_place, stream, buffer)?;
@@ -70,8 +65,7 @@ pub(crate) fn verify_stream<F: Flash>(
     Ok(())
 }
 
-/// Reads a sector of the update, and compares it with the stream and FF after it. The sectors from the stream's place
-/// up to `sector`, which isn't one of them, were verified before.
+/// Reads a sector of the update, and compares it with the stream and FF after it.
 fn verify_sector<F: Flash>(
     flash: &mut F,
     sector: u64,
@@ -82,12 +76,10 @@ fn verify_sector<F: Flash>(
     requires written { CanVerify (F.state flash.old) stream_place stream.now buffer.old }
     requires within { sector * sector_size + sector_size ≤ (F.state flash.old).extent }
     requires after { stream_place ≤ sector * sector_size }
-    requires before { SeesWanted stream_place stream.now stream_place (sector * sector_size) (F.state flash.old) }
-    ensures seen { OnOk result (SeesWanted stream_place stream.now stream_place (sector * sector_size + sector_size) (F.state flash.new)) }
     ensures verified_calls { OnOk result (history_of (F.state flash.new) ≡ with_calls (history_of (F.state flash.old)) (reading (F.state flash.old).extent stream.now stream_place sector 1)) }
     ensures fault_calls { IfErr result (Stops (reading (F.state flash.old).extent stream.now stream_place sector 1) (history_of (F.state flash.old)) (history_of (F.state flash.new))) }
-    ensures fault { IfErr result (HasLateCause stream.now (F.state flash.old) (F.state flash.new)) }
-    ensures only_reads { CallOnlyReads F.Flash flash.old flash.new }
+    ensures counted { IfErr result (CountsFault (F.state flash.old) (F.state flash.new)) }
+    ensures reads { IsReadStep (F.state flash.old) (F.state flash.new) }
     ensures length { length buffer.new ≡ sector_size }
 {
     let Ok(()) = flash.read_at(sector * SECTOR_SIZE, buffer) else {
@@ -101,18 +93,15 @@ fn verify_sector<F: Flash>(
     )
 }
 
-/// Reads the switch word of the slot of this number, which was opened, and compares it with that of an open slot. The
-/// fault doesn't depend on the update's stream, so it is one of an update with any stream.
+/// Reads the switch word of the slot of this number, and compares it with that of an open slot.
 pub(crate) fn verify_switch<F: Flash>(flash: &mut F, slot: u64) -> Result<(), UpdateFault>
     requires attached { (F.state flash.old).attached ≡ true }
     requires size { IsUpdatableSize (F.state flash.old).extent }
     requires slot { slot < flash_slot_count }
-    requires opened { IfKnown (F.state flash.old).bytes (λ all. IsOpen all slot) }
-    ensures seen { OnOk result (SeesBytes (F.state flash.new) (flash_slot_size * slot) open_switch) }
     ensures verified_calls { OnOk result (CallsFor (Read (flash_slot_size * slot) open_switch) (F.state flash.old) (F.state flash.new)) }
     ensures fault_calls { IfErr result (Stops (Read (flash_slot_size * slot) open_switch ∷ []) (history_of (F.state flash.old)) (history_of (F.state flash.new))) }
-    ensures fault { (stream : List ℕ) → IfErr result (HasLateCause stream (F.state flash.old) (F.state flash.new)) }
-    ensures only_reads { CallOnlyReads F.Flash flash.old flash.new }
+    ensures counted { IfErr result (CountsFault (F.state flash.old) (F.state flash.new)) }
+    ensures reads { IsReadStep (F.state flash.old) (F.state flash.new) }
 {
     let mut word = [0; 4];
     let Ok(()) = flash.read_at(FLASH_SLOT_SIZE * slot, &mut word) else {

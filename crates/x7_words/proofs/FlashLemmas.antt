@@ -1,11 +1,15 @@
 -- Lemmas on a flash's bytes and on what a write leaves of them, for the crates that write a flash.
-use Rattle.std.proofs.Common.{◌≡◌, ℕ, zero, suc, ◌+◌, ◌-◌, ◌^◌, ◌<◌, ◌≤◌, ◌⊎◌, inl, inr, ⊎_elim, List, [], ◌∷◌, ◌++◌, length, get_or, take, drop, slice_range, refl, ap, sym, subst, ◌∙◌, arith, length-append, length-drop, take-append-drop, bit_and}
+use Rattle.std.proofs.Common.{◌≡◌, ℕ, zero, suc, ◌+◌, ◌-◌, ◌^◌, ◌<◌, ◌≤◌, ◌⊎◌, inl, inr, ⊎_elim, List, [], ◌∷◌, ◌++◌, length, get_or, take, drop, slice_range, refl, ap, sym, subst, ◌∙◌, arith, Result, Ok, Err, OnOk, OnErr, length-append, length-drop, take-append-drop, bit_and}
 use Rattle.std.specs.Int.{bit_at}
 use Rattle.std.proofs.lemmas.Bool.{cases_lt}
 use Rattle.std.proofs.lemmas.List.{length-take-le, length-replicate, get_or_append_left, get_or-append_right, get_or-take, get_or-drop, get_or-replicate, ext_get_or}
 use Rattle.std.proofs.lemmas.Nat.{and_mask}
 use Rattle.std.proofs.lemmas.Nat.Bits.{bit_at_above, bit_at_and, bit_at_ones, bit_at_ones_above, bit_at-lt, same_from_bits}
-use Rattle.x7_words.specs.Flash.{FlashState, OnlyReads, WritesNothing, folded_sector_size, erased_sector, replaced, cleared, zip_with, IsTorn, TimeElapses}
+use Rattle.x7_words.specs.Flash.{FlashState, OnlyReads, folded_sector_size, erased_sector, names_asked, replaced, cleared, zip_with, IsTorn}
+use Rattle.x7_words.specs.FlashHistory.{CallsFor, attach_call}
+use Rattle.x7_words.specs.declared.flash_call.FlashCall.{FlashCall}
+use Rattle.x7_words.specs.declared.flash_call.FlashCall.TheVariants.{Attached, NotAttached, Read, ReadFailed, Erased, EraseFailed, Programmed, ProgramFailed}
+use Rattle.x7_words.specs.declared.input.SelectFault.{SelectFault}
 use Rattle.x7_words.specs.Word.{AreBytes}
 use Rattle.x7_words.proofs.ListLemmas.{all_append, all_back, all_from_places, all_take}
 use Rattle.x7_words.proofs.ZipLemmas.{length_zip_with}
@@ -169,65 +173,53 @@ bytes_replaced place piece all p h =
     all_append (λ b. b < 256) (take place all) (piece ++ drop (place + length piece) all) (all_take (λ b. b < 256) place all h)
     (all_append (λ b. b < 256) piece (drop (place + length piece) all) p (bytes_drop (place + length piece) all h))
 
--- ---- moments: one call after another
-
--- before the first call
-pub elapses_none : (now : ℕ) (since : ℕ → List ℕ → Type 0) (within : List ℕ → Type 0) → TimeElapses now now since since within
-elapses_none now since within = record { later = omega arith; nothing_else = λ moment found le had. inl had; keeps = λ moment found le had. had }
-
--- one call more, within which what may be found is of the same kind
-pub elapses_on : (first mid last : ℕ) (past mids since : ℕ → List ℕ → Type 0) (within next : List ℕ → Type 0) → TimeElapses first mid past mids within → TimeElapses mid last mids since next
-    → ((found : List ℕ) → next found → within found) → TimeElapses first last past since within
-elapses_on first mid last past mids since within next a b weaker = record {
-  later = omega (arith, a.later, b.later);
-  nothing_else = λ moment found le had. ⊎_elim (λ m. a.nothing_else moment found le m) (λ n. inr (weaker found n)) (b.nothing_else moment found (omega (arith, le, a.later)) had);
-  keeps = λ moment found le had. b.keeps moment found (omega (arith, le, a.later)) (a.keeps moment found le had);
-}
-
--- what elapses within a fact elapses within a weaker one
-pub elapses_weaker : (first last : ℕ) (past since : ℕ → List ℕ → Type 0) (within wider : List ℕ → Type 0) → TimeElapses first last past since within → ((found : List ℕ) → within found → wider found) → TimeElapses first last past since wider
-elapses_weaker first last past since within wider a weaker = record {
-  later = a.later;
-  nothing_else = λ moment found le had. ⊎_elim (λ m. inl m) (λ n. inr (weaker found n)) (a.nothing_else moment found le had);
-  keeps = a.keeps;
-}
-
--- a call that writes nothing
-pub elapses_unwritten : (first : ℕ) (mid last : FlashState) (past mids since : ℕ → List ℕ → Type 0) (within : List ℕ → Type 0) → TimeElapses first mid.moments past mids within → WritesNothing mid last mids since → TimeElapses first last.moments past since within
-elapses_unwritten first mid last past mids since within a b = record {
-  later = omega (arith, a.later, b.moments);
-  nothing_else = λ moment found le had. a.nothing_else moment found le (b.nothing_else moment found had);
-  keeps = λ moment found le had. b.keeps moment found (a.keeps moment found le had);
-}
-
--- ---- calls that write nothing
-
--- before the first call
-pub unwritten_at : (s : FlashState) (since : ℕ → List ℕ → Type 0) → WritesNothing s s since since
-unwritten_at s since = record { write_faults = refl; moments = refl; nothing_else = λ moment found had. had; keeps = λ moment found had. had }
-
--- one call and then another
-pub unwritten_on : (a b c : FlashState) (past mids since : ℕ → List ℕ → Type 0) → WritesNothing a b past mids → WritesNothing b c mids since → WritesNothing a c past since
-unwritten_on a b c past mids since p q = record {
-  write_faults = q.write_faults ∙ p.write_faults;
-  moments = q.moments ∙ p.moments;
-  nothing_else = λ moment found had. p.nothing_else moment found (q.nothing_else moment found had);
-  keeps = λ moment found had. q.keeps moment found (p.keeps moment found had);
-}
+-- ---- calls that only read
 
 -- where nothing was read, nothing changed
-pub reads_at : (s : FlashState) (since : ℕ → List ℕ → Type 0) → OnlyReads s s since since
-reads_at s since = record { bytes = refl; extent = refl; attached = refl; names = refl; seen = λ place byte h. h; faults = omega arith; absences = refl; unwritten = unwritten_at s since }
+pub reads_at : (s : FlashState) → OnlyReads s s
+reads_at s = record { bytes = refl; extent = refl; attached = refl; names = refl; faults = omega arith; absences = refl; write_faults = refl }
 
 -- one read and then another
-pub reads_on : (a b c : FlashState) (past mids since : ℕ → List ℕ → Type 0) → OnlyReads a b past mids → OnlyReads b c mids since → OnlyReads a c past since
-reads_on a b c past mids since p q = record {
+pub reads_on : (a b c : FlashState) → OnlyReads a b → OnlyReads b c → OnlyReads a c
+reads_on a b c p q = record {
   bytes = q.bytes ∙ p.bytes;
   extent = q.extent ∙ p.extent;
   attached = q.attached ∙ p.attached;
   names = q.names ∙ p.names;
-  seen = λ place byte h. q.seen place byte (p.seen place byte h);
   faults = omega (arith, p.faults, q.faults);
   absences = q.absences ∙ p.absences;
-  unwritten = unwritten_on a b c past mids since p.unwritten q.unwritten;
+  write_faults = q.write_faults ∙ p.write_faults;
 }
+
+-- ---- the names that calls ask for
+
+-- a call that attaches nothing asks for no name
+pub asks_none : (calls : List FlashCall) (call : FlashCall) → names_asked (call ∷ []) ≡ [] → names_asked (calls ++ call ∷ []) ≡ names_asked calls
+asks_none [] call none = none
+asks_none (Attached name size ∷ calls) call none = ap (λ names. name ∷ names) (asks_none calls call none)
+asks_none (NotAttached name fault ∷ calls) call none = ap (λ names. name ∷ names) (asks_none calls call none)
+asks_none (Read place bytes ∷ calls) call none = asks_none calls call none
+asks_none (ReadFailed place count ∷ calls) call none = asks_none calls call none
+asks_none (Erased sector ∷ calls) call none = asks_none calls call none
+asks_none (EraseFailed sector ∷ calls) call none = asks_none calls call none
+asks_none (Programmed place given ∷ calls) call none = asks_none calls call none
+asks_none (ProgramFailed place given ∷ calls) call none = asks_none calls call none
+
+-- an attach asks for its name
+pub asks_name : (calls : List FlashCall) (name : List ℕ) (size : ℕ) (answer : Result (Unit {0}) SelectFault) → names_asked (calls ++ attach_call name size answer ∷ []) ≡ names_asked calls ++ name ∷ []
+asks_name [] name size (Ok done) = refl
+asks_name [] name size (Err fault) = refl
+asks_name (Attached other count ∷ calls) name size answer = ap (λ names. other ∷ names) (asks_name calls name size answer)
+asks_name (NotAttached other fault ∷ calls) name size answer = ap (λ names. other ∷ names) (asks_name calls name size answer)
+asks_name (Read place bytes ∷ calls) name size answer = asks_name calls name size answer
+asks_name (ReadFailed place count ∷ calls) name size answer = asks_name calls name size answer
+asks_name (Erased sector ∷ calls) name size answer = asks_name calls name size answer
+asks_name (EraseFailed sector ∷ calls) name size answer = asks_name calls name size answer
+asks_name (Programmed place given ∷ calls) name size answer = asks_name calls name size answer
+asks_name (ProgramFailed place given ∷ calls) name size answer = asks_name calls name size answer
+
+-- a call that attaches nothing, whatever it answers, asks for no name
+pub answer_asks_none : {A E : Type 0} → (answer : Result A E) (done failed : FlashCall) (old new : FlashState) → names_asked (done ∷ []) ≡ [] → names_asked (failed ∷ []) ≡ []
+    → OnOk answer (CallsFor done old new) → OnErr answer (CallsFor failed old new) → names_asked new.calls ≡ names_asked old.calls
+answer_asks_none (Ok value) done failed old new d f is none = ap (λ h. names_asked h.calls) is ∙ asks_none old.calls done d
+answer_asks_none (Err error) done failed old new d f none is = ap (λ h. names_asked h.calls) is ∙ asks_none old.calls failed f

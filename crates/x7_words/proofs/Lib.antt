@@ -1,6 +1,7 @@
 pub mod CaseLemmas
 pub mod CountLemmas
 pub mod FlashLemmas
+pub mod FollowLemmas
 pub mod InputLemmas
 pub mod ListLemmas
 pub mod SinkLemmas

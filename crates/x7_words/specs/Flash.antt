@@ -1,11 +1,12 @@
 -- A flash's bytes, which may be known or not, and what a write does to them (this project's choice).
 -- A file's bytes are not known: no clause says what a file of the system holds. Those of a flash in memory are known.
-use Rattle.std.specs.Prelude.{◌≡◌, ◌≤◌, ◌<◌, ◌^◌, ◌+◌, ◌*◌, ◌⊎◌, ℕ, Bool, IsTrue, List, [], ◌∷◌, length, get_or, replicate, slice_range, bit_and, Option, None, Some}
+use Rattle.std.specs.Prelude.{◌≡◌, ◌≤◌, ◌<◌, ◌^◌, ◌+◌, ◌*◌, ◌⊎◌, ℕ, Bool, List, [], ◌∷◌, length, get_or, replicate, slice_range, bit_and, Option, None, Some}
 use Rattle.std.specs.Int.{bit_at}
 use Rattle.std.specs.List.{splice}
 use Rattle.x7_words.specs.Count.{HasRisen}
 use Rattle.x7_words.specs.Word.{AreBytes}
 use Rattle.x7_words.specs.declared.flash_call.FlashCall.{FlashCall}
+use Rattle.x7_words.specs.declared.flash_call.FlashCall.TheVariants.{Attached, NotAttached}
 use Rattle.x7_words.specs.declared.input.SelectFault.{SelectFault}
 use Rattle.x7_words.specs.declared.input.SelectFault.TheVariants.{Missing, Failed}
 
@@ -37,18 +38,12 @@ pub record FlashState : Type 0 where
   pub extent : ℕ
   -- whether the flash is attached
   pub attached : Bool
-  -- the names that the flash may have been asked for; every name, where it keeps none
-  pub names : List ℕ → Bool
-  -- whether a byte may have been read at a place since the last write; any byte, where reads aren't kept
-  pub seen : ℕ → ℕ → Bool
   -- how often an attach or a read has failed
   pub faults : ℕ
   -- how often the name was missing
   pub absences : ℕ
   -- how often an erase or a program has failed
   pub write_faults : ℕ
-  -- how many moments have passed: the number of the present one, which doesn't fall
-  pub moments : ℕ
   -- the calls so far with their answers, the newest last
   pub calls : List FlashCall
 
@@ -67,41 +62,29 @@ KnownAreBytes state = IfKnown state.bytes AreBytes
 
 -- ---- attaching and reading
 
--- the bytes `read` are seen from the place on: each may have been read there, with no write since
-abbrev pub SeesBytes : FlashState → ℕ → List ℕ → Type 0
-SeesBytes state place read = (i : ℕ) → i < length read → IsTrue (state.seen (place + i) (get_or read i 0))
+-- the names under which a flash was asked for by these calls, the newest last
+abbrev pub names_asked : List FlashCall → List (List ℕ)
+names_asked [] = []
+names_asked (Attached name size ∷ calls) = name ∷ names_asked calls
+names_asked (NotAttached name fault ∷ calls) = name ∷ names_asked calls
+names_asked (call ∷ calls) = names_asked calls
 
--- No time passed, nothing was written and no write failed: after a power loss since any moment the same bytes may be
--- found after a call as before it.
-pub record WritesNothing (old new : FlashState) (found_before found_after : ℕ → List ℕ → Type 0) : Type 0 where
-  pub write_faults : new.write_faults ≡ old.write_faults
-  pub moments : new.moments ≡ old.moments
-  pub nothing_else : (moment : ℕ) (found : List ℕ) → found_after moment found → found_before moment found
-  pub keeps : (moment : ℕ) (found : List ℕ) → found_before moment found → found_after moment found
-
--- the bytes stay, nothing was written, and the counts of faults and of absences do not fall
-pub record KeepsBytes (old new : FlashState) (found_before found_after : ℕ → List ℕ → Type 0) : Type 0 where
+-- the bytes stay, no write failed, and the counts of faults and of absences do not fall
+pub record KeepsBytes (old new : FlashState) : Type 0 where
   pub bytes : new.bytes ≡ old.bytes
   pub faults : old.faults ≤ new.faults
   pub absences : old.absences ≤ new.absences
-  pub unwritten : WritesNothing old new found_before found_after
+  pub write_faults : new.write_faults ≡ old.write_faults
 
--- nothing was written, what was seen stays so and more may be, and nothing else changed but the count of faults, which
--- does not fall
-pub record OnlyReads (old new : FlashState) (found_before found_after : ℕ → List ℕ → Type 0) : Type 0 where
+-- nothing changed but the calls and the count of faults, which does not fall; and the flash was asked for no name
+pub record OnlyReads (old new : FlashState) : Type 0 where
   pub bytes : new.bytes ≡ old.bytes
   pub extent : new.extent ≡ old.extent
   pub attached : new.attached ≡ old.attached
-  pub names : new.names ≡ old.names
-  pub seen : (place byte : ℕ) → IsTrue (old.seen place byte) → IsTrue (new.seen place byte)
+  pub names : names_asked new.calls ≡ names_asked old.calls
   pub faults : old.faults ≤ new.faults
   pub absences : new.absences ≡ old.absences
-  pub unwritten : WritesNothing old new found_before found_after
-
--- the flash was asked for this name, and for no other one since
-pub record FlashIsAskedFor (old : FlashState) (name : List ℕ) (new : FlashState) : Type 0 where
-  pub asked : IsTrue (new.names name)
-  pub no_other : (other : List ℕ) → IsTrue (new.names other) → IsTrue (old.names other) ⊎ (other ≡ name)
+  pub write_faults : new.write_faults ≡ old.write_faults
 
 -- the counts of faults and of absences fit a u64
 abbrev pub FlashCountsFit : FlashState → Type 0
@@ -155,27 +138,21 @@ pub record IsTorn (place : ℕ) (target old found : List ℕ) : Type 0 where
       (bit_at (get_or found (place + i) 0) bit ≡ bit_at (get_or old (place + i) 0) bit)
       ⊎ (bit_at (get_or found (place + i) 0) bit ≡ bit_at (get_or target i 0) bit)
 
--- where the bytes were known before a write that failed, they are known after it, and torn
+-- Bytes that are known stay so, and are then in this relation to what they were; bytes that aren't known still aren't.
+abbrev pub BecomesBytes : (List ℕ → List ℕ → Type 0) → Option (List ℕ) → Option (List ℕ) → Type 0
+BecomesBytes Relates None new = new ≡ None
+BecomesBytes Relates (Some all) new = (now : List ℕ) × (new ≡ Some now) × Relates all now
+
+-- after a write that failed the bytes, where they are known, are torn
 abbrev pub TornFrom : ℕ → (List ℕ → List ℕ) → Option (List ℕ) → Option (List ℕ) → Type 0
-TornFrom place target None new = Unit {0}
-TornFrom place target (Some old) new = (now : List ℕ) × (new ≡ Some now) × IsTorn place (target old) old now
+TornFrom place target old new = BecomesBytes (λ all now. IsTorn place (target all) all now) old new
 
--- where the bytes were known before a write, these bytes may be found within it
-abbrev pub WithinWrite : ℕ → (List ℕ → List ℕ) → Option (List ℕ) → List ℕ → Type 0
-WithinWrite place target known found = IfKnown known (λ old. IsTorn place (target old) old found)
-
--- Time went on over a write, from moment `before` to moment `now`: after a power loss since a moment up to `before`,
--- what might have been found before the write may still be found, and else only what may be found within it.
-pub record TimeElapses (before now : ℕ) (found_before found_after : ℕ → List ℕ → Type 0) (within : List ℕ → Type 0) : Type 0 where
-  pub later : before ≤ now
-  pub nothing_else : (moment : ℕ) (found : List ℕ) → moment ≤ before → found_after moment found → found_before moment found ⊎ within found
-  pub keeps : (moment : ℕ) (found : List ℕ) → moment ≤ before → found_before moment found → found_after moment found
-
--- nothing changed but the bytes, what was seen of them, the moment and the count of write faults, which does not fall
+-- nothing changed but the bytes, the calls and the count of write faults, which does not fall; and the flash was asked for
+-- no name
 pub record OnlyWrites (old new : FlashState) : Type 0 where
   pub extent : new.extent ≡ old.extent
   pub attached : new.attached ≡ old.attached
-  pub names : new.names ≡ old.names
+  pub names : names_asked new.calls ≡ names_asked old.calls
   pub faults : new.faults ≡ old.faults
   pub absences : new.absences ≡ old.absences
   pub write_faults : old.write_faults ≤ new.write_faults

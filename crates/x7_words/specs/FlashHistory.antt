@@ -1,7 +1,7 @@
 -- The calls of a flash with their answers, what they make of its bytes, and what a power loss may leave within them
 -- (this project's choice).
 use Rattle.std.specs.Prelude.{◌≡◌, ℕ, ◌+◌, ◌-◌, ◌<◌, ◌≤◌, ◌⊎◌, ◌&&◌, List, [], ◌∷◌, ◌++◌, Bool, false, nat_lt, nat_le, if◌then◌else◌, length, get_or, slice_range, Result, Ok, Err}
-use Rattle.x7_words.specs.Flash.{FlashState, IsTorn, cleared, erased, erased_sector, programmed, sector_size, sector_place}
+use Rattle.x7_words.specs.Flash.{BecomesBytes, FlashState, IsTorn, cleared, erased, erased_sector, programmed, sector_size, sector_place}
 use Rattle.x7_words.specs.declared.flash_call.FlashCall.{FlashCall}
 use Rattle.x7_words.specs.declared.flash_call.FlashCall.TheVariants.{Attached, NotAttached, Read, ReadFailed, Erased, EraseFailed, Programmed, ProgramFailed}
 use Rattle.x7_words.specs.declared.input.SelectFault.{SelectFault}
@@ -70,6 +70,12 @@ IsHistory (call ∷ calls) first now = (mid : List ℕ) × Makes call first mid 
 abbrev pub MayLeave : List FlashCall → List ℕ → List ℕ → Type 0
 MayLeave [] first found = found ≡ first
 MayLeave (call ∷ calls) first found = IsWithin call first found ⊎ ((mid : List ℕ) × Makes call first mid × MayLeave calls mid found)
+
+-- A flash made these calls, and its bytes, where they are known, are what the calls make of those that it had before.
+pub record FollowsCalls (old new : FlashState) : Type 0 where
+  pub calls : List FlashCall
+  pub made : new.calls ≡ old.calls ++ calls
+  pub bytes : BecomesBytes (IsHistory calls) old.bytes new.bytes
 
 -- each read gave the bytes of a flash that has these all along
 abbrev pub Gave : List ℕ → List FlashCall → Type 0

@@ -4,5 +4,4 @@ pub mod Count
 pub mod Input
 pub mod Sink
 pub mod Flash
-pub mod FlashCalls
 pub mod FlashHistory

@@ -1,6 +1,6 @@
 //! A flash that is read, erased and programmed at places.
 ghost use Rattle.std.specs.Prelude.{◌≡◌, ℕ, List, [], ◌∷◌, ◌++◌, ◌+◌, ◌<◌, ◌≤◌, ◌^◌, length, Some, true, false, IfErr, OnOk, OnErr, slice_range, option_map};
-ghost use Rattle.x7_words.specs.Flash.{FlashIsAskedFor, TimeElapses, FlashFails, FlashCountsFit, FlashState, KeepsBytes, ExtentIsLength, KnownAreBytes, OnlyReads, OnlyWrites, SeesBytes, TornFrom, FlashRefuses, IfKnown, WithinWrite, WriteFails, cleared, erased, erased_sector, programmed, sector_size, sector_place};
+ghost use Rattle.x7_words.specs.Flash.{FlashFails, FlashCountsFit, FlashState, KeepsBytes, ExtentIsLength, KnownAreBytes, OnlyReads, OnlyWrites, TornFrom, FlashRefuses, IfKnown, WriteFails, cleared, erased, erased_sector, programmed, sector_size, sector_place};
 ghost use Rattle.x7_words.specs.FlashHistory.{CallsFor, NoFlashFault, attach_call};
 ghost use Rattle.x7_words.specs.declared.flash_call.FlashCall.TheVariants.{Read, ReadFailed, Erased, EraseFailed, Programmed, ProgramFailed};
 
@@ -17,21 +17,11 @@ pub const FLASH_LIMIT: u64 = 134_217_728;
 
 /// A flash: bytes at places from 0, which are read, erased and programmed once it is attached under its name.
 ///
-/// A moment is the number of a time in the flash's life, which never falls; a write takes one moment at most. A power
-/// loss may stop a flash at any moment. Outside a write the flash's bytes are found then; within one each bit of the
-/// write's range is old or its target.
-///
-/// What was read is seen, and stays so over further reads; no clause says that anything is seen after an attach or a
-/// write.
-///
 /// The counts of faults, of absences and of write faults never fall. Each rises by at least one where its fault or
 /// absence comes. A count that has reached the last u64 stays there, and counts as risen.
 pub trait Flash {
     /// What the flash has come to.
     ghost state: { Self → FlashState };
-
-    /// Whether bytes may be found after a power loss at some moment from the given one up to the present one.
-    ghost found_since: { Self → ℕ → List ℕ → Type 0 };
 
     /// Attaches the flash of this name. After an error none is attached, and the count of absences (`Missing`) or of
     /// faults (`Failed`) has risen.
@@ -41,8 +31,7 @@ pub trait Flash {
         ensures not_attached { OnErr result ((state self.new).attached ≡ false) }
         ensures no_fault { OnOk result (NoFlashFault (state self.old) (state self.new)) }
         ensures called { (state self.new).calls ≡ (state self.old).calls ++ attach_call name.now (state self.new).extent result ∷ [] }
-        ensures asks { FlashIsAskedFor (state self.old) name.now (state self.new) }
-        ensures stays { KeepsBytes (state self.old) (state self.new) (found_since self.old) (found_since self.new) }
+        ensures stays { KeepsBytes (state self.old) (state self.new) }
         ensures known_length { ExtentIsLength (state self.new) }
         ensures bytes { KnownAreBytes (state self.new) }
         ensures fits { FlashCountsFit (state self.new) };
@@ -62,12 +51,11 @@ pub trait Flash {
         ensures read { OnOk result (IfKnown (state self.old).bytes
             (λ all. buf.new ≡ slice_range all place (place + length buf.old))) }
         ensures length { length buf.new ≡ length buf.old }
-        ensures seen { OnOk result (SeesBytes (state self.new) place buf.new) }
         ensures no_fault { OnOk result ((state self.new).faults ≡ (state self.old).faults) }
         ensures failed { OnErr result (FlashFails (state self.old) (state self.new)) }
         ensures read_call { OnOk result (CallsFor (Read place buf.new) (state self.old) (state self.new)) }
         ensures failed_call { OnErr result (CallsFor (ReadFailed place (length buf.old)) (state self.old) (state self.new)) }
-        ensures only { OnlyReads (state self.old) (state self.new) (found_since self.old) (found_since self.new) }
+        ensures only { OnlyReads (state self.old) (state self.new) }
         ensures known_length { ExtentIsLength (state self.new) }
         ensures fits { (state self.new).faults < 2 ^ 64 };
 
@@ -79,9 +67,6 @@ pub trait Flash {
         ensures erased { OnOk result ((state self.new).bytes ≡ option_map (erased sector) (state self.old).bytes) }
         ensures torn { OnErr result
             (TornFrom (sector_place sector) (λ _. erased_sector) (state self.old).bytes (state self.new).bytes) }
-        ensures passes { TimeElapses (state self.old).moments (state self.new).moments (found_since self.old) (found_since self.new)
-            (WithinWrite (sector_place sector) (λ _. erased_sector) (state self.old).bytes) }
-        ensures moment { (state self.new).moments ≤ (state self.old).moments + 1 }
         ensures failed { OnErr result (WriteFails (state self.old) (state self.new)) }
         ensures no_fault { OnOk result ((state self.new).write_faults ≡ (state self.old).write_faults) }
         ensures erase_call { OnOk result (CallsFor (Erased sector) (state self.old) (state self.new)) }
@@ -99,9 +84,6 @@ pub trait Flash {
             ((state self.new).bytes ≡ option_map (programmed place given.now) (state self.old).bytes) }
         ensures torn { OnErr result
             (TornFrom place (cleared place given.now) (state self.old).bytes (state self.new).bytes) }
-        ensures passes { TimeElapses (state self.old).moments (state self.new).moments (found_since self.old) (found_since self.new)
-            (WithinWrite place (cleared place given.now) (state self.old).bytes) }
-        ensures moment { (state self.new).moments ≤ (state self.old).moments + 1 }
         ensures failed { OnErr result (WriteFails (state self.old) (state self.new)) }
         ensures no_fault { OnOk result ((state self.new).write_faults ≡ (state self.old).write_faults) }
         ensures program_call { OnOk result (CallsFor (Programmed place given.now) (state self.old) (state self.new)) }
@@ -112,13 +94,4 @@ pub trait Flash {
 
     /// Where the bytes are known, the size is their number.
     ghost counted: { (flash : Self) → ExtentIsLength (state flash) };
-
-    /// After a power loss since any moment up to the present one, the bytes that the flash has now may be found.
-    ghost found_now: { (flash : Self) (moment : ℕ) (all : List ℕ) → moment ≤ (state flash).moments
-        → (state flash).bytes ≡ Some all → found_since flash moment all };
-
-    /// After a power loss at the present moment no other bytes are found than those that the flash has, where they are
-    /// known.
-    ghost only_now: { (flash : Self) (found : List ℕ) → found_since flash (state flash).moments found
-        → IfKnown (state flash).bytes (λ all. found ≡ all) };
 }

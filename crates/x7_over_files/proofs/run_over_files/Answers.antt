@@ -25,10 +25,10 @@ returns-clause-assembles g c = λ name text is read.
     assembles map (form_of_strings c.args.words.now.items) old new c.run-status.new.inputs c.run-status.result name text refl c.run-status.ensures.ran is read
 
 pub returns-clause-plays : goal.returns-clause-plays
-returns-clause-plays g c = λ part stream text bytes is read_part read_stream.
+returns-clause-plays g c = λ files is read.
     let map = g.W.World.contents in
     let o = g.O.Sink in
     let e = g.E.Sink in
     let old = outside (known_inputs map c.new-inputs.result) (known_flash c.new-flash.result) (o.state c.args.out.now) (e.state c.args.err.now) in
     let new = outside (known_inputs map c.run-status.new.inputs) (known_flash c.run-status.new.flash) (o.state c.run-status.new.out) (e.state c.run-status.new.err) in
-    plays map (form_of_strings c.args.words.now.items) old new c.run-status.new.inputs c.run-status.result part stream text bytes refl c.run-status.ensures.ran is read_part read_stream
+    plays map (form_of_strings c.args.words.now.items) old new c.run-status.new.inputs c.run-status.result files.part files.stream files.text files.bytes refl c.run-status.ensures.ran is read.part read.stream

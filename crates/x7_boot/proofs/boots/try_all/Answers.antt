@@ -29,7 +29,7 @@ attempts-preserved g c =
       since = since_on {P = ReadsInAttempt (attempt_at c.attempts.device.part c.attempts.kept c.attempts.address) latest} g.first (s c.attempts.flash) (s c.try_once.new.flash) i.since c.try_once.ensures.called;
       called = boot_due c.args.device.now.part c.attempts.device.part c.attempts.kept c.attempts.address g.first (s c.args.flash.now) (s c.attempts.flash) (s c.try_once.new.flash) c.attempts.attempts.items c.attempts.number i.since i.flash.bytes c.try_once.ensures.only_reads.extent i.part i.led i.called c.try_once.ensures.called;
       no_fault = t.faults ∙ i.no_fault;
-      flash = reads_on _ _ _ _ _ _ i.flash t.only_reads;
+      flash = reads_on _ _ _ i.flash t.only_reads;
     }
 
 pub returns-in-Ends-clause-booted : goal.returns-in-Ends-clause-booted
@@ -71,10 +71,10 @@ returns-in_default-clause-called g c =
     (boot_due c.args.device.now.part c.attempts.device.part c.attempts.kept c.attempts.address g.first (s c.args.flash.now) (s c.attempts.flash) (s c.try_once.new.flash) c.attempts.attempts.items c.attempts.number i.since i.flash.bytes c.try_once.ensures.only_reads.extent i.part i.led i.called c.try_once.ensures.called)
 
 pub returns-in_err-ending-clause-only_reads : goal.returns-in_err-ending-clause-only_reads
-returns-in_err-ending-clause-only_reads g c = reads_on _ _ _ _ _ _ c.attempts.invariant.flash c.try_once.ensures.only_reads
+returns-in_err-ending-clause-only_reads g c = reads_on _ _ _ c.attempts.invariant.flash c.try_once.ensures.only_reads
 
 pub returns-in_default-clause-only_reads : goal.returns-in_default-clause-only_reads
-returns-in_default-clause-only_reads g c = reads_on _ _ _ _ _ _ c.attempts.invariant.flash c.try_once.ensures.only_reads
+returns-in_default-clause-only_reads g c = reads_on _ _ _ c.attempts.invariant.flash c.try_once.ensures.only_reads
 
 -- ---- an attempt that was not read
 

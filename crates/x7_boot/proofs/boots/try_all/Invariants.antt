@@ -1,5 +1,5 @@
 use Rattle.std.proofs.Common.{◌≡◌, ◌+◌, ◌-◌, ◌<◌, ◌≤◌, false}
-use Rattle.x7_words.specs.FlashCalls.{CallOnlyReads}
+use Rattle.x7_words.specs.Flash.{OnlyReads}
 use Rattle.x7_words.specs.Word.{AreBytes}
 use Rattle.x7_regs.specs.declared.boot_status.Kind.TheVariants.{Bench}
 use Rattle.x7_engine.specs.Kept.{is_fallback}
@@ -23,7 +23,7 @@ invariant-attempts g l =
       since : IsSince g.first (f.state l.flash);
       called : HasCalled (ReadsInAttempts l.fn.device.part answers l.number) (f.state l.fn.flash) (f.state l.flash);
       no_fault : (f.state l.flash).faults ≡ (f.state l.fn.flash).faults;
-      flash : CallOnlyReads f l.fn.flash l.flash;
+      flash : OnlyReads (f.state l.fn.flash) (f.state l.flash);
     }
 
 abbrev pub decreases-attempts : goal.decreases-attempts

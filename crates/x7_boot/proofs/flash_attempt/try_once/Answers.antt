@@ -18,7 +18,7 @@ pages-init g c =
       since = c.requires.1.1.0;
       called = called_none (ReadsSoFar a (answers_since g.first now) c.from-place.result) now (0, λ inside. omega arith, omega arith);
       no_fault = refl;
-      flash = reads_at _ _;
+      flash = reads_at _;
       size = c.size-size.ensures.extent;
     }
 
@@ -48,7 +48,7 @@ pages-preserved g c =
       since = since_on g.first (s c.pages.flash) (s c.load.new.flash) i.since c.load.ensures.called;
       called = load_goes c.args.device.now.part c.args.kept c.args.address g.first (s c.args.flash.now) (s c.pages.flash) (s c.load.new.flash) c.pages.device c.pages.place i.since i.flash.bytes c.load.ensures.only_reads.extent i.feeds (omega (arith, c.if-place-size.false, i.size)) c.load.new.self.block.items i.called c.in_ok-loaded.loaded c.bytes_from-bytes.result.now c.in_ok-loaded.ensures.called c.in_ok-loaded.ensures.read c.bytes_from-bytes.ensures.ends;
       no_fault = c.in_ok-loaded.ensures.faults ∙ i.no_fault;
-      flash = reads_on _ _ _ _ _ _ i.flash c.in_ok-loaded.ensures.only_reads;
+      flash = reads_on _ _ _ i.flash c.in_ok-loaded.ensures.only_reads;
       size = i.size ∙ sym c.load.ensures.only_reads.extent;
     }
 
@@ -127,7 +127,7 @@ returns-in_err-loaded-clause-called g c =
     load_ends c.args.device.now.part c.args.kept c.args.address g.first (s c.args.flash.now) (s c.pages.flash) (s c.load.new.flash) c.pages.device c.pages.place i.since i.flash.bytes c.load.ensures.only_reads.extent i.feeds (omega (arith, c.if-place-size.false, i.size)) c.load.new.self.block.items i.called c.load.result c.load.ensures.called
 
 pub returns-in_err-loaded-clause-only_reads : goal.returns-in_err-loaded-clause-only_reads
-returns-in_err-loaded-clause-only_reads g c = reads_on _ _ _ _ _ _ c.pages.invariant.flash c.load.ensures.only_reads
+returns-in_err-loaded-clause-only_reads g c = reads_on _ _ _ c.pages.invariant.flash c.load.ensures.only_reads
 
 -- ---- an attempt that ended
 
@@ -146,7 +146,7 @@ returns-in-Ends-clause-called g c =
     load_ends c.args.device.now.part c.args.kept c.args.address g.first (s c.args.flash.now) (s c.pages.flash) (s c.load.new.flash) c.pages.device c.pages.place i.since i.flash.bytes c.load.ensures.only_reads.extent i.feeds (omega (arith, c.if-place-size.false, i.size)) c.load.new.self.block.items i.called c.load.result c.load.ensures.called
 
 pub returns-in-Ends-clause-only_reads : goal.returns-in-Ends-clause-only_reads
-returns-in-Ends-clause-only_reads g c = reads_on _ _ _ _ _ _ c.pages.invariant.flash c.in_ok-loaded.ensures.only_reads
+returns-in-Ends-clause-only_reads g c = reads_on _ _ _ c.pages.invariant.flash c.in_ok-loaded.ensures.only_reads
 
 pub returns-in-Stops-clause-called : goal.returns-in-Stops-clause-called
 returns-in-Stops-clause-called g c =
@@ -155,4 +155,4 @@ returns-in-Stops-clause-called g c =
     load_ends c.args.device.now.part c.args.kept c.args.address g.first (s c.args.flash.now) (s c.pages.flash) (s c.load.new.flash) c.pages.device c.pages.place i.since i.flash.bytes c.load.ensures.only_reads.extent i.feeds (omega (arith, c.if-place-size.false, i.size)) c.load.new.self.block.items i.called c.load.result c.load.ensures.called
 
 pub returns-in-Stops-clause-only_reads : goal.returns-in-Stops-clause-only_reads
-returns-in-Stops-clause-only_reads g c = reads_on _ _ _ _ _ _ c.pages.invariant.flash c.in_ok-loaded.ensures.only_reads
+returns-in-Stops-clause-only_reads g c = reads_on _ _ _ c.pages.invariant.flash c.in_ok-loaded.ensures.only_reads

@@ -1,5 +1,5 @@
 use Rattle.std.proofs.Common.{◌≡◌, ◌-◌}
-use Rattle.x7_words.specs.FlashCalls.{CallOnlyReads}
+use Rattle.x7_words.specs.Flash.{OnlyReads}
 use Rattle.x7_boot.specs.Attempt.{IsUnderWay, attempt_at}
 use Rattle.x7_boot.specs.Pages.{ArePages}
 use Rattle.x7_boot.specs.Reads.{HasCalled, IsSince, answers_since}
@@ -16,7 +16,7 @@ invariant-pages g l =
       since : IsSince g.first (f.state l.flash);
       called : HasCalled (ReadsSoFar a (answers_since g.first (f.state l.flash)) l.place) (f.state l.fn.flash) (f.state l.flash);
       no_fault : (f.state l.flash).faults ≡ (f.state l.fn.flash).faults;
-      flash : CallOnlyReads f l.fn.flash l.flash;
+      flash : OnlyReads (f.state l.fn.flash) (f.state l.flash);
       size : l.size ≡ (f.state l.flash).extent;
     }
 

@@ -7,6 +7,7 @@ use Rattle.x7_forms.specs.Step.{CameIn, result_by, step_over}
 use Rattle.x7_device_forms.proofs.FlashLemmas.{boot_last, boot_measured, booted_ends, boots_as_read, no_part_last, no_part_measured, part_good, part_refused}
 use Rattle.x7_forms.specs.Known.{part_limit}
 use Rattle.x7_device_forms.proofs.StopLemmas.{boot_stops, comes_judges, untouched_judges}
+use Rattle.x7_words.proofs.FollowLemmas.{follow_none}
 use Rattle.x7_outcome.proofs.FlashLemmas.{leaves_same}
 use Rattle.x7_outcome.proofs.StopLemmas.{first_stops}
 use Rattle.x7_forms.proofs.AskedLemmas.{no_part_about}
@@ -56,3 +57,6 @@ returns-in_err-part-clause-ready g c = rw (handed_on c.from_residual.result c.in
 
 pub returns-in_err-part-clause-left : goal.returns-in_err-part-clause-left
 returns-in_err-part-clause-left g c = leaves_same (g.F.Flash.state c.args.flash.now)
+
+pub returns-in_err-part-clause-follows : goal.returns-in_err-part-clause-follows
+returns-in_err-part-clause-follows g c = follow_none (g.F.Flash.state c.args.flash.now)

@@ -1,12 +1,10 @@
 use Rattle.std.proofs.Common.{arith, ◌≤◌, ◌-◌, ℕ, Bool, List, [], ◌∷◌, drop, length, take, Option, None, Some, Err, inl, inr, refl, subst, sym, ◌∙◌}
-use Rattle.std.specs.Prelude.{IsTrue}
-use Rattle.x7_words.specs.Flash.{IfKnown}
+use Rattle.x7_words.specs.Flash.{BecomesBytes, IfKnown}
 use Rattle.x7_words.specs.FlashHistory.{history_of}
 use Rattle.x7_words.proofs.InputLemmas.{few_at, few_more, stays_at}
 use Rattle.x7_boot.specs.Image.{flash_limit}
 use Rattle.x7_update.specs.After.{IsAfterUpdate}
 use Rattle.x7_update.specs.Layout.{IsUpdatable}
-use Rattle.x7_update.specs.Writing.{BecomesBytes}
 use Rattle.x7_forms.specs.Event.{Event, event_of}
 use Rattle.x7_forms.specs.Form.{UpdatingFlash}
 use Rattle.x7_forms.specs.Known.{with_inputs, stream_limit}
@@ -101,11 +99,10 @@ returns-in-Ok-clause-flash g c =
     let bytes = take (length c.deref.result.now - read.start) (drop read.start c.deref.result.now) in
     let old = i.state c.args.inputs.now in
     let new = i.state c.read_stream.new.inputs in
-    let has = data_given (with_inputs new.contents first.bytes) (CameIn (step_over (stream ∷ []) old new)) stream (data_from read) bytes (c.in_ok-read.ensures.caused first.bytes) (rest_of c.deref.result.now read.bytes.items read.start c.deref.ensures.value) in
     let any : (flash : List ℕ) → HasData (with_inputs new.contents (Some flash)) stream bytes =
     λ flash. data_given (with_inputs new.contents (Some flash)) (CameIn (step_over (stream ∷ []) old new)) stream (data_from read) bytes (c.in_ok-read.ensures.caused (Some flash)) (rest_of c.deref.result.now read.bytes.items read.start c.deref.ensures.value) in
     let left = updated_leaves c.args.flash_name.now stream bytes new first (g.F.Flash.state c.open_flash.new.flash) (g.F.Flash.state c.update.new.flash) c.in_ok-open_flash.ensures.called c.update.ensures.only_uses.extent any c.update.ensures.left in
-    uses_updated c.args.flash_name.now stream bytes new first (g.F.Flash.state c.open_flash.new.flash) (g.F.Flash.state c.update.new.flash) _ _ _ c.open_flash.ensures.stays c.open_flash.ensures.asks has c.update.ensures.only_uses c.update.ensures.any_moment left
+    uses_updated c.args.flash_name.now stream new first (g.F.Flash.state c.open_flash.new.flash) (g.F.Flash.state c.update.new.flash) c.open_flash.ensures.stays c.open_flash.ensures.asks (inl c.in_ok-open_flash.ensures.called) c.update.ensures.only_uses c.update.ensures.follows left
 
 pub returns-clause-answered : goal.returns-clause-answered
 returns-clause-answered g c = λ before after out.
@@ -124,8 +121,8 @@ returns-clause-answered g c = λ before after out.
     let has = data_given (with_inputs new.inputs.contents first.bytes) (CameIn (step_over (stream ∷ []) old.inputs new.inputs)) stream (data_from read) bytes (c.in_ok-read.ensures.caused first.bytes) (rest_of c.deref.result.now read.bytes.items read.start c.deref.ensures.value) in
     let reads = data_given (with_inputs new.inputs.contents None) (CameIn (step_over (stream ∷ []) old.inputs new.inputs)) stream (data_from read) bytes (c.in_ok-read.ensures.caused None) (rest_of c.deref.result.now read.bytes.items read.start c.deref.ensures.value) in
     let size = subst (λ (n : ℕ). n ≤ flash_limit) (sym c.update.ensures.only_uses.extent) c.in_ok-open_flash.ensures.size in
-    let asked = subst (λ (names : List ℕ → Bool). IsTrue (names name)) (sym c.update.ensures.only_uses.names) c.open_flash.ensures.asks.asked in
-    let cause = cause_from bytes first mid last c.in-Err.fault stays.bytes stays.unwritten.write_faults stays.faults c.in-Err.ensures.refused in
+    let asked = c.update.ensures.only_uses.names ∙ c.open_flash.ensures.asks in
+    let cause = cause_from bytes first mid last c.in-Err.fault stays.bytes stays.write_faults stays.faults c.in-Err.ensures.refused in
     record {
       ends = subst (λ (e : Event). CommandEndsAs (Some (UpdatingFlash name stream)) old new (Err e)) (sym c.refusal_of.ensures)
           (fault_ends name stream bytes old new c.in-Err.fault out asked within has reads size cause (λ early. let only = c.in-Err.ensures.unchanged early in only.bytes ∙ stays.bytes)
@@ -147,18 +144,17 @@ returns-clause-flash g c =
     let bytes = take (length c.deref.result.now - read.start) (drop read.start c.deref.result.now) in
     let old = i.state c.args.inputs.now in
     let new = i.state c.read_stream.new.inputs in
-    let has = data_given (with_inputs new.contents first.bytes) (CameIn (step_over (stream ∷ []) old new)) stream (data_from read) bytes (c.in_ok-read.ensures.caused first.bytes) (rest_of c.deref.result.now read.bytes.items read.start c.deref.ensures.value) in
     let any : (flash : List ℕ) → HasData (with_inputs new.contents (Some flash)) stream bytes =
     λ flash. data_given (with_inputs new.contents (Some flash)) (CameIn (step_over (stream ∷ []) old new)) stream (data_from read) bytes (c.in_ok-read.ensures.caused (Some flash)) (rest_of c.deref.result.now read.bytes.items read.start c.deref.ensures.value) in
     let left = updated_leaves c.args.flash_name.now stream bytes new first (g.F.Flash.state c.open_flash.new.flash) (g.F.Flash.state c.update.new.flash) c.in_ok-open_flash.ensures.called c.update.ensures.only_uses.extent any c.update.ensures.left in
-    uses_updated c.args.flash_name.now stream bytes new first (g.F.Flash.state c.open_flash.new.flash) (g.F.Flash.state c.update.new.flash) _ _ _ c.open_flash.ensures.stays c.open_flash.ensures.asks has c.update.ensures.only_uses c.update.ensures.any_moment left
+    uses_updated c.args.flash_name.now stream new first (g.F.Flash.state c.open_flash.new.flash) (g.F.Flash.state c.update.new.flash) c.open_flash.ensures.stays c.open_flash.ensures.asks (inl c.in_ok-open_flash.ensures.called) c.update.ensures.only_uses c.update.ensures.follows left
 
 pub returns-in_err-open_flash-clause-flash : goal.returns-in_err-open_flash-clause-flash
 returns-in_err-open_flash-clause-flash g c =
     let f = g.F.Flash in
-    uses_opened c.args.flash_name.now c.args.stream_name.now (g.I.Inputs.state c.args.inputs.now) (f.state c.args.flash.now) (f.state c.open_flash.new.flash) (f.found_since c.args.flash.now) (f.found_since c.open_flash.new.flash) c.open_flash.ensures.stays c.open_flash.ensures.asks c.in_err-open_flash.ensures.called_alone
+    uses_opened c.args.flash_name.now c.args.stream_name.now (g.I.Inputs.state c.args.inputs.now) (f.state c.args.flash.now) (f.state c.open_flash.new.flash) c.open_flash.ensures.stays c.open_flash.ensures.asks c.in_err-open_flash.ensures.called_alone
 
 pub returns-in_err-read-clause-flash : goal.returns-in_err-read-clause-flash
 returns-in_err-read-clause-flash g c =
     let f = g.F.Flash in
-    uses_opened c.args.flash_name.now c.args.stream_name.now (g.I.Inputs.state c.read_stream.new.inputs) (f.state c.args.flash.now) (f.state c.open_flash.new.flash) (f.found_since c.args.flash.now) (f.found_since c.open_flash.new.flash) c.open_flash.ensures.stays c.open_flash.ensures.asks (inl c.in_ok-open_flash.ensures.called)
+    uses_opened c.args.flash_name.now c.args.stream_name.now (g.I.Inputs.state c.read_stream.new.inputs) (f.state c.args.flash.now) (f.state c.open_flash.new.flash) c.open_flash.ensures.stays c.open_flash.ensures.asks (inl c.in_ok-open_flash.ensures.called)

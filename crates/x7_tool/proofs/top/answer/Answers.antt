@@ -18,7 +18,7 @@ returns-in-List-clause-answered g c = λ e f.
     silent_answered _ (Listing c.in-List.stream.now) old new _ _ (ap asked_by c.in-List.is) c.unstopped.ensures (c.list.ensures.answered old new)
 
 pub returns-in-List-clause-flash : goal.returns-in-List-clause-flash
-returns-in-List-clause-flash g c = uses_same _ _ (g.F.Flash.state c.args.flash.now) _
+returns-in-List-clause-flash g c = uses_same _ _ (g.F.Flash.state c.args.flash.now)
 
 pub returns-in-Asm-clause-answered : goal.returns-in-Asm-clause-answered
 returns-in-Asm-clause-answered g c = λ e f.
@@ -27,7 +27,7 @@ returns-in-Asm-clause-answered g c = λ e f.
     (ap asked_by c.in-Asm.is) refl refl c.asm.ensures c.put_whole.ensures.put
 
 pub returns-in-Asm-clause-flash : goal.returns-in-Asm-clause-flash
-returns-in-Asm-clause-flash g c = uses_same _ _ (g.F.Flash.state c.args.flash.now) _
+returns-in-Asm-clause-flash g c = uses_same _ _ (g.F.Flash.state c.args.flash.now)
 
 pub returns-in-Play-clause-answered : goal.returns-in-Play-clause-answered
 returns-in-Play-clause-answered g c = λ e f.
@@ -37,7 +37,7 @@ returns-in-Play-clause-answered g c = λ e f.
     (ap asked_by c.in-Play.is) refl refl c.play.ensures c.put_whole-in-Play.ensures.put
 
 pub returns-in-Play-clause-flash : goal.returns-in-Play-clause-flash
-returns-in-Play-clause-flash g c = uses_same _ _ (g.F.Flash.state c.args.flash.now) _
+returns-in-Play-clause-flash g c = uses_same _ _ (g.F.Flash.state c.args.flash.now)
 
 pub returns-in-Debug-clause-answered : goal.returns-in-Debug-clause-answered
 returns-in-Debug-clause-answered g c = λ e f.
@@ -47,7 +47,7 @@ returns-in-Debug-clause-answered g c = λ e f.
     (ap asked_by c.in-Debug.is) refl refl c.debug.ensures c.put_whole-in-Debug.ensures.put
 
 pub returns-in-Debug-clause-flash : goal.returns-in-Debug-clause-flash
-returns-in-Debug-clause-flash g c = uses_same _ _ (g.F.Flash.state c.args.flash.now) _
+returns-in-Debug-clause-flash g c = uses_same _ _ (g.F.Flash.state c.args.flash.now)
 
 pub returns-in-Svf-clause-answered : goal.returns-in-Svf-clause-answered
 returns-in-Svf-clause-answered g c = λ e f.
@@ -56,7 +56,7 @@ returns-in-Svf-clause-answered g c = λ e f.
     (ap asked_by c.in-Svf.is) refl refl c.svf.ensures c.put_whole-in-Svf.ensures.put
 
 pub returns-in-Svf-clause-flash : goal.returns-in-Svf-clause-flash
-returns-in-Svf-clause-flash g c = uses_same _ _ (g.F.Flash.state c.args.flash.now) _
+returns-in-Svf-clause-flash g c = uses_same _ _ (g.F.Flash.state c.args.flash.now)
 
 pub returns-in-PlanFull-clause-answered : goal.returns-in-PlanFull-clause-answered
 returns-in-PlanFull-clause-answered g c = λ e f.
@@ -66,7 +66,7 @@ returns-in-PlanFull-clause-answered g c = λ e f.
     (ap asked_by c.in-PlanFull.is) refl refl c.plan_full.ensures c.put_whole-in-PlanFull.ensures.put
 
 pub returns-in-PlanFull-clause-flash : goal.returns-in-PlanFull-clause-flash
-returns-in-PlanFull-clause-flash g c = uses_same _ _ (g.F.Flash.state c.args.flash.now) _
+returns-in-PlanFull-clause-flash g c = uses_same _ _ (g.F.Flash.state c.args.flash.now)
 
 pub returns-in-PlanPartial-clause-answered : goal.returns-in-PlanPartial-clause-answered
 returns-in-PlanPartial-clause-answered g c = λ e f.
@@ -76,7 +76,7 @@ returns-in-PlanPartial-clause-answered g c = λ e f.
     (ap asked_by c.in-PlanPartial.is) refl refl c.plan_partial.ensures c.put_whole-in-PlanPartial.ensures.put
 
 pub returns-in-PlanPartial-clause-flash : goal.returns-in-PlanPartial-clause-flash
-returns-in-PlanPartial-clause-flash g c = uses_same _ _ (g.F.Flash.state c.args.flash.now) _
+returns-in-PlanPartial-clause-flash g c = uses_same _ _ (g.F.Flash.state c.args.flash.now)
 
 pub returns-in-PlanRead-clause-answered : goal.returns-in-PlanRead-clause-answered
 returns-in-PlanRead-clause-answered g c = λ e f.
@@ -86,7 +86,7 @@ returns-in-PlanRead-clause-answered g c = λ e f.
     (ap asked_by c.in-PlanRead.is) refl refl c.plan_read.ensures c.put_whole-in-PlanRead.ensures.put
 
 pub returns-in-PlanRead-clause-flash : goal.returns-in-PlanRead-clause-flash
-returns-in-PlanRead-clause-flash g c = uses_same _ _ (g.F.Flash.state c.args.flash.now) _
+returns-in-PlanRead-clause-flash g c = uses_same _ _ (g.F.Flash.state c.args.flash.now)
 
 pub returns-in-Gen-clause-answered : goal.returns-in-Gen-clause-answered
 returns-in-Gen-clause-answered g c = λ e f.
@@ -95,7 +95,7 @@ returns-in-Gen-clause-answered g c = λ e f.
     (ap asked_by c.in-Gen.is) refl refl c.generate.ensures c.put_whole-in-Gen.ensures.put
 
 pub returns-in-Gen-clause-flash : goal.returns-in-Gen-clause-flash
-returns-in-Gen-clause-flash g c = uses_same _ _ (g.F.Flash.state c.args.flash.now) _
+returns-in-Gen-clause-flash g c = uses_same _ _ (g.F.Flash.state c.args.flash.now)
 
 pub returns-in-Image-clause-answered : goal.returns-in-Image-clause-answered
 returns-in-Image-clause-answered g c = λ e f.
@@ -104,7 +104,7 @@ returns-in-Image-clause-answered g c = λ e f.
     (ap asked_by c.in-Image.is) refl refl c.image.ensures c.put_whole-in-Image.ensures.put
 
 pub returns-in-Image-clause-flash : goal.returns-in-Image-clause-flash
-returns-in-Image-clause-flash g c = uses_same _ _ (g.F.Flash.state c.args.flash.now) _
+returns-in-Image-clause-flash g c = uses_same _ _ (g.F.Flash.state c.args.flash.now)
 
 pub returns-in-ImageFor-clause-answered : goal.returns-in-ImageFor-clause-answered
 returns-in-ImageFor-clause-answered g c = λ e f.
@@ -114,7 +114,7 @@ returns-in-ImageFor-clause-answered g c = λ e f.
     (ap asked_by c.in-ImageFor.is) refl refl c.image_for.ensures c.put_whole-in-ImageFor.ensures.put
 
 pub returns-in-ImageFor-clause-flash : goal.returns-in-ImageFor-clause-flash
-returns-in-ImageFor-clause-flash g c = uses_same _ _ (g.F.Flash.state c.args.flash.now) _
+returns-in-ImageFor-clause-flash g c = uses_same _ _ (g.F.Flash.state c.args.flash.now)
 
 pub returns-in-Boot-clause-answered : goal.returns-in-Boot-clause-answered
 returns-in-Boot-clause-answered g c = λ e f.
@@ -126,7 +126,7 @@ returns-in-Boot-clause-answered g c = λ e f.
 
 pub returns-in-Boot-clause-flash : goal.returns-in-Boot-clause-flash
 returns-in-Boot-clause-flash g c =
-    uses_read _ (Booting c.in-Boot.part.now c.in-Boot.name.now) c.in-Boot.name.now _ _ _ _ _ (ap (λ f. Some (asked_by f)) c.in-Boot.is) refl c.boot.ensures.reads c.boot.ensures.unwritten c.boot.ensures.left
+    uses_read _ (Booting c.in-Boot.part.now c.in-Boot.name.now) c.in-Boot.name.now _ _ _ (ap (λ f. Some (asked_by f)) c.in-Boot.is) refl c.boot.ensures.reads c.boot.ensures.follows c.boot.ensures.left
 
 pub returns-in-Update-clause-answered : goal.returns-in-Update-clause-answered
 returns-in-Update-clause-answered g c = λ e f.
@@ -136,7 +136,7 @@ returns-in-Update-clause-answered g c = λ e f.
 
 pub returns-in-Update-clause-flash : goal.returns-in-Update-clause-flash
 returns-in-Update-clause-flash g c =
-    uses_as _ (UpdatingFlash c.in-Update.name.now c.in-Update.stream.now) _ _ _ _ _ (ap (λ f. Some (asked_by f)) c.in-Update.is) c.update.ensures.flash
+    uses_as _ (UpdatingFlash c.in-Update.name.now c.in-Update.stream.now) _ _ _ (ap (λ f. Some (asked_by f)) c.in-Update.is) c.update.ensures.flash
 
 pub returns-in-Mcs-clause-answered : goal.returns-in-Mcs-clause-answered
 returns-in-Mcs-clause-answered g c = λ e f.
@@ -145,7 +145,7 @@ returns-in-Mcs-clause-answered g c = λ e f.
     (ap asked_by c.in-Mcs.is) refl refl c.mcs.ensures c.put_whole-in-Mcs.ensures.put
 
 pub returns-in-Mcs-clause-flash : goal.returns-in-Mcs-clause-flash
-returns-in-Mcs-clause-flash g c = uses_same _ _ (g.F.Flash.state c.args.flash.now) _
+returns-in-Mcs-clause-flash g c = uses_same _ _ (g.F.Flash.state c.args.flash.now)
 
 pub returns-in-Unmcs-clause-answered : goal.returns-in-Unmcs-clause-answered
 returns-in-Unmcs-clause-answered g c = λ e f.
@@ -154,7 +154,7 @@ returns-in-Unmcs-clause-answered g c = λ e f.
     (ap asked_by c.in-Unmcs.is) refl refl c.unmcs.ensures c.put_whole-in-Unmcs.ensures.put
 
 pub returns-in-Unmcs-clause-flash : goal.returns-in-Unmcs-clause-flash
-returns-in-Unmcs-clause-flash g c = uses_same _ _ (g.F.Flash.state c.args.flash.now) _
+returns-in-Unmcs-clause-flash g c = uses_same _ _ (g.F.Flash.state c.args.flash.now)
 
 -- ---- the output fails last
 

@@ -1,7 +1,7 @@
 use Rattle.std.proofs.Common.{ℕ, ◌<◌, IfErr, rules}
 use Rattle.x7_packets.specs.FlashSlot.{flash_slot_count}
 use Rattle.x7_update.specs.Fault.{IsBadSlotAt, IsGoodSlot}
-use Rattle.x7_update.proofs.KnownLemmas.{if_err_map}
+use Rattle.x7_update.proofs.StepLemmas.{if_err_map}
 use Rattle.x7_update.proofs.SlotLemmas.{so_far_good}
 use Rattle.x7_update.proofs.slots.look_at_slots.Goals as goal
 

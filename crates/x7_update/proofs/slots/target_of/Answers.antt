@@ -3,7 +3,7 @@ use Rattle.x7_words.specs.Word.{word_of_bytes}
 use Rattle.x7_packets.specs.FlashSlot.{flash_slot_size, flash_slot_count}
 use Rattle.x7_update.specs.Layout.{CanStandAt, update_place}
 use Rattle.x7_update.specs.Fault.{IsBadSlotAt, IsGoodSlot, NoLayoutAt, bad_slot}
-use Rattle.x7_update.proofs.KnownLemmas.{if_err_map}
+use Rattle.x7_update.proofs.StepLemmas.{if_err_map}
 use Rattle.x7_update.proofs.SlotLemmas.{all_found, none_free}
 use Rattle.x7_update.proofs.slots.target_of.Goals as goal
 

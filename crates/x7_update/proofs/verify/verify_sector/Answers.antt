@@ -1,36 +1,33 @@
 use Rattle.std.proofs.Common.{◌≡◌, ◌+◌, ◌-◌, ◌*◌, ℕ, length, IfErr, arith, subst, ◌∙◌, [], slice_range, OnOk, refl, ap, sym, false}
 use Rattle.x7_words.specs.Flash.{sector_size, sector_place}
-use Rattle.x7_update.specs.Writing.{IsWrong, wanted_at, ReadsWanted}
-use Rattle.x7_update.proofs.VerifyLemmas.{stream_fails}
-use Rattle.x7_update.proofs.ReadyLemmas.{sees_wanted}
+use Rattle.x7_words.specs.FlashHistory.{history_of}
 use Rattle.x7_words.specs.declared.flash_call.FlashCall.TheVariants.{Read, ReadFailed}
+use Rattle.x7_words.proofs.FollowLemmas.{follow_read}
+use Rattle.x7_update.specs.Writing.{IsWrong, ReadsWanted}
 use Rattle.x7_update.specs.UpdateCalls.{padded}
 use Rattle.x7_update.specs.declared.fault.UpdateFault.TheVariants.{Failed}
 use Rattle.x7_update.proofs.MadeLemmas.{compared_err, compared_ok, sector_long, sector_wanted, stops_here}
-use Rattle.x7_words.specs.FlashHistory.{history_of}
+use Rattle.x7_update.proofs.StepLemmas.{wrong_counts}
 use Rattle.x7_update.proofs.verify.verify_sector.Goals as goal
 
-pub returns-clause-fault : goal.returns-clause-fault
-returns-clause-fault g c =
-    let old = g.F.Flash.state c.args.flash.now in
-    let new = g.F.Flash.state c.read_at.new.self in
-    let update = c.args.stream_place in
-    let place = c.args.sector * sector_size in
-    let q = c.requires in
-    let at : update + (place - update) ≡ place = omega (arith, q.after) in
-    stream_fails update c.args.stream.now place (length c.args.buffer.now) c.read_at.new.buf old new c.compare.result c.in-Ok.ensures.length c.in-Ok.ensures.seen c.in-Ok.ensures.only.extent q.written.size q.written.place q.written.fits q.after
-    (omega (arith, q.within, q.written.buffer_is)) (g.met.F.Flash.counted c.args.flash.now) q.written.wanted c.in-Ok.ensures.read
-    (λ p l h. c.in-Ok.ensures.only.seen p (wanted_at update c.args.stream.now p) (q.before p l h))
-    (subst (λ (p : ℕ). IfErr c.compare.result (IsWrong update c.args.stream.now p c.read_at.new.buf)) at c.compare.ensures.wrong)
+pub returns-clause-reads : goal.returns-clause-reads
+returns-clause-reads g c =
+    let r = c.read_at.ensures in
+    record {
+      follows = follow_read c.read_at.result (sector_place c.args.sector) (length c.args.buffer.now) c.read_at.new.buf (g.F.Flash.state c.args.flash.now) (g.F.Flash.state c.read_at.new.self) r.length r.only.bytes r.read r.read_call r.failed_call;
+      only = r.only;
+    }
 
-pub returns-clause-seen : goal.returns-clause-seen
-returns-clause-seen g c =
-    let new = g.F.Flash.state c.read_at.new.self in
-    let update = c.args.stream_place in
-    let place = c.args.sector * sector_size in
-    let at : update + (place - update) ≡ place = omega (arith, c.requires.after) in
-    sees_wanted update c.args.stream.now place sector_size (update + (place - update)) c.read_at.new.buf new c.compare.result (c.in-Ok.ensures.length ∙ c.requires.written.buffer_is) at c.in-Ok.ensures.seen
-    (λ p l h. c.in-Ok.ensures.only.seen p (wanted_at update c.args.stream.now p) (c.requires.before p l h)) c.compare.ensures.same
+pub returns-in_default-clause-reads : goal.returns-in_default-clause-reads
+returns-in_default-clause-reads g c =
+    let r = c.read_at.ensures in
+    record {
+      follows = follow_read c.read_at.result (sector_place c.args.sector) (length c.args.buffer.now) c.read_at.new.buf (g.F.Flash.state c.args.flash.now) (g.F.Flash.state c.read_at.new.self) r.length r.only.bytes r.read r.read_call r.failed_call;
+      only = r.only;
+    }
+
+pub returns-clause-counted : goal.returns-clause-counted
+returns-clause-counted g c = wrong_counts _ _ _ _ (g.F.Flash.state c.args.flash.now) (g.F.Flash.state c.read_at.new.self) c.compare.result c.compare.ensures.wrong
 
 -- ---- calls
 

@@ -1,13 +1,11 @@
 use Rattle.std.proofs.Common.{◌≤◌, ◌+◌, ◌*◌, IfErr, sym, ◌∙◌, arith, rules, ◌≡◌, ◌/◌, ◌-◌, ◌<◌, ◌++◌, ap, subst}
 use Rattle.x7_words.specs.Flash.{sector_size}
-use Rattle.x7_words.proofs.FlashLemmas.{reads_at, reads_on}
-use Rattle.x7_update.specs.Writing.{HasLateCause}
-use Rattle.x7_update.proofs.VerifyLemmas.{fails_since}
-use Rattle.x7_update.proofs.ReadyLemmas.{sees_up_to, can_still_verify}
+use Rattle.x7_update.specs.Writing.{CountsFault}
+use Rattle.x7_update.proofs.StepLemmas.{can_still_verify, counts_since, read_none, read_on, uses_read}
 use Rattle.x7_update.specs.UpdateCalls.{reading, sectors_from}
 use Rattle.x7_words.specs.FlashHistory.{FlashHistory, with_calls, history_of}
 use Rattle.x7_update.specs.Made.{Stops}
-use Rattle.x7_update.proofs.MadeLemmas.{calls_none, calls_on, reading_from, reading_last, stops_more, stops_on}
+use Rattle.x7_update.proofs.MadeLemmas.{calls_none, calls_on, reading_last, reading_split_at, stops_more, stops_on}
 use Rattle.x7_update.proofs.verify.verify_stream.Goals as goal
 
 pub loop-sector-preserved : goal.loop-sector-preserved
@@ -27,30 +25,26 @@ loop-sector-preserved g c =
       made = calls_on (reading before.size c.args.stream.now place start (sector - start)) (reading before.size c.args.stream.now place sector 1) before now (history_of (g.F.Flash.state c.verify_sector.new.flash)) inv.made
           (subst (λ n. history_of (g.F.Flash.state c.verify_sector.new.flash) ≡ with_calls now (reading n c.args.stream.now place sector 1)) size c.in_ok-verify_sector.ensures.verified_calls)
           ∙ ap (λ l. with_calls before l) (sym (reading_last before.size c.args.stream.now place start sector h));
-      only = reads_on first mid last _ _ _ c.loop-sector.invariant.only c.verify_sector.ensures.only_reads;
+      reads = read_on first mid last c.loop-sector.invariant.reads c.verify_sector.ensures.reads;
       buffer = c.verify_sector.ensures.length;
-      seen = sees_up_to c.args.stream_place c.args.stream.now c.args.stream_place (c.loop-sector.sector * sector_size + sector_size) ((c.loop-sector.sector + 1) * sector_size) last (omega arith) c.in_ok-verify_sector.ensures.seen;
     }
 
-pub returns-clause-seen : goal.returns-clause-seen
-returns-clause-seen g c =
-    let first = g.F.Flash.state c.args.flash.now in
-    let end : first.extent ≤ c.loop-sector.sector * sector_size = omega (arith, c.size-sector-end.ensures.extent, c.requires.size.whole) in
-    sees_up_to c.args.stream_place c.args.stream.now c.args.stream_place (c.loop-sector.sector * sector_size) first.extent (g.F.Flash.state c.loop-sector.flash) end c.loop-sector.invariant.seen
-
-pub returns-in_err-verify_sector-clause-fault : goal.returns-in_err-verify_sector-clause-fault
-returns-in_err-verify_sector-clause-fault g c =
+pub returns-in_err-verify_sector-clause-counted : goal.returns-in_err-verify_sector-clause-counted
+returns-in_err-verify_sector-clause-counted g c =
     let first = g.F.Flash.state c.args.flash.now in
     let mid = g.F.Flash.state c.loop-sector.flash in
-    let only = c.loop-sector.invariant.only in
-    let since : IfErr c.verify_sector.result (HasLateCause c.args.stream.now first (g.F.Flash.state c.verify_sector.new.flash)) =
-    fails_since c.args.stream.now first mid (g.F.Flash.state c.verify_sector.new.flash) c.verify_sector.result only.faults (omega (arith, only.unwritten.write_faults)) (λ none. sym only.bytes ∙ none) c.verify_sector.ensures.fault in
+    let last = g.F.Flash.state c.verify_sector.new.flash in
+    let since : IfErr c.verify_sector.result (CountsFault first last) = counts_since first mid last c.verify_sector.result (uses_read first mid c.loop-sector.invariant.reads.only) c.verify_sector.ensures.counted in
     search rules
+
+pub returns-in_err-verify_sector-clause-reads : goal.returns-in_err-verify_sector-clause-reads
+returns-in_err-verify_sector-clause-reads g c =
+    read_on (g.F.Flash.state c.args.flash.now) (g.F.Flash.state c.loop-sector.flash) (g.F.Flash.state c.verify_sector.new.flash) c.loop-sector.invariant.reads c.verify_sector.ensures.reads
 
 pub verify_sector-requires-clause-written : goal.verify_sector-requires-clause-written
 verify_sector-requires-clause-written g c =
     let i = c.loop-sector.invariant in
-    can_still_verify (g.F.Flash.state c.args.flash.now) (g.F.Flash.state c.loop-sector.flash) c.args.stream_place c.args.stream.now c.args.buffer.now c.loop-sector.buffer i.only.attached i.only.extent i.only.bytes i.buffer c.requires
+    can_still_verify (g.F.Flash.state c.args.flash.now) (g.F.Flash.state c.loop-sector.flash) c.args.stream_place c.args.stream.now c.args.buffer.now c.loop-sector.buffer i.reads.only i.buffer c.requires
 
 -- ---- calls
 
@@ -61,9 +55,8 @@ loop-sector-init g c =
     let s = g.F.Flash.state c.args.flash.now in
     record {
       made = calls_none first ∙ ap (λ n. with_calls first (reading first.size c.args.stream.now c.args.stream_place (c.args.stream_place / sector_size) n)) (sym none);
-      only = reads_at s _;
+      reads = read_none s;
       buffer = c.requires.buffer_is;
-      seen = λ place from to. absurd (omega (arith, from, to, c.requires.place.whole));
     }
 
 pub returns-in_err-verify_sector-clause-fault_calls : goal.returns-in_err-verify_sector-clause-fault_calls
@@ -81,7 +74,7 @@ returns-in_err-verify_sector-clause-fault_calls g c =
     let k : sector < end = omega (arith, c.size-sector-end.ensures.extent) in
     let size = ap (λ (h : FlashHistory). h.size) c.loop-sector.invariant.made in
     let s : Stops (reading first.size stream place from (end - from)) first last fault =
-    subst (λ l. Stops l first last fault) (sym (reading_from first.size stream place from sector end h k))
+    subst (λ l. Stops l first last fault) (sym (reading_split_at first.size stream place from sector end h k))
     (stops_on (reading first.size stream place from (sector - from)) (reading first.size stream place sector 1 ++ reading first.size stream place (sector + 1) (end - (sector + 1))) first mid last fault c.loop-sector.invariant.made
     (stops_more (reading first.size stream place sector 1) (reading first.size stream place (sector + 1) (end - (sector + 1))) mid last fault
     (subst (λ n. Stops (reading n stream place sector 1) mid last fault) size c.in_err-verify_sector.ensures.fault_calls))) in

@@ -1,9 +1,8 @@
-use Rattle.std.proofs.Common.{◌≡◌, ◌*◌, ◌/◌, ◌-◌, length}
+use Rattle.std.proofs.Common.{◌≡◌, ◌/◌, ◌-◌, length}
 use Rattle.x7_words.specs.Flash.{sector_size}
-use Rattle.x7_words.specs.FlashCalls.{CallOnlyReads}
 use Rattle.x7_words.specs.FlashHistory.{history_of, with_calls}
 use Rattle.x7_update.specs.UpdateCalls.{reading}
-use Rattle.x7_update.specs.Writing.{SeesWanted}
+use Rattle.x7_update.specs.Writing.{IsReadStep}
 use Rattle.x7_update.proofs.verify.verify_stream.Given as goal
 
 abbrev pub invariant-loop-sector : goal.invariant-loop-sector
@@ -12,7 +11,6 @@ invariant-loop-sector g l =
     let first = f.state l.fn.flash in
     record {
       made : history_of (f.state l.flash) ≡ with_calls (history_of first) (reading first.extent l.stream l.stream_place (l.stream_place / sector_size) (l.sector - l.stream_place / sector_size));
-      only : CallOnlyReads f l.fn.flash l.flash;
+      reads : IsReadStep first (f.state l.flash);
       buffer : length l.buffer ≡ sector_size;
-      seen : SeesWanted l.stream_place l.stream l.stream_place (l.sector * sector_size) (f.state l.flash);
     }

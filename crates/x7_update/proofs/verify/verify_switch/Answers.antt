@@ -1,27 +1,34 @@
 use Rattle.std.proofs.Common.{◌≡◌, ◌+◌, ◌*◌, ℕ, IfErr, arith, subst, ◌-◌, ◌<◌, [], false, get_or, OnOk, refl, ap, ◌∙◌}
 use Rattle.x7_packets.specs.FlashSlot.{flash_slot_size}
+use Rattle.x7_words.specs.FlashHistory.{history_of}
+use Rattle.x7_words.specs.declared.flash_call.FlashCall.TheVariants.{Read, ReadFailed}
+use Rattle.x7_words.proofs.FollowLemmas.{follow_read}
 use Rattle.x7_update.specs.Layout.{open_switch}
 use Rattle.x7_update.specs.Writing.{IsWrong, ReadsWanted, wanted_at}
-use Rattle.x7_update.proofs.VerifyLemmas.{switch_fails}
-use Rattle.x7_update.proofs.ReadyLemmas.{sees_open}
-use Rattle.x7_words.specs.declared.flash_call.FlashCall.TheVariants.{Read, ReadFailed}
 use Rattle.x7_update.specs.declared.fault.UpdateFault.TheVariants.{Failed}
 use Rattle.x7_update.proofs.StreamLemmas.{wanted_inside}
 use Rattle.x7_update.proofs.MadeLemmas.{compared_err, compared_ok, stops_here}
-use Rattle.x7_words.specs.FlashHistory.{history_of}
+use Rattle.x7_update.proofs.StepLemmas.{wrong_counts}
 use Rattle.x7_update.proofs.verify.verify_switch.Goals as goal
 
-pub returns-clause-fault : goal.returns-clause-fault
-returns-clause-fault g c = λ stream.
-    let old = g.F.Flash.state c.args.flash.now in
-    let new = g.F.Flash.state c.read_at.new.self in
-    let slot = c.args.slot in
-    let at : flash_slot_size * slot + 0 ≡ flash_slot_size * slot = omega arith in
-    switch_fails slot c.read_at.new.buf stream old new c.compare.result c.in-Ok.ensures.length c.in-Ok.ensures.seen c.in-Ok.ensures.only.extent c.requires.size c.requires.slot c.requires.opened c.in-Ok.ensures.read
-    (subst (λ (p : ℕ). IfErr c.compare.result (IsWrong (flash_slot_size * slot) open_switch p c.read_at.new.buf)) at c.compare.ensures.wrong)
+pub returns-clause-reads : goal.returns-clause-reads
+returns-clause-reads g c =
+    let r = c.read_at.ensures in
+    record {
+      follows = follow_read c.read_at.result (flash_slot_size * c.args.slot) 4 c.read_at.new.buf (g.F.Flash.state c.args.flash.now) (g.F.Flash.state c.read_at.new.self) r.length r.only.bytes r.read r.read_call r.failed_call;
+      only = r.only;
+    }
 
-pub returns-clause-seen : goal.returns-clause-seen
-returns-clause-seen g c = sees_open (flash_slot_size * c.args.slot) c.read_at.new.buf (g.F.Flash.state c.read_at.new.self) c.compare.result c.in-Ok.ensures.length c.in-Ok.ensures.seen c.compare.ensures.same
+pub returns-in_default-clause-reads : goal.returns-in_default-clause-reads
+returns-in_default-clause-reads g c =
+    let r = c.read_at.ensures in
+    record {
+      follows = follow_read c.read_at.result (flash_slot_size * c.args.slot) 4 c.read_at.new.buf (g.F.Flash.state c.args.flash.now) (g.F.Flash.state c.read_at.new.self) r.length r.only.bytes r.read r.read_call r.failed_call;
+      only = r.only;
+    }
+
+pub returns-clause-counted : goal.returns-clause-counted
+returns-clause-counted g c = wrong_counts (flash_slot_size * c.args.slot) open_switch (flash_slot_size * c.args.slot + 0) c.read_at.new.buf (g.F.Flash.state c.args.flash.now) (g.F.Flash.state c.read_at.new.self) c.compare.result c.compare.ensures.wrong
 
 -- ---- calls
 

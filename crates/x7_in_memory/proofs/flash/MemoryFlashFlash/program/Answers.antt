@@ -1,9 +1,9 @@
-use Rattle.std.proofs.Common.{List, [], ◌∷◌, ◌++◌, ap, sym, ◌∙◌, arith}
+use Rattle.std.proofs.Common.{List, [], ◌∷◌, ◌++◌, ap, ◌∙◌, arith}
 use Rattle.x7_words.specs.Flash.{cleared}
 use Rattle.x7_words.specs.declared.flash_call.FlashCall.{FlashCall}
 use Rattle.x7_words.proofs.FlashLemmas.{length_cleared}
 use Rattle.x7_ghost.specs.Answered.{program_call}
-use Rattle.x7_in_memory.specs.Memory.{FlashInMemory, after_flash_write, flash_write_fails}
+use Rattle.x7_in_memory.specs.Memory.{FlashInMemory, after_flash_write}
 use Rattle.x7_in_memory.proofs.HistoryLemmas.{program_is_call}
 use Rattle.x7_in_memory.proofs.flash.MemoryFlashFlash.program.Goals as goal
 
@@ -16,5 +16,5 @@ returns-clause-is_call c =
     let call = program_call c.args.place c.args.given.now c.try_program-answer.result in
     let is = c.self.view_is ∙ c.try_program-answer.ensures.after in
     let kept = c.program.ensures ∙ ap (λ (f : FlashInMemory). f.history ++ call ∷ []) is in
-    program_is_call old _ c.args.place c.args.given.now (omega (arith, long, c.requires.within)) c.try_program-answer.result (c.try_program-answer.ensures.answer ∙ ap (flash_write_fails old) (sym long))
+    program_is_call old _ c.args.place c.args.given.now (omega (arith, long, c.requires.within)) c.try_program-answer.result c.try_program-answer.ensures.answer
     (ap (λ (f : FlashInMemory). record f { history = c.program.new.self }) is ∙ ap (λ (h : List FlashCall). record after { history = h }) kept)
