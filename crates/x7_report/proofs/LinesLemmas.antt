@@ -2,6 +2,7 @@
 use Rattle.std.proofs.Common.{◌≡◌, ◌++◌, ℕ, Bool, List, [], Option, codes, decimal, length, take, drop, refl, sym, ap, subst, ◌∙◌, append_assoc, append-nil}
 use Rattle.std.proofs.lemmas.Grind.{flat_map-append}
 use Rattle.std.proofs.lemmas.List.{take-append-drop}
+use Rattle.std.specs.List.{flat_map}
 use Rattle.x7_words.specs.Sink.{appended, PutsPrefix}
 use Rattle.x7_words.proofs.SinkLemmas.{appended_nil, appended_appended, prefix_more, begins_more}
 use Rattle.x7_part.specs.AddressOrder.{addresses_in}
@@ -14,36 +15,36 @@ use Rattle.x7_engine.specs.Standing.{DeviceState, NoWordDue, frames_due}
 use Rattle.x7_engine.specs.State.{state_of, state_owing}
 use Rattle.x7_engine.proofs.FrameLemmas.{none_frames}
 use Rattle.x7_engine.proofs.StateLemmas.{state_now}
-use Rattle.x7_report.specs.Frames.{frames_text, frame_text_if, frame_lines_text, addresses_shown}
+use Rattle.x7_report.specs.Frames.{AreRanksShown, addresses_shown, frames_text, lines_of_ranks}
 use Rattle.x7_report.specs.Reads.{reads_text}
 use Rattle.x7_report.specs.Reports.{report_head, report_text}
 use Rattle.x7_report.specs.State.{state_text}
 use Rattle.x7_report.proofs.ReportLemmas.{frames_same}
 
 -- the lines of all but the rest were written
-pub record Sent (first now : Option (List ℕ)) (memory : FrameMap) (fars rest : List ℕ) : Type 0 where
+pub record Sent (first now : Option (List ℕ)) (line : ℕ → List ℕ) (ranks rest : List ℕ) : Type 0 where
   pub done : List ℕ
   pub put : now ≡ appended first done
-  pub lines : frame_lines_text memory fars ≡ done ++ frame_lines_text memory rest
+  pub lines : flat_map line ranks ≡ done ++ flat_map line rest
 
-pub none_sent : (first : Option (List ℕ)) (memory : FrameMap) (fars : List ℕ) → Sent first first memory fars fars
-none_sent first memory fars = record { done = []; put = sym (appended_nil first); lines = refl }
+pub none_sent : (first : Option (List ℕ)) (line : ℕ → List ℕ) (ranks : List ℕ) → Sent first first line ranks ranks
+none_sent first line ranks = record { done = []; put = sym (appended_nil first); lines = refl }
 
-parted : (memory : FrameMap) (k : ℕ) (rest group more : List ℕ) → group ≡ take k rest → more ≡ drop k rest → frame_lines_text memory rest ≡ frame_lines_text memory group ++ frame_lines_text memory more
-parted memory k rest group more e f =
-    ap (frame_lines_text memory) (sym (take-append-drop k rest)) ∙ flat_map-append (λ far. frame_text_if far (memory far)) (take k rest) (drop k rest)
-    ∙ ap (λ t. frame_lines_text memory t ++ frame_lines_text memory (drop k rest)) (sym e) ∙ ap (λ t. frame_lines_text memory group ++ frame_lines_text memory t) (sym f)
+parted : (line : ℕ → List ℕ) (k : ℕ) (rest group more : List ℕ) → group ≡ take k rest → more ≡ drop k rest → flat_map line rest ≡ flat_map line group ++ flat_map line more
+parted line k rest group more e f =
+    ap (flat_map line) (sym (take-append-drop k rest)) ∙ flat_map-append line (take k rest) (drop k rest)
+    ∙ ap (λ t. flat_map line t ++ flat_map line (drop k rest)) (sym e) ∙ ap (λ t. flat_map line group ++ flat_map line t) (sym f)
 
-module _ (first now : Option (List ℕ)) (memory : FrameMap) (fars rest group more : List ℕ) (k : ℕ) (g : Sent first now memory fars rest) (e : group ≡ take k rest) (f : more ≡ drop k rest) where
-  pub more_sent : (next : Option (List ℕ)) → next ≡ appended now (frame_lines_text memory group) → Sent first next memory fars more
+module _ (first now : Option (List ℕ)) (line : ℕ → List ℕ) (ranks rest group more : List ℕ) (k : ℕ) (g : Sent first now line ranks rest) (e : group ≡ take k rest) (f : more ≡ drop k rest) where
+  pub more_sent : (next : Option (List ℕ)) → next ≡ appended now (flat_map line group) → Sent first next line ranks more
   more_sent next p = record {
-    done = g.done ++ frame_lines_text memory group;
-    put = p ∙ ap (λ t. appended t (frame_lines_text memory group)) g.put ∙ appended_appended first g.done (frame_lines_text memory group);
-    lines = g.lines ∙ ap (λ t. g.done ++ t) (parted memory k rest group more e f) ∙ sym (append_assoc g.done (frame_lines_text memory group) (frame_lines_text memory more));
+    done = g.done ++ flat_map line group;
+    put = p ∙ ap (λ t. appended t (flat_map line group)) g.put ∙ appended_appended first g.done (flat_map line group);
+    lines = g.lines ∙ ap (λ t. g.done ++ t) (parted line k rest group more e f) ∙ sym (append_assoc g.done (flat_map line group) (flat_map line more));
   }
 
-  pub next_failed : (next : Option (List ℕ)) → PutsPrefix now (frame_lines_text memory group) next → PutsPrefix first (frame_lines_text memory fars) next
-  next_failed next p = rw (g.lines, parted memory k rest group more e f) (prefix_more first now next g.done (frame_lines_text memory group) (frame_lines_text memory more) g.put p)
+  pub next_failed : (next : Option (List ℕ)) → PutsPrefix now (flat_map line group) next → PutsPrefix first (flat_map line ranks) next
+  next_failed next p = rw (g.lines, parted line k rest group more e f) (prefix_more first now next g.done (flat_map line group) (flat_map line more) g.put p)
 
 -- a text that was put after a head
 pub after_head : (first mid new : Option (List ℕ)) (head lines : List ℕ) → mid ≡ appended first head → new ≡ appended mid lines → new ≡ appended first (head ++ lines)
@@ -67,25 +68,23 @@ head_is name part_name snapshot state reads old first second third count a b e f
     g ∙ ap (λ (t : List ℕ). t ++ codes "frames " ++ decimal count ++ codes "\n") (f ∙ ap (λ (t : List ℕ). t ++ reads_text reads) (e ∙ ap (λ (x : List ℕ). old ++ state_text x snapshot) a ∙ ap (λ (x : Snapshot). old ++ state_text part_name x) b))
     ∙ ap (λ (t : List ℕ). t ++ codes "\n") (after old shown (reads_text reads) (codes "frames ") (decimal count)) ∙ append_assoc old (shown ++ reads_text reads ++ codes "frames " ++ decimal count) (codes "\n")
 
-play_is : (p q : PartData) (state : Snapshot) (reads : List ℕ) (frames : List (List ℕ)) (n : FrameMap) (head fars : List ℕ) → p ≡ q → HaveSameFrames (frame_at q frames) n → fars ≡ addresses_shown (frame_at p frames) (addresses_in p) →
-    head ≡ state_text q.name state ++ reads_text reads ++ codes "frames " ++ decimal (length fars) ++ codes "\n" → head ++ frame_lines_text (frame_at p frames) fars ≡ report_text q state reads n
+play_is : (part : PartData) (state : Snapshot) (reads : List ℕ) (frames : List (List ℕ)) (n : FrameMap) (ranks : List ℕ) → HaveSameFrames (frame_at part frames) n → AreRanksShown part frames (addresses_in part) ranks →
+    report_head part state reads (length ranks) ++ lines_of_ranks part frames ranks ≡ report_text part state reads n
 unfolding report_text frames_text
-play_is p q state reads frames n head fars d same e h =
-    let prefix = state_text q.name state ++ reads_text reads in
-    let m = frame_at p frames in
-    ap (λ (t : List ℕ). t ++ frame_lines_text m fars) h
-    ∙ after prefix (codes "frames ") (decimal (length fars)) (codes "\n") (frame_lines_text m fars)
-    ∙ ap (λ (t : List ℕ). prefix ++ (codes "frames " ++ decimal (length t) ++ codes "\n" ++ frame_lines_text m t)) e
-    ∙ ap (λ (x : PartData). prefix ++ frames_text (frame_at x frames) (addresses_in x)) d
-    ∙ ap (λ (t : List ℕ). prefix ++ t) (frames_same (frame_at q frames) n (addresses_in q) same)
+play_is part state reads frames n ranks same shown =
+    let prefix = state_text part.name state ++ reads_text reads in
+    let m = frame_at part frames in
+    after prefix (codes "frames ") (decimal (length ranks)) (codes "\n") (lines_of_ranks part frames ranks)
+    ∙ ap (λ (count : ℕ). prefix ++ (codes "frames " ++ decimal count ++ codes "\n" ++ lines_of_ranks part frames ranks)) shown.count
+    ∙ ap (λ (t : List ℕ). prefix ++ (codes "frames " ++ decimal (length (addresses_shown m (addresses_in part))) ++ codes "\n" ++ t)) shown.lines
+    ∙ ap (λ (t : List ℕ). prefix ++ t) (frames_same m n (addresses_in part) same)
 
 -- the text after which a report begins, and then the whole report
-pub begun_is : (p q : PartData) (state : Snapshot) (reads : List ℕ) (frames : List (List ℕ)) (n : FrameMap) (old head fars : List ℕ) → p ≡ q → HaveSameFrames (frame_at q frames) n → fars ≡ addresses_shown (frame_at p frames) (addresses_in p)
-    → head ≡ old ++ report_head q state reads (length fars) → head ++ frame_lines_text (frame_at p frames) fars ≡ old ++ report_text q state reads n
-begun_is p q state reads frames n old head fars d same e h =
-    let shown = report_head q state reads (length fars) in
-    let lines = frame_lines_text (frame_at p frames) fars in
-    ap (λ (t : List ℕ). t ++ lines) h ∙ append_assoc old shown lines ∙ ap (λ (t : List ℕ). old ++ t) (play_is p q state reads frames n shown fars d same e refl)
+pub begun_is : (part : PartData) (state : Snapshot) (reads : List ℕ) (frames : List (List ℕ)) (n : FrameMap) (old head ranks : List ℕ) → HaveSameFrames (frame_at part frames) n → AreRanksShown part frames (addresses_in part) ranks
+    → head ≡ old ++ report_head part state reads (length ranks) → head ++ lines_of_ranks part frames ranks ≡ old ++ report_text part state reads n
+begun_is part state reads frames n old head ranks same shown h =
+    let lines = lines_of_ranks part frames ranks in
+    ap (λ (t : List ℕ). t ++ lines) h ∙ append_assoc old (report_head part state reads (length ranks)) lines ∙ ap (λ (t : List ℕ). old ++ t) (play_is part state reads frames n ranks same shown)
 
 -- where no word is due, the state reported is that of the bytes
 pub owing_none : (part : PartData) (kept : Kept) (wrapped : Bool) (bytes : List ℕ) (d : DeviceState) → NoWordDue d → state_owing part kept wrapped bytes (frames_due d.registers.values.due) ≡ state_of part kept wrapped bytes
@@ -93,22 +92,22 @@ owing_none part kept wrapped bytes d none = ap (state_owing part kept wrapped by
 
 -- ---- a report that is written
 
-pub joined : (p q : PartData) (frames memory : List (List ℕ)) (head kept fars places : List ℕ) → p ≡ q → frames ≡ memory → head ≡ kept → fars ≡ places →
-    head ++ frame_lines_text (frame_at p frames) fars ≡ kept ++ frame_lines_text (frame_at q memory) places
-joined p q frames memory head kept fars places a b e f =
-    ap (λ (t : List ℕ). t ++ frame_lines_text (frame_at p frames) fars) e ∙ ap (λ (x : PartData). kept ++ frame_lines_text (frame_at x frames) fars) a
-    ∙ ap (λ (x : List (List ℕ)). kept ++ frame_lines_text (frame_at q x) fars) b ∙ ap (λ (x : List ℕ). kept ++ frame_lines_text (frame_at q memory) x) f
+pub joined : (p q : PartData) (frames memory : List (List ℕ)) (head kept ranks places : List ℕ) → p ≡ q → frames ≡ memory → head ≡ kept → ranks ≡ places →
+    head ++ lines_of_ranks p frames ranks ≡ kept ++ lines_of_ranks q memory places
+joined p q frames memory head kept ranks places a b e f =
+    ap (λ (t : List ℕ). t ++ lines_of_ranks p frames ranks) e ∙ ap (λ (x : PartData). kept ++ lines_of_ranks x frames ranks) a
+    ∙ ap (λ (x : List (List ℕ)). kept ++ lines_of_ranks q x ranks) b ∙ ap (λ (x : List ℕ). kept ++ lines_of_ranks q memory x) f
 
-pub report_failed : (first mid new : Option (List ℕ)) (p q : PartData) (frames memory : List (List ℕ)) (head kept fars places text : List ℕ) → p ≡ q → frames ≡ memory → head ≡ kept → fars ≡ places →
-    kept ++ frame_lines_text (frame_at q memory) places ≡ text → mid ≡ appended first head → PutsPrefix mid (frame_lines_text (frame_at p frames) fars) new → PutsPrefix first text new
-report_failed first mid new p q frames memory head kept fars places text a b e f t put failed =
-    let whole : head ++ frame_lines_text (frame_at p frames) fars ≡ text = joined p q frames memory head kept fars places a b e f ∙ t in
-    rw (← whole) (lines_failed first mid new head (frame_lines_text (frame_at p frames) fars) put failed)
+pub report_failed : (first mid new : Option (List ℕ)) (p q : PartData) (frames memory : List (List ℕ)) (head kept ranks places text : List ℕ) → p ≡ q → frames ≡ memory → head ≡ kept → ranks ≡ places →
+    kept ++ lines_of_ranks q memory places ≡ text → mid ≡ appended first head → PutsPrefix mid (lines_of_ranks p frames ranks) new → PutsPrefix first text new
+report_failed first mid new p q frames memory head kept ranks places text a b e f t put failed =
+    let whole : head ++ lines_of_ranks p frames ranks ≡ text = joined p q frames memory head kept ranks places a b e f ∙ t in
+    rw (← whole) (lines_failed first mid new head (lines_of_ranks p frames ranks) put failed)
 
-pub report_whole : (first mid new : Option (List ℕ)) (p q : PartData) (frames memory : List (List ℕ)) (head kept fars places text : List ℕ) → p ≡ q → frames ≡ memory → head ≡ kept → fars ≡ places →
-    kept ++ frame_lines_text (frame_at q memory) places ≡ text → mid ≡ appended first head → new ≡ appended mid (frame_lines_text (frame_at p frames) fars) → new ≡ appended first text
-report_whole first mid new p q frames memory head kept fars places text a b e f t put lines =
-    after_head first mid new head (frame_lines_text (frame_at p frames) fars) put lines ∙ ap (appended first) (joined p q frames memory head kept fars places a b e f ∙ t)
+pub report_whole : (first mid new : Option (List ℕ)) (p q : PartData) (frames memory : List (List ℕ)) (head kept ranks places text : List ℕ) → p ≡ q → frames ≡ memory → head ≡ kept → ranks ≡ places →
+    kept ++ lines_of_ranks q memory places ≡ text → mid ≡ appended first head → new ≡ appended mid (lines_of_ranks p frames ranks) → new ≡ appended first text
+report_whole first mid new p q frames memory head kept ranks places text a b e f t put lines =
+    after_head first mid new head (lines_of_ranks p frames ranks) put lines ∙ ap (appended first) (joined p q frames memory head kept ranks places a b e f ∙ t)
 
 -- a prefix of a report's head is one of the report
 pub report_began : (first new : Option (List ℕ)) (head kept lines text : List ℕ) → head ≡ kept → kept ++ lines ≡ text → PutsPrefix first head new → PutsPrefix first text new

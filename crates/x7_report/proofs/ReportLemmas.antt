@@ -1,12 +1,16 @@
 -- Lemmas on the frames of a report.
-use Rattle.std.proofs.Common.{◌≡◌, ◌<◌, ◌≤◌, ◌+◌, ℕ, Bool, true, false, if◌then◌else◌, Option, codes, decimal, List, [], ◌∷◌, ◌++◌, length, take, get_or, refl, ap, sym, ◌∙◌, append_assoc, append-nil, arith, Vec}
+use Rattle.std.proofs.Common.{◌≡◌, ◌<◌, ◌≤◌, ◌+◌, ℕ, Bool, true, false, if◌then◌else◌, Option, codes, decimal, List, [], ◌∷◌, ◌++◌, length, take, get_or, refl, ap, sym, ◌∙◌, append_assoc, append-nil, arith, length-append, Vec}
 use Rattle.std.specs.List.{flat_map}
+use Rattle.std.proofs.lemmas.Bool.{lt-ltb}
 use Rattle.std.proofs.lemmas.Grind.{flat_map-append}
 use Rattle.std.proofs.lemmas.List.{take_all, take_more}
 use Rattle.std.specs.declared.alloc.Global.{Global}
 use Rattle.x7_text.specs.Appends.{Appends}
+use Rattle.x7_part.specs.AddressOrder.{addresses_in}
+use Rattle.x7_part.specs.Part.{PartData}
 use Rattle.x7_memory.specs.FrameMap.{HaveSameFrames, FrameMap}
-use Rattle.x7_report.specs.Frames.{frames_text, has_nonzero_word, frame_text_if, addresses_shown}
+use Rattle.x7_memory.specs.PartFrames.{frame_at}
+use Rattle.x7_report.specs.Frames.{AreRanksShown, addresses_shown, frame_text_if, frames_text, has_nonzero_word, line_of_rank, lines_of_ranks}
 
 pub shown_append : (memory : FrameMap) (xs ys : List ℕ) → addresses_shown memory (xs ++ ys) ≡ addresses_shown memory xs ++ addresses_shown memory ys
 shown_append memory [] ys = refl
@@ -16,10 +20,39 @@ shown_append memory (x ∷ xs) ys = by (has_nonzero_word (memory x)) (addresses_
     by true first all e = ap (λ t. x ∷ t) e
     by false first all e = e
 
-pub shown_more : (memory : FrameMap) (fars : List ℕ) (i : ℕ) (b : Bool) → i < length fars → has_nonzero_word (memory (get_or fars i 0)) ≡ b → addresses_shown memory (take (i + 1) fars) ≡ addresses_shown memory (take i fars) ++ (if b then get_or fars i 0 ∷ [] else [])
+shown_more : (memory : FrameMap) (fars : List ℕ) (i : ℕ) (b : Bool) → i < length fars → has_nonzero_word (memory (get_or fars i 0)) ≡ b → addresses_shown memory (take (i + 1) fars) ≡ addresses_shown memory (take i fars) ++ (if b then get_or fars i 0 ∷ [] else [])
 shown_more memory fars i b l e =
     ap (addresses_shown memory) (take_more fars i 0 l) ∙ shown_append memory (take i fars) (get_or fars i 0 ∷ [])
     ∙ ap (λ (x : Bool). addresses_shown memory (take i fars) ++ (if x then get_or fars i 0 ∷ [] else [])) e
+
+-- one rank more: it is shown where its frame has a word other than 0
+pub ranks_more : (part : PartData) (frames : List (List ℕ)) (ranks : List ℕ) (i : ℕ) (b : Bool) → i < length (addresses_in part) → has_nonzero_word (frame_at part frames (get_or (addresses_in part) i 0)) ≡ b
+    → AreRanksShown part frames (take i (addresses_in part)) ranks → AreRanksShown part frames (take (i + 1) (addresses_in part)) (ranks ++ (if b then i ∷ [] else []))
+ranks_more part frames ranks i b few e shown = record {
+  count = counted b ∙ ap length (sym more);
+  lines = flat_map-append (line_of_rank part frames) ranks (if b then i ∷ [] else []) ∙ ap (λ (t : List ℕ). t ++ lines_of_ranks part frames (if b then i ∷ [] else [])) shown.lines
+      ∙ ap (λ (t : List ℕ). flat_map text before ++ t) (last b) ∙ sym (flat_map-append text before (if b then far ∷ [] else [])) ∙ ap (flat_map text) (sym more);
+}
+  where
+    far : ℕ
+    far = get_or (addresses_in part) i 0
+
+    text : ℕ → List ℕ
+    text x = frame_text_if x (frame_at part frames x)
+
+    before : List ℕ
+    before = addresses_shown (frame_at part frames) (take i (addresses_in part))
+
+    more : addresses_shown (frame_at part frames) (take (i + 1) (addresses_in part)) ≡ before ++ (if b then far ∷ [] else [])
+    more = shown_more (frame_at part frames) (addresses_in part) i b few e
+
+    counted : (b : Bool) → length (ranks ++ (if b then i ∷ [] else [])) ≡ length (before ++ (if b then far ∷ [] else []))
+    counted true = omega (arith, length-append ranks (i ∷ []), length-append before (far ∷ []), shown.count)
+    counted false = omega (arith, length-append ranks [], length-append before [], shown.count)
+
+    last : (b : Bool) → lines_of_ranks part frames (if b then i ∷ [] else []) ≡ flat_map text (if b then far ∷ [] else [])
+    last true = ap (λ (t : Bool). (if t then text far else []) ++ []) (lt-ltb i (length (addresses_in part)) few)
+    last false = refl
 
 shown_same : (m n : FrameMap) (fars : List ℕ) → HaveSameFrames m n → addresses_shown m fars ≡ addresses_shown n fars
 shown_same m n [] same = refl
@@ -62,10 +95,3 @@ all_appended text items i n most start new h l o = record {
   within = omega (arith, o.within, l);
   room = o.room;
 }
-
--- one line more of a list of lines
-pub lines_on : (f : ℕ → List ℕ) (fars : List ℕ) (i : ℕ) (first mid new : List ℕ) → i < length fars → mid ≡ first ++ flat_map f (take i fars) → new ≡ mid ++ f (get_or fars i 0) → new ≡ first ++ flat_map f (take (i + 1) fars)
-lines_on f fars i first mid new h e n =
-    let more : flat_map f (take (i + 1) fars) ≡ flat_map f (take i fars) ++ f (get_or fars i 0)
-    = ap (flat_map f) (take_more fars i 0 h) ∙ flat_map-append f (take i fars) (get_or fars i 0 ∷ []) ∙ ap (λ (t : List ℕ). flat_map f (take i fars) ++ t) (append-nil (f (get_or fars i 0))) in
-    n ∙ ap (λ (t : List ℕ). t ++ f (get_or fars i 0)) e ∙ append_assoc first (flat_map f (take i fars)) (f (get_or fars i 0)) ∙ ap (λ (t : List ℕ). first ++ t) (sym more)

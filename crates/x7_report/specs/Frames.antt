@@ -1,10 +1,12 @@
 -- The lines of frames, and which frames a report shows (this project's choice).
-use Rattle.std.specs.Prelude.{ℕ, ◌+◌, ◌*◌, not, Bool, false, if◌then◌else◌, Option, None, Some, List, [], ◌∷◌, ◌++◌, codes, decimal, length}
+use Rattle.std.specs.Prelude.{◌≡◌, ℕ, ◌+◌, ◌*◌, not, Bool, false, if◌then◌else◌, Option, None, Some, List, [], ◌∷◌, ◌++◌, codes, decimal, length, nat_lt, slice_index}
 use Rattle.std.specs.List.{flat_map}
 use Rattle.x7_words.specs.Characters.{space_byte}
+use Rattle.x7_part.specs.AddressOrder.{addresses_in}
 use Rattle.x7_part.specs.Limits.{most_frame_words}
+use Rattle.x7_part.specs.Part.{PartData}
 use Rattle.x7_memory.specs.FrameMap.{FrameMap}
-use Rattle.x7_memory.specs.PartFrames.{are_zeros}
+use Rattle.x7_memory.specs.PartFrames.{are_zeros, frame_at}
 use Rattle.x7_text.specs.Digits.{hex_word}
 
 -- how many bytes the line of a frame with `count` words takes: eight digits a word, and 16 bytes for `frame `, the
@@ -46,6 +48,21 @@ frame_text_if far (Some words) = frame_text far words
 -- the lines of the frames at these addresses
 abbrev pub frame_lines_text : FrameMap → List ℕ → List ℕ
 frame_lines_text memory fars = flat_map (λ far. frame_text_if far (memory far)) fars
+
+-- the line of the frame of a rank, of a part's frames, and nothing past the last rank
+abbrev pub line_of_rank : PartData → List (List ℕ) → ℕ → List ℕ
+line_of_rank part frames rank =
+    let far = slice_index (addresses_in part) rank in
+    if nat_lt rank (length (addresses_in part)) then frame_text_if far (frame_at part frames far) else []
+
+-- the lines of the frames of these ranks
+abbrev pub lines_of_ranks : PartData → List (List ℕ) → List ℕ → List ℕ
+lines_of_ranks part frames ranks = flat_map (line_of_rank part frames) ranks
+
+-- these are the ranks of the frames shown at these addresses: so many, and with these lines
+pub record AreRanksShown (part : PartData) (frames : List (List ℕ)) (fars ranks : List ℕ) : Type 0 where
+  pub count : length ranks ≡ length (addresses_shown (frame_at part frames) fars)
+  pub lines : lines_of_ranks part frames ranks ≡ frame_lines_text (frame_at part frames) (addresses_shown (frame_at part frames) fars)
 
 -- the number of the frames shown at these addresses, and their lines in the addresses' order
 unfoldable pub frames_text : FrameMap → List ℕ → List ℕ

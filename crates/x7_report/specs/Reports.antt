@@ -3,12 +3,11 @@ use Rattle.std.specs.Prelude.{ℕ, Bool, List, ◌++◌, codes, decimal}
 use Rattle.x7_part.specs.AddressOrder.{addresses_in}
 use Rattle.x7_part.specs.Part.{PartData}
 use Rattle.x7_memory.specs.FrameMap.{FrameMap}
-use Rattle.x7_memory.specs.PartFrames.{frame_at}
 use Rattle.x7_engine.specs.declared.snapshot.Snapshot.{Snapshot}
 use Rattle.x7_engine.specs.Past.{Past}
 use Rattle.x7_engine.specs.Standing.{DeviceState, frames_due}
 use Rattle.x7_engine.specs.State.{state_owing}
-use Rattle.x7_report.specs.Frames.{frame_lines_text, frames_text}
+use Rattle.x7_report.specs.Frames.{frames_text, lines_of_ranks}
 use Rattle.x7_report.specs.Reads.{reads_text}
 use Rattle.x7_report.specs.State.{state_text}
 
@@ -24,9 +23,9 @@ report_head part snapshot reads count = state_text part.name snapshot ++ reads_t
 unfoldable pub report_text : PartData → Snapshot → List ℕ → FrameMap → List ℕ
 report_text part snapshot reads memory = state_text part.name snapshot ++ reads_text reads ++ frames_text memory (addresses_in part)
 
--- `head`, and after it the lines of the device's frames at the addresses `fars`
+-- `head`, and after it the lines of the device's frames of these ranks
 abbrev pub text_begun : DeviceState → List ℕ → List ℕ → List ℕ
-text_begun device head fars = head ++ frame_lines_text (frame_at device.part device.registers.frames.memory) fars
+text_begun device head ranks = head ++ lines_of_ranks device.part device.registers.frames.memory ranks
 
 -- a text that is ready to be written (a report, and any lines before it), and whether what it reports stopped, as the
 -- caller of `PlayText::new` says

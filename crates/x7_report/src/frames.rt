@@ -1,12 +1,12 @@
 //! The lines of frames, and which frames a report shows.
-ghost use Rattle.std.specs.Prelude.{◌≡◌, ◌∷◌, ◌++◌, ◌<◌, ◌+◌, ◌*◌, [], codes, decimal, slice_index, length, IfOk, OnOk, OnErr};
+ghost use Rattle.std.specs.Prelude.{◌≡◌, ◌++◌, ◌<◌, ◌+◌, ◌*◌, codes, decimal, slice_index, length, IfOk, OnOk, OnErr};
 ghost use Rattle.std.specs.List.{flat_map};
 ghost use Rattle.x7_text.specs.Appends.{Appends, HasSpareRoom};
 ghost use Rattle.x7_text.specs.Digits.{hex_word};
 ghost use Rattle.x7_words.specs.Word.{bytes_of_word};
 ghost use Rattle.x7_part.specs.AddressOrder.{addresses_in};
 ghost use Rattle.x7_memory.specs.PartFrames.{AreFramesOf, frame_at};
-ghost use Rattle.x7_report.specs.Frames.{frame_line_room, frame_line_size, frame_text, has_nonzero_word, frame_lines_text, frame_text_if, addresses_shown};
+ghost use Rattle.x7_report.specs.Frames.{frame_line_room, frame_line_size, frame_text, has_nonzero_word, line_of_rank, lines_of_ranks, AreRanksShown};
 
 use crate::state::put_named_word;
 use std::alloc::Global;
@@ -127,65 +127,45 @@ fn is_shown_at(_part: &Part, memory: &Memory, rank: u32) -> bool
     }
 }
 
-/// Appends the address of a rank. That the part has one is required: without one nothing would be appended.
-fn push_address(fars: &mut Vec<u32>, part: &Part, rank: u32) -> Result<(), NoMemory>
-    requires { rank < length (addresses_in part.now) }
-    ensures { OnOk result (fars.new.items ≡ fars.old.items ++ slice_index (addresses_in part.now) rank ∷ []) }
-{
-    if let Some(far) = part.address(rank) {
-        fars.push(far)?;
-    }
-    Ok(())
-}
-
-/// The addresses of the frames that have a word other than 0, in number order.
-pub(crate) fn shown_addresses(
-    alloc: Global,
-    part: &Part,
-    memory: &Memory,
-) -> Result<Vec<u32>, NoMemory>
+/// The ranks of the frames that have a word other than 0.
+pub(crate) fn shown_ranks(alloc: Global, part: &Part, memory: &Memory) -> Result<Vec<u32>, NoMemory>
     requires { AreFramesOf part.now memory.now }
-    ensures { IfOk result (λ fars. fars.items ≡ addresses_shown (frame_at part.now memory.now) (addresses_in part.now)) }
+    ensures { IfOk result (λ ranks. AreRanksShown part.now memory.now (addresses_in part.now) ranks.items) }
 {
-    let mut fars = Vec::new(alloc);
+    let mut ranks = Vec::new(alloc);
     for rank in 0..part.frames() {
         if is_shown_at(part, memory, rank) {
-            push_address(&mut fars, part, rank)?;
+            ranks.push(rank)?;
         }
     }
-    Ok(fars)
+    Ok(ranks)
 }
 
-/// Appends the line of the frame at the address `far`, and nothing where there is no frame. `text` must have room for
-/// the longest line of a frame; no memory is taken.
-pub(crate) fn put_frame_at(text: &mut Vec<u8>, part: &Part, memory: &Memory, far: u32)
+/// Appends the line of the frame of a rank, and nothing past the last rank. `text` must have room for the longest line
+/// of a frame; no memory is taken.
+fn put_line(text: &mut Vec<u8>, part: &Part, memory: &Memory, rank: u32)
     requires memory { AreFramesOf part.now memory.now }
     requires room { HasSpareRoom text.old frame_line_room }
-    ensures appends { Appends text.old text.new (frame_text_if far (frame_at part.now memory.now far)) frame_line_room }
+    ensures appends { Appends text.old text.new (line_of_rank part.now memory.now rank) frame_line_room }
 {
     // For the proof alone: a frame has at most `MOST_FRAME_WORDS` words.
     let _words = part.words();
-    match memory.frame(part, far) {
-        Some(words) => put_frame(text, far, words),
-        None => (),
+    match (part.address(rank), memory.frame_at_rank(rank)) {
+        (Some(far), Some(words)) => put_frame(text, far, words),
+        _ => (),
     }
 }
 
-/// Appends the lines of the frames at these addresses.
-pub(crate) fn put_frame_lines(
-    text: &mut Vec<u8>,
-    part: &Part,
-    memory: &Memory,
-    fars: &[u32],
-) -> Result<(), NoMemory>
-    requires { AreFramesOf part.now memory.now }
-    ensures { OnOk result (text.new.items ≡ text.old.items ++ frame_lines_text (frame_at part.now memory.now) fars.now) }
+/// Appends the lines of the frames of these ranks. `text` must have room for as many of the longest lines; no memory is
+/// taken.
+pub(crate) fn put_lines(text: &mut Vec<u8>, part: &Part, memory: &Memory, ranks: &[u32])
+    requires memory { AreFramesOf part.now memory.now }
+    requires room { HasSpareRoom text.old (frame_line_room * length ranks.now) }
+    ensures appends { Appends text.old text.new (lines_of_ranks part.now memory.now ranks.now) (frame_line_room * length ranks.now) }
 {
-    for far in fars {
-        make_room(text, FRAME_LINE_ROOM)?;
-        put_frame_at(text, part, memory, *far);
+    for rank in ranks {
+        put_line(text, part, memory, *rank);
     }
-    Ok(())
 }
 
 /// Appends the line of the number of frames that a report shows.

@@ -4,11 +4,12 @@ ghost use Rattle.x7_engine.specs.Past.{ForEachPast, memory_at, state_at};
 ghost use Rattle.x7_engine.specs.Standing.{NoWordDue};
 ghost use Rattle.x7_report.specs.Reports.{report_head, report_text, state_reported, text_begun};
 
-use crate::frames::{put_frame_count, put_frame_lines, shown_addresses};
+use crate::frames::{FRAME_LINE_ROOM, put_frame_count, put_lines, shown_ranks};
 use crate::reads::put_reads;
 use crate::state::put_state;
 use std::alloc::Global;
 use x7_engine::Device;
+use x7_text::make_room;
 use x7_words::NoMemory;
 
 /// Appends what a report has before the lines of its frames, of which it shows `count`: the lines of the device's
@@ -27,19 +28,19 @@ fn put_head(
     put_frame_count(text, count)
 }
 
-/// Appends what a report has before the lines of its frames, and gives the addresses of the frames that it shows.
+/// Appends what a report has before the lines of its frames, and gives the ranks of the frames that it shows.
 pub(crate) fn begin_report(
     alloc: Global,
     text: &mut Vec<u8>,
     device: &Device,
     reads: &[u32],
 ) -> Result<Vec<u32>, NoMemory>
-    ensures { IfOk result (λ fars. ForEachPast device.now (λ p.
-        text_begun device.now text.new.items fars.items ≡ text.old.items ++ report_text p.part (state_reported device.now p) reads.now (memory_at p))) }
+    ensures { IfOk result (λ ranks. ForEachPast device.now (λ p.
+        text_begun device.now text.new.items ranks.items ≡ text.old.items ++ report_text p.part (state_reported device.now p) reads.now (memory_at p))) }
 {
-    let fars = shown_addresses(alloc, device.part(), device.memory())?;
-    put_head(text, device, reads, fars.len())?;
-    Ok(fars)
+    let ranks = shown_ranks(alloc, device.part(), device.memory())?;
+    put_head(text, device, reads, ranks.len())?;
+    Ok(ranks)
 }
 
 /// The report of a device and of the words that it read out (this project's choice): `part NAME`; `taken N`, how many
@@ -52,7 +53,11 @@ pub fn report(alloc: Global, device: &Device, reads: &[u32]) -> Result<Vec<u8>, 
     ensures owing { IfOk result (λ text. ForEachPast device.now (λ p. text.items ≡ report_text p.part (state_reported device.now p) reads.now (memory_at p))) }
 {
     let mut text = Vec::new(alloc);
-    let fars = begin_report(alloc, &mut text, device, reads)?;
-    put_frame_lines(&mut text, device.part(), device.memory(), &fars)?;
+    let ranks = begin_report(alloc, &mut text, device, reads)?;
+    let Some(room) = ranks.len().checked_mul(FRAME_LINE_ROOM) else {
+        return Err(NoMemory);
+    };
+    make_room(&mut text, room)?;
+    put_lines(&mut text, device.part(), device.memory(), &ranks);
     Ok(text)
 }

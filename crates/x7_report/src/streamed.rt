@@ -1,14 +1,13 @@
 //! The report of a device, ready to be written: the lines of its frames are made as they are written, some at a time.
-ghost use Rattle.std.specs.Prelude.{◌≡◌, ◌++◌, ◌*◌, ◌≤◌, length, vec_capacity, IfOk, OnErr, OnOk};
+ghost use Rattle.std.specs.Prelude.{◌≡◌, ◌++◌, ◌≤◌, vec_capacity, IfOk, OnErr, OnOk};
 ghost use Rattle.x7_words.specs.Sink.{SinkFaultsNeverFall, PutsAll, PutsSome, SinkFails};
-ghost use Rattle.x7_text.specs.Appends.{Appends, HasSpareRoom};
-ghost use Rattle.x7_memory.specs.PartFrames.{AreFramesOf, frame_at};
+ghost use Rattle.x7_memory.specs.PartFrames.{AreFramesOf};
 ghost use Rattle.x7_engine.specs.Past.{ForEachPast, memory_at, state_at};
 ghost use Rattle.x7_engine.specs.Standing.{NoWordDue};
-ghost use Rattle.x7_report.specs.Frames.{frame_line_room, room_at_once, frame_lines_text};
+ghost use Rattle.x7_report.specs.Frames.{lines_of_ranks, room_at_once};
 ghost use Rattle.x7_report.specs.Reports.{report_text, state_reported};
 
-use crate::frames::{FRAME_LINE_ROOM, put_frame_at};
+use crate::frames::{FRAME_LINE_ROOM, put_lines};
 use crate::reports::begin_report;
 use std::alloc::Global;
 use std::marker::Model;
@@ -23,36 +22,24 @@ const LINES_AT_ONCE: usize = 128;
 /// The most bytes that the lines written at once take.
 const ROOM_AT_ONCE: usize = LINES_AT_ONCE * FRAME_LINE_ROOM;
 
-/// Appends the lines of the frames at the addresses `fars`. `text` must have room for as many of the longest lines; no
-/// memory is taken.
-fn put_lines(text: &mut Vec<u8>, part: &Part, memory: &Memory, fars: &[u32])
-    requires memory { AreFramesOf part.now memory.now }
-    requires room { HasSpareRoom text.old (frame_line_room * length fars.now) }
-    ensures appends { Appends text.old text.new (frame_lines_text (frame_at part.now memory.now) fars.now) (frame_line_room * length fars.now) }
-{
-    for far in fars {
-        put_frame_at(text, part, memory, *far);
-    }
-}
-
-/// Writes the lines of the frames at these addresses, up to 128 at once. No memory is taken.
+/// Writes the lines of the frames of these ranks, up to 128 at once. No memory is taken.
 fn write_lines<S: Sink>(
     out: &mut S,
     part: &Part,
     memory: &Memory,
-    fars: &[u32],
+    ranks: &[u32],
     buffer: &mut Vec<u8>,
 ) -> Result<(), Failed>
     requires memory { AreFramesOf part.now memory.now }
     requires room { room_at_once ≤ vec_capacity buffer.old }
-    ensures whole { OnOk result (PutsAll (S.state out.old) (frame_lines_text (frame_at part.now memory.now) fars.now) (S.state out.new)) }
-    ensures prefix { PutsSome (S.state out.old) (frame_lines_text (frame_at part.now memory.now) fars.now) (S.state out.new) }
+    ensures whole { OnOk result (PutsAll (S.state out.old) (lines_of_ranks part.now memory.now ranks.now) (S.state out.new)) }
+    ensures prefix { PutsSome (S.state out.old) (lines_of_ranks part.now memory.now ranks.now) (S.state out.new) }
     ensures failed { OnErr result (SinkFails (S.state out.old) (S.state out.new)) }
     ensures no_fault { OnOk result ((S.state out.new).faults ≡ (S.state out.old).faults) }
     ensures counts { SinkFaultsNeverFall (S.state out.old) (S.state out.new) }
     ensures room { room_at_once ≤ vec_capacity buffer.new }
 {
-    let mut rest = fars;
+    let mut rest = ranks;
     while rest.len() > 0 {
         let (next, more) = rest.split_at(rest.len().min(LINES_AT_ONCE));
         buffer.clear();
@@ -64,12 +51,12 @@ fn write_lines<S: Sink>(
 }
 
 /// Lines and after them the report of a device, ready to be written: what comes before the lines of its frames, the
-/// addresses of the frames that it shows, and room for the lines that are written at once.
+/// ranks of the frames that it shows, and room for the lines that are written at once.
 pub struct PlayText {
     stopped: bool,
     device: Device,
     head: Vec<u8>,
-    fars: Vec<u32>,
+    ranks: Vec<u32>,
     buffer: Vec<u8>,
 }
 
@@ -79,7 +66,7 @@ impl Drop for PlayText {
             stopped: _,
             device: _,
             head: _,
-            fars: _,
+            ranks: _,
             buffer: _,
         } = self;
     }
@@ -87,13 +74,12 @@ impl Drop for PlayText {
 
 impl Model for PlayText {
     ghost use Rattle.std.specs.Prelude.{◌++◌, ◌≤◌, vec_capacity};
-    ghost use Rattle.x7_memory.specs.PartFrames.{frame_at};
-    ghost use Rattle.x7_report.specs.Frames.{room_at_once, frame_lines_text};
+    ghost use Rattle.x7_report.specs.Frames.{lines_of_ranks, room_at_once};
     ghost use Rattle.x7_report.specs.Reports.{PlayTextState};
 
     ghost Value = { PlayTextState };
 
-    ghost view = { λ t. record { stopped = t.stopped; text = t.head.items ++ frame_lines_text (frame_at t.device.part t.device.registers.frames.memory) t.fars.items } };
+    ghost view = { λ t. record { stopped = t.stopped; text = t.head.items ++ lines_of_ranks t.device.part t.device.registers.frames.memory t.ranks.items } };
 
     ghost invariant = { λ t. room_at_once ≤ vec_capacity t.buffer };
 }
@@ -115,12 +101,12 @@ impl PlayText {
             text ≡ record { stopped = stopped; text = head.items ++ report_text p.part (state_reported device p) reads.now (memory_at p) })) }
     {
         let buffer = Vec::with_capacity(alloc, ROOM_AT_ONCE)?;
-        let fars = begin_report(alloc, &mut head, &device, reads)?;
+        let ranks = begin_report(alloc, &mut head, &device, reads)?;
         Ok(PlayText {
             stopped,
             device,
             head,
-            fars,
+            ranks,
             buffer,
         })
     }
@@ -146,7 +132,7 @@ impl PlayText {
             out,
             self.device.part(),
             self.device.memory(),
-            &self.fars,
+            &self.ranks,
             &mut self.buffer,
         )
     }

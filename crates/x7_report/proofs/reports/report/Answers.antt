@@ -1,4 +1,4 @@
-use Rattle.std.proofs.Common.{◌++◌, ap, List, ℕ, refl, ◌∙◌}
+use Rattle.std.proofs.Common.{◌++◌, ap, List, ℕ, ◌∙◌}
 use Rattle.x7_engine.specs.declared.snapshot.Snapshot.{Snapshot}
 use Rattle.x7_engine.specs.Past.{past_of}
 use Rattle.x7_engine.specs.State.{memory_of_bytes}
@@ -10,9 +10,9 @@ pub returns-clause-owing : goal.returns-clause-owing
 returns-clause-owing c = λ part kept wrapped bytes s.
     let d = c.args.device.now in
     let text = c.begin_report.new.text.items in
-    let fars = c.in_ok-fars.fars.items in
-    c.in_ok-put_frame_lines.ensures ∙ joined c.part.result.now d.part c.memory.result.now d.registers.frames.memory text text c.deref.result.now fars c.part.ensures.stored c.memory.ensures.stored refl c.deref.ensures.value
-    ∙ c.in_ok-fars.ensures part kept wrapped bytes s ∙ ap (λ (t : List ℕ). t ++ report_text part (state_reported d (past_of part kept wrapped bytes)) c.args.reads.now (memory_of_bytes part kept bytes)) c.new-text.ensures.items
+    let ranks = c.in_ok-ranks.ranks.items in
+    c.put_lines.ensures.appends.items ∙ joined c.part.result.now d.part c.memory.result.now d.registers.frames.memory c.make_room.new.text.items text c.deref.result.now ranks c.part.ensures.stored c.memory.ensures.stored c.in_ok-make_room.ensures.items c.deref.ensures.value
+    ∙ c.in_ok-ranks.ensures part kept wrapped bytes s ∙ ap (λ (t : List ℕ). t ++ report_text part (state_reported d (past_of part kept wrapped bytes)) c.args.reads.now (memory_of_bytes part kept bytes)) c.new-text.ensures.items
 
 pub returns-clause-value : goal.returns-clause-value
 returns-clause-value c = λ part kept wrapped bytes s none.

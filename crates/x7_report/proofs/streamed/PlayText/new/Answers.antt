@@ -9,7 +9,7 @@ abbrev answer_with : Bool → List ℕ → PlayTextState
 answer_with stopped text = record { stopped = stopped; text = text }
 
 pub returns-clause-owing : goal.returns-clause-owing
-returns-clause-owing c = λ part kept wrapped bytes s. ap (answer_with c.args.stopped) (c.in_ok-fars.ensures part kept wrapped bytes s)
+returns-clause-owing c = λ part kept wrapped bytes s. ap (answer_with c.args.stopped) (c.in_ok-ranks.ensures part kept wrapped bytes s)
 
 pub returns-clause-value : goal.returns-clause-value
 returns-clause-value c = λ part kept wrapped bytes s none.
