@@ -1,6 +1,7 @@
 #!/usr/bin/env python3
 """Tests that nothing may stand in a part file's place: check_update takes the shelf's for the stream's IDCODE,
-frame_map the one that a report names, and `part --shelf` shows that of a stream."""
+frame_map the one that a report names, `part --shelf` shows that of a stream; and svf says of a Zynq's that another
+port stands in its chain."""
 from __future__ import annotations
 
 from runs import Bench, run_parts
@@ -62,4 +63,14 @@ def paths(bench: Bench) -> None:
     bench.refuses("part", "--shelf", "foreign.bit", what="foreign.bit: the shelf has no part file for its device")
 
 
-run_parts("parts that aren't named", make, updates, pictures, paths)
+def arm_ports(bench: Bench) -> None:
+    """svf says of a stream for a Zynq-7000 that a port stands before it, unless an option names one."""
+    for options, is_said in (("", True), ("--guard", True), ("--trailer 4", False), ("--header=4", False)):
+        came = bench.tool("svf", *options.split(), "foreign.bit")
+        line = b"svf: foreign.bit is for the xc7z020: its ARM port stands in the chain"
+        is_so = came.status == 0 and came.err.startswith(line) == is_said and bool(came.err) == is_said
+        bench.tally.check(f"svf of a Zynq {options}", is_so, came.err)
+    bench.tally.same("svf of another", bench.tool("svf", "next.bit").err, b"")
+
+
+run_parts("parts that aren't named", make, updates, pictures, paths, arm_ports)
