@@ -213,11 +213,10 @@ def end_of_fillers(data: bytes, place: int) -> int:
     word = data[place : place + 4]
     if word not in FILLERS:
         return place
-    many = word * 1024
-    while data.startswith(many, place):
-        place += len(many)
-    while data.startswith(word, place):
-        place += 4
+    for count in (1024, 32, 1):
+        many = word * count
+        while data.startswith(many, place):
+            place += len(many)
     return place
 
 
@@ -326,11 +325,28 @@ def line_at(stream: Stream, place: int) -> tuple[int, str, str] | None:
     where it is a payload's."""
     number = 1 if stream.header else 0
     for step in steps(stream.data):
+        if step.end < place:
+            number += line_count(step)
+            continue
+        if step.register != CMD and step.first < place <= step.end and step.present:
+            row = (place - step.first - 1) // 32
+            first = step.first + 32 * row
+            digits = stream.data[first : min(first + 32, step.end)].hex().upper()
+            return number + row + 2, next(rows("data", digits, 64, 8)), head_line(step) if step.kind == "write" else ""
         for line, first, after in step_lines(stream.data, step):
             number += 1
             if first < place <= after:
                 return number, line, head_line(step) if first >= step.first and step.kind == "write" else ""
     return None
+
+
+def line_count(step: Step) -> int:
+    """How many lines a listing has of a step."""
+    if step.kind == "bytes":
+        return -(-(step.end - step.place) // 32)
+    if step.kind in ("nop", "filler"):
+        return max(step.count, 1)
+    return 1 + (step.present if step.register == CMD else -(-step.present // 8))
 
 
 HEAD = re.compile(rb"(write|read) (\w+) (0|[1-9]\d{0,3})|(write|read)2 (0|[1-9]\d{0,8})|word ([0-9A-F]{8})")
@@ -476,15 +492,50 @@ def fold(check: int, register: int, words: Sequence[int]) -> int:
     """The check after words were written to a register."""
     low, high, registers = tables()
     added = registers[register]
-    if len(words) < 1 << 16:
-        for word in words:
-            word ^= check
-            check = low[word & 0xFFFF] ^ high[word >> 16] ^ added
-        return check
-    low = [it ^ added for it in low]
     for word in words:
         word ^= check
-        check = low[word & 0xFFFF] ^ high[word >> 16]
+        check = low[word & 0xFFFF] ^ high[word >> 16] ^ added
+    return check
+
+
+# A long write is folded by blocks of so many bytes, at places of the data that are multiples of it, or up to three
+# bytes after. A block whose fold is known, as of words 0, is folded at once: a stream is often played more than once,
+# also with its parts exchanged.
+MANY_WORDS, BLOCK = 1024, 1024
+
+
+@functools.lru_cache(maxsize=None)
+def block_tables() -> list[list[int]]:
+    """What each byte of the check becomes over a block: the lowest first."""
+    bits = [fold(1 << bit, CRC, (0,) * (BLOCK // 4)) for bit in range(32)]
+    found = []
+    for first in range(0, 32, 8):
+        table = [0]
+        for bit in range(8):
+            table += [it ^ bits[first + bit] for it in table]
+        found.append(table)
+    return found
+
+
+@functools.lru_cache(maxsize=1 << 14)
+def fold_block(register: int, block: bytes) -> int:
+    """What a block adds to the check after it was written to a register."""
+    return fold(0, register, words_of(block))
+
+
+def fold_many(check: int, register: int, data: bytes, first: int, end: int) -> int:
+    """The check after the many words of data between two places were written to a register."""
+    one, two, three, four = block_tables()
+    shift = first % 4
+    while first < end:
+        after = min(end, (first - shift) // BLOCK * BLOCK + BLOCK + shift)
+        block = data[first:after]
+        if after - first == BLOCK:
+            check = one[check & 255] ^ two[check >> 8 & 255] ^ three[check >> 16 & 255] ^ four[check >> 24]
+            check ^= fold_block(register, block)
+        else:
+            check = fold(check, register, words_of(block))
+        first = after
     return check
 
 
@@ -515,7 +566,10 @@ class RunningCheck:
                 self.command = word & 31
                 self.value = 0 if self.command == CODES["RCRC"] else fold(self.value, CMD, [word])
         elif step.register is not None and step.register != LOUT:
-            self.value = fold(self.value, step.register, payload(data, step))
+            if step.present < MANY_WORDS:
+                self.value = fold(self.value, step.register, payload(data, step))
+            else:
+                self.value = fold_many(self.value, step.register, data, step.first, step.end)
             if step.register == FAR and step.present and self.command == CODES["RCRC"]:
                 # a write to FAR executes the command in CMD again
                 self.value = 0
