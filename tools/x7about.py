@@ -90,7 +90,7 @@ def flash_line(source: Source, registers: Dict[str, int]) -> str:
     if opcode_of(bspi):
         bits = 32 if has_long_address(bspi) else 24
         said = [f"read by {opcode_of(bspi):02X}, {COUNTS[lines_of(bspi)]}, {bits} address bits (BSPI {bspi:08X})"]
-    said.append(f"watchdog: {watch.text}" if watch else "watchdog off")
+    said.append(f"watchdog: {watch.watch.text}" if watch else "watchdog off")
     said.append(f"WBSTAR {registers['WBSTAR']:08X}")
     said.append(
         "bus width pattern" if BUS_WIDTH in source.data[: source.data.find(x7.SYNC)] else "no bus width pattern"

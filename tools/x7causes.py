@@ -7,7 +7,8 @@ from typing import List, NamedTuple, Optional, Sequence, Tuple
 import x7formats as x7
 from x7bootcause import cause_of_boot, cause_of_svf
 from x7cause import COUNT_BYTES, TAKE_AGAIN, Cause, Kind, Section
-from x7damage import cause_of_damage, cause_of_early_end, cause_of_large_count, cause_of_no_zeros
+from x7codes import FRAME_BYTES, codes_of
+from x7damage import ADDRESS_LIMIT, cause_of_damage, cause_of_early_end, cause_of_large_count, cause_of_no_zeros
 from x7device import MOST_READS, Device
 from x7files import cause_of_family, cause_of_file, cause_of_header
 from x7frames import FRAME_FAULTS
@@ -103,6 +104,8 @@ TOLD = {
 }  # fmt: skip
 # the word that stands for a check that is off in streams of older families
 NO_CHECK_WORD = "0000DEFC"
+# how many damaged frames are told by their places
+FEW_FRAMES = 3
 
 
 def cause_of_fault(subject: Subject) -> Optional[Cause]:
@@ -127,7 +130,10 @@ def cause_of_fault(subject: Subject) -> Optional[Cause]:
             Kind.CHECK, text, "write the stream with BITSTREAM.GENERAL.CRC ENABLE", Section.CHECK, after, source,
         )
     told = TOLD[kind]
-    return Cause(told.kind, told.text.format(*words), told.remedy, told.section, after, source)
+    text = told.text.format(*words)
+    if kind == "Crc":
+        text += damage_of_frames(source, after - source.first) or ("" if source.header else ": which is unknown")
+    return Cause(told.kind, text, told.remedy, told.section, after, source)
 
 
 def cause_of_idcode(source: Source, words: Sequence[str], after: int) -> Cause:
@@ -149,11 +155,37 @@ def cause_of_idcode(source: Source, words: Sequence[str], after: int) -> Cause:
 
 def cause_of_packet(source: Source, word: str, after: int) -> Cause:
     """The cause of a fault Packet."""
-    text = (
-        f"{word} stands where a packet's header should: words were lost or added before it, or the word itself is "
-        "damaged"
-    )
+    text = f"{word} stands where a packet's header should: "
+    if source.header and not source.lost:
+        text += "the header's length is right, so none was lost or added, and it, or words before it, are damaged"
+    else:
+        text += "words were lost or added before it, or the word itself is damaged"
+        text += "" if source.header else ", alone or with others: which is unknown"
+    text += damage_of_frames(source, after - source.first)
     return Cause(Kind.PACKET, text, COUNT_BYTES, Section.LOST_WORDS, after, source)
+
+
+def damage_of_frames(source: Source, before: int) -> str:
+    """What the error correction codes tell of the frames that a stream writes up to a place: which are damaged, or that
+    none is; nothing where the frames have none."""
+    found = codes_of(source.data, before)
+    if found is None:
+        return ""
+    if len(found.wrong) == found.held:
+        return (
+            f"; frames before it that hold something: {found.held}, none with the right error correction code: "
+            "they were made without, or all are damaged, which is unknown"
+        )
+    if not found.wrong:
+        return f"; frames before it that hold something: {found.held}, each with the right error correction code"
+    first, last = found.wrong[0], found.wrong[-1] + FRAME_BYTES - 1
+    if len(found.wrong) <= FEW_FRAMES:
+        places = ", ".join(f"{it} to {it + FRAME_BYTES - 1}" for it in found.wrong)
+        return f"; damaged by the error correction codes: {len(found.wrong)} of {found.held} frames, at bytes {places}"
+    return (
+        f"; damaged by their error correction codes: {len(found.wrong)} of {found.held} frames that hold something, "
+        f"between bytes {first} and {last}: what did it is unknown, such as a flash written where it wasn't erased"
+    )
 
 
 def cause_of_copy(subject: Subject, source: Source, after: int) -> Cause:
@@ -225,7 +257,7 @@ def cause_of_open_session(subject: Subject) -> Cause:
 
 def at_a_limit(source: Source) -> str:
     """What a number of bytes tells at which flashes and programs end, or nothing."""
-    if len(source.data) == 1 << 24:
+    if len(source.data) == ADDRESS_LIMIT:
         return "; it ends at 16 MiB exactly: past that a flash wants addresses of 32 bits"
     return ""
 

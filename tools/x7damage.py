@@ -4,13 +4,17 @@ what then comes to its end, with checks that hold, was damaged so. python3 (3.8)
 from __future__ import annotations
 
 import re
-from typing import Callable, List, NamedTuple, Optional, Tuple
+from itertools import combinations
+from typing import Callable, List, NamedTuple, Optional, Pattern, Tuple
 
 import x7formats as x7
 import x7kinds
 from x7cause import COUNT_BYTES, TAKE_AGAIN, Cause, Kind, Section
-from x7pins import repeated, swap_table
-from x7subject import Source, Untimed
+from x7address import exchanged_lines
+from x7lineends import with_line_ends
+from x7parts import DEVICE_BITS, IDCODES, idcode_of_name, is_7_series, name_of_idcode
+from x7pins import exchanged, repeated
+from x7subject import Source, Untimed, Written
 
 # a write to FDRI of fewer words than this isn't searched for packets: no frame fits in it
 FEWEST_WORDS = 64
@@ -21,7 +25,7 @@ PACKET_BYTES = 13
 # Packets as they follow frame data: a check, a command or an address, and after it a no-op or a further packet.
 PACKETS = re.compile(
     rb"\x30\x00\x00\x01.{4}(?:\x20\x00\x00\x00|\x30)|\x30\x00\x80\x01\x00\x00\x00[\x00-\x13](?:\x20\x00\x00\x00|\x30)"
-    rb"|\x30\x00\x20\x01.{4}(?:\x20\x00\x00\x00|\x30\x00[\x40\x80])",
+    rb"|\x30\x00\x20\x01.{4}(?:\x20\x00\x00\x00|\x30\x00[\x40\x80]|\x30\x01\x40)",
     re.S,
 )
 # writes of commands, by which words that stand at other places than those of words are found
@@ -32,6 +36,10 @@ END_BYTES = 8192
 # The fewest bytes FF at the end that are an erased flash, and the fewest within a stream that are a page of one. No
 # frame has so many as a page of 512, since the error correction code in its middle isn't all ones.
 FEWEST_ERASED, PAGE, SURE_PAGE = 64, 256, 405
+# the fewest bytes 00 at the end that are no words of few frames, and the fewest words after DESYNC that are its no-ops
+FEWEST_ZEROS, FEWEST_NOPS = 1024, 16
+# how many bytes 24 bits of address reach, of an SPI flash: what ends there is cut off
+ADDRESS_LIMIT = 1 << 24
 # the fewest bytes of a file that is judged by the bytes that it lacks, and how often those beside must stand in it
 FEWEST_BYTES, OFTEN = 512, 24
 # how many sync words after the first one are tried
@@ -80,11 +88,19 @@ class Line(NamedTuple):
     taken: Tuple[int, ...]  # the bytes that are gone
     beside: Tuple[int, ...]  # bytes that stand as often in any stream
     text: str  # what it is as
+    trace: Optional[Pattern[bytes]] = None  # what remains of what every stream has
+    known: str = ""  # what that is
 
 
 LINES = [
-    Line((0x11, 0x13), (0x10, 0x12, 0x14), "as where a serial line takes out XON and XOFF"),
-    Line((0x0D,), (0x0C, 0x0E), "as where it went through a transfer as text, which drops 0D or makes 0A of it"),
+    Line(
+        (0x11, 0x13), (0x10, 0x12, 0x14), "as where a serial line takes out XON and XOFF",
+        re.compile(rb"\xff{4}\x00\x00\x00\xbb\x22\x00\x44\xff{4}"), "the bus width pattern",
+    ),
+    Line(
+        (0x0D,), (0x0C, 0x0E), "as where it went through a transfer as text, which drops 0D or makes 0A of it",
+        re.compile(rb"\x30\x00\x80\x01\x00\x00\x00\x0a?(?:\x20\x00\x00\x00){16}"), "DESYNC",
+    ),
     Line((0x0A,), (0x09, 0x0B), "as where it went through a transfer as text, which drops 0A or makes 0D of it"),
     Line((0x1A,), (0x19, 0x1B), "as where a tool for texts took it for a file's end"),
     Line((0x03,), (0x02, 0x05), "as where a terminal takes it out"),
@@ -93,14 +109,19 @@ LINES = [
 
 
 def cause_of_eaten(source: Source) -> Optional[Cause]:
-    """The cause where bytes of a value are gone that stand as often as those beside it, or none."""
+    """The cause where bytes of a value are gone that stand as often as those beside it, or in every stream, or none."""
     data = source.data
     for line in LINES:
-        if any(it in data for it in line.taken) or any(data.count(bytes([it])) < OFTEN for it in line.beside):
+        if any(it in data for it in line.taken):
+            continue
+        if all(data.count(bytes([it])) >= OFTEN for it in line.beside):
+            seen = f"{' and '.join(f'{it:02X}' for it in line.beside)} do"
+        elif line.trace and line.trace.search(data):
+            seen = f"{line.known} has it"
+        else:
             continue
         names = " and no byte ".join(f"{it:02X}" for it in line.taken)
-        beside = " and ".join(f"{it:02X}" for it in line.beside)
-        text = f"no byte {names} stands in it, though {beside} do: {line.text}"
+        text = f"no byte {names} stands in it, though {seen}: {line.text}"
         return Cause(Kind.RECODED, text, "take the file again, as binary", Section.LOST_WORDS, None, source)
     return None
 
@@ -155,6 +176,17 @@ def cause_of_line(source: Source) -> Optional[Cause]:
     return None
 
 
+def cause_of_line_ends(source: Source) -> Optional[Cause]:
+    """The cause where a file went through a transfer as text that makes 0A of 0D 0A, or none."""
+    data = source.data
+    mended = with_line_ends(data, plays) if source.header is None or source.lost > 0 else None
+    if mended is None or source.header and len(mended) != source.header_count:
+        return None
+    count = lost_or_added(len(mended) - len(data))
+    text = f"the file went through a transfer as text, which makes 0A of 0D 0A: {count}"
+    return Cause(Kind.RECODED, text, "take the file again, as binary", Section.LOST_WORDS, broken_at(source), source)
+
+
 # ---- pages of a flash, and parts in another order
 
 
@@ -172,6 +204,47 @@ def cause_of_erased_end(source: Source) -> Optional[Cause]:
     text = f"the stream stops at byte {begin}: from there on all is FF ({count} bytes), an erased flash"
     remedy = "write the flash again, and read it back: only its beginning was written"
     return Cause(Kind.ERASED, text, remedy, Section.EARLY_END, source.first + begin, source)
+
+
+def cause_of_cleared_end(source: Source) -> Optional[Cause]:
+    """The cause where DESYNC and the no-ops after it stand at the end with bits cleared, or none: a flash takes a 1
+    for a 0 by an erase alone."""
+    data, sync = source.data.rstrip(b"\xff"), source.data.find(x7.SYNC)
+    if sync < 0 or source.alone.end == ["searching"]:
+        return None
+    begin = max(len(data) - END_BYTES, sync)
+    begin += (sync - begin) % 4
+    words = list(x7.words_of(data[begin : begin + (len(data) - begin) // 4 * 4]))
+    count = len(words)
+    while words and words[-1] in (0, x7.word_at(x7.NOP, 0)):
+        words.pop()
+    if count - len(words) < FEWEST_NOPS or len(words) < 2:
+        return None
+    found, wanted = words[-2:], x7.words_of(DESYNC)
+    cleared = sum(bin(other & ~one).count("1") for one, other in zip(found, wanted))
+    if cleared < 2 or not all(found) or any(one & ~other for one, other in zip(found, wanted)):
+        return None
+    place, shown = begin + 4 * len(words) - 8, " ".join(f"{it:08X}" for it in found)
+    text = (
+        f"the stream's end, from byte {place} on, stands there with bits cleared: {shown} in place of "
+        f"{DESYNC.hex(' ', 4).upper()}, as where it was written into a flash that wasn't erased"
+    )
+    remedy = "erase the flash and write it again; read it back"
+    return Cause(Kind.ERASED, text, remedy, Section.LOST_WORDS, source.first + place + 8, source)
+
+
+def cause_of_zero_end(source: Source) -> Optional[Cause]:
+    """The cause where all is 00 from a place within a session on, and no header tells that the end is missing, or
+    none."""
+    begin = len(source.data.rstrip(b"\0"))
+    count, end = len(source.data) - begin, source.alone
+    if count < FEWEST_ZEROS or source.lost > 0 or end.end == ["searching"] or end.has_stopped and end.taken < begin:
+        return None
+    if len(source.data) == ADDRESS_LIMIT:
+        return None
+    text = f"the stream stops at byte {begin}: from there on all is 00 ({count} bytes)"
+    text += ", as in a file that was begun and not filled" + ("" if source.header else ", or one that is cut off")
+    return Cause(Kind.CUT, text, TAKE_AGAIN, Section.EARLY_END, source.first + begin, source)
 
 
 def cause_of_page(source: Source) -> Optional[Cause]:
@@ -285,7 +358,7 @@ def cause_of_swallowed(source: Source) -> Optional[Cause]:
             return swallowed(source, step, begins)
         more = added_after(source, steps, at)
         if more:
-            return cause_of_added(source, step, more) if source.header else None
+            return cause_of_added(source, step, more)
         if step.kind == "bad":
             return None
     return None
@@ -334,7 +407,7 @@ def swallowed(source: Source, step: x7.Step, begins: int) -> Optional[Cause]:
             "the count is damaged, or the header's length is another file's"
         )
         return Cause(Kind.DAMAGED_WORD, text, TAKE_AGAIN, Section.LOST_WORDS, place, source)
-    more = "" if source.header else ", or more, with packets after them"
+    more = "" if source.header else ", or more, with packets after them (how many is unknown: no header)"
     if source.lost and source.lost != missing:
         more = f", and {lost_or_added(source.lost - missing)} after them or elsewhere, or the header's length is wrong"
     text = (
@@ -351,9 +424,15 @@ def is_one_bit(count: int) -> bool:
 
 
 def cause_of_added(source: Source, step: x7.Step, more: int) -> Optional[Cause]:
-    """The cause where bytes stand between frame data and the packets after them, and a header tells which they are: as
-    many as were added, or such as a damaged count leaves out; or none."""
+    """The cause where bytes stand between frame data and the packets after them: as many as were added, or such as a
+    damaged count leaves out. A header tells which; where it tells of another number, none."""
     place = source.first + step.end + 4
+    if not source.header:
+        text = (
+            f"{counted(more)} added among the frame data of '{x7.head_line(step)}', or its count is damaged, or others "
+            "were lost, which is unknown: packets begin so much later"
+        )
+        return Cause(Kind.LOST, text, COUNT_BYTES, Section.LOST_WORDS, place, source)
     if source.header and source.lost == 0 and is_one_bit(more):
         text = (
             f"the packet '{x7.head_line(step)}' ends before its frames do: its count is {more // 4} words too "
@@ -430,20 +509,61 @@ def cause_of_repeat(source: Source) -> Optional[Cause]:
 
 
 def cause_of_lines(source: Source) -> Optional[Cause]:
-    """The cause where two data lines are exchanged that leave the sync word as it is, or none."""
-    for pairs in ([bit, bit + 4] for bit in range(4)):
-        mended = source.data.translate(swap_table(pairs))
-        if x7kinds.reads(mended) and plays(mended):
-            text = f"bits {pairs[0]} and {pairs[1]} of each byte are exchanged: two data lines"
-            return Cause(Kind.PINS, text, "exchange these two lines", Section.LOST_WORDS, None, source)
+    """The cause where data lines are exchanged that leave the sync word as it is, or none."""
+    found = exchanged(source.data, plays)
+    return Cause(Kind.PINS, found.text, found.remedy, Section.LOST_WORDS, None, source) if found else None
+
+
+def cause_of_address(source: Source) -> Optional[Cause]:
+    """The cause where two address lines are exchanged that leave the beginning as it is, or none."""
+    found = exchanged_lines(source.data, plays) if not source.header else None
+    return Cause(Kind.PINS, found.text, found.remedy, Section.LOST_WORDS, None, source) if found else None
+
+
+def cause_of_idcode_word(source: Source, idcode: Written) -> Optional[Cause]:
+    """The cause where the stream plays with the IDCODE of a device from which its own differs in a bit or two, or
+    none."""
+    place = idcode.after - source.first - 4
+    for known in IDCODES.values():
+        if bin((known ^ idcode.word) & DEVICE_BITS).count("1") > 2:
+            continue
+        word = known | idcode.word & ~DEVICE_BITS
+        if plays(source.data[:place] + word.to_bytes(4, "big") + source.data[place + 4 :]):
+            text = (
+                f"the IDCODE {idcode.word:08X}, which no device has, is damaged: with {word:08X} "
+                f"({name_of_idcode(known)}) the checks hold"
+            )
+            return Cause(Kind.DAMAGED_WORD, text, TAKE_AGAIN, Section.OTHER_DEVICE, idcode.after, source)
     return None
+
+
+def cause_of_images(source: Source) -> Optional[Cause]:
+    """The cause where the IDCODE is what those of two devices have in common, or none: in a flash that isn't erased
+    between two images only bits that both have stay 1."""
+    idcode = source.idcode
+    code = idcode.word & DEVICE_BITS if idcode else 0
+    if idcode is None or not is_7_series(code) or name_of_idcode(code):
+        return None
+    found = cause_of_idcode_word(source, idcode)
+    own = idcode_of_name(source.part)
+    pairs = [it for it in combinations(IDCODES.values(), 2) if it[0] & it[1] == code and (own is None or own in it)]
+    if found or not pairs:
+        return found
+    names = " and ".join(f"{it:08X} ({name_of_idcode(it)})" for it in pairs[0])
+    have = f"{names} have" if len(pairs) == 1 else "the IDCODEs of two devices have"
+    text = (
+        f"the stream writes the IDCODE {idcode.word:08X}, which no device has: it is what {have} in common, so two "
+        "images may have been written into one flash that wasn't erased between"
+    )
+    remedy = "erase the flash, and write one image; or take the file again, where the word alone is damaged"
+    return Cause(Kind.ERASED, text, remedy, Section.OTHER_DEVICE, idcode.after, source)
 
 
 # What is looked for in a stream that doesn't come to its end, in this order: what is surest first.
 LOOKS = [
-    cause_of_repeat, cause_of_text_mode, cause_of_erased_end, cause_of_exchange, cause_of_later_stream,
-    cause_of_turned_end, cause_of_page, cause_of_eaten, cause_of_line, cause_of_lines,
-    cause_of_swallowed, cause_of_shift,
+    cause_of_repeat, cause_of_text_mode, cause_of_address, cause_of_cleared_end, cause_of_erased_end,
+    cause_of_exchange, cause_of_later_stream, cause_of_turned_end, cause_of_page, cause_of_eaten, cause_of_line,
+    cause_of_line_ends, cause_of_lines, cause_of_images, cause_of_zero_end, cause_of_swallowed, cause_of_shift,
 ]  # fmt: skip
 
 

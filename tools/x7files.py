@@ -7,7 +7,9 @@ from typing import Optional
 
 import x7formats as x7
 import x7kinds
+from x7address import exchanged_lines
 from x7cause import TAKE_AGAIN, Cause, Kind, Section
+from x7codes import Alone, frames_alone
 from x7damage import plays
 from x7parts import family_of, idcode_of_name, is_7_series
 from x7pins import wires_of
@@ -52,7 +54,7 @@ def cause_of_file(source: Source) -> Optional[Cause]:
         )
     if not has_sync:
         return cause_of_no_sync(source)
-    wires = wires_of(data, plays)
+    wires = exchanged_lines(data, plays) or wires_of(data, plays)
     if not wires:
         return None
     return unsynced(Kind.PINS, f"after the sync word stands no packet: {wires.text}", wires.remedy, source)
@@ -74,7 +76,7 @@ def cause_of_no_sync(source: Source) -> Cause:
         named = {0xFF: "all bytes are FF, as in an erased flash", 0: "all bytes are 00"}
         text = f"no sync word: {named.get(data[0], f'all bytes are {data[0]:02X}')}"
         return unsynced(Kind.ERASED, text, "write the stream into it, or look where the file comes from", source)
-    wires = wires_of(data)
+    wires = exchanged_lines(data, plays) or wires_of(data, plays)
     if wires:
         return unsynced(Kind.PINS, f"no sync word: {wires.text}", wires.remedy, source)
     packets = re.search(rb"\x30\x00\x80\x01\x00\x00\x00[\x00-\x13]|\x30\x01\x80\x01....", data, re.S)
@@ -82,6 +84,9 @@ def cause_of_no_sync(source: Source) -> Cause:
         what = damaged_sync(data, packets.start())
         text = f"no sync word AA995566, though packets follow from byte {packets.start()} on: {what}"
         return unsynced(Kind.NO_BEGINNING, text, TAKE_AGAIN, source)
+    alone = frames_alone(data)
+    if alone:
+        return cause_of_frames(source, alone)
     if source.lost > 0:
         text = (
             f"the stream is cut off before its sync word: its header tells of {source.header_count} bytes, and it "
@@ -93,6 +98,16 @@ def cause_of_no_sync(source: Source) -> Cause:
         text = f"no sync word: all bits come {bits} places late, as where a clock was lost or added"
         return unsynced(Kind.TURNED, text, "send it again; look at the clock's edge", source)
     return cause_of_unknown(source)
+
+
+def cause_of_frames(source: Source, alone: Alone) -> Cause:
+    """The cause where a file is frames without packets, as a readback gives them."""
+    turned = f", {alone.way.what} {alone.way.how}" if alone.way else ""
+    late = f", from byte {alone.first} on" if alone.first else ""
+    codes = f"the error correction code (word 50) is right in {alone.right} of the first frames that hold something"
+    text = f"no sync word, and no packets: it is frame data alone, as of a readback{turned}{late}: {codes}"
+    remedy = "a device takes no frames without packets: give the .bit or .bin file from which it was configured"
+    return unsynced(Kind.OTHER_FILE, text, remedy, source)
 
 
 def cause_of_unknown(source: Source) -> Cause:

@@ -3,7 +3,8 @@ holds of every byte: data lines that are stuck, exchanged, inverted or joined, a
 of a bus. python3 (3.8) and its library alone."""
 from __future__ import annotations
 
-from itertools import combinations
+import re
+from itertools import combinations, product
 from typing import Callable, Iterator, List, NamedTuple, Optional, Tuple
 
 import x7formats as x7
@@ -102,23 +103,50 @@ def joined(data: bytes) -> Optional[Wires]:
     return None
 
 
-def swaps() -> Iterator[List[int]]:
-    """Two lines of eight that are exchanged, and two of four: the pairs of bits."""
-    for one, other in combinations(range(8), 2):
-        yield [one, other]
-    for one, other in combinations(range(4), 2):
-        yield [one, other, one + 4, other + 4]
+# Four bytes that a sync word may have become after words FFFFFFFF.
+AFTER_LEAD = re.compile(rb"\xff{8}([^\xff]{4})", re.S)
 
 
 def swap_table(pairs: List[int]) -> bytes:
     """The table of bytes with bits exchanged, by pairs."""
+    places = list(range(8))
+    for one, other in zip(pairs[::2], pairs[1::2]):
+        places[one], places[other] = places[other], places[one]
+    return order_table(places)
+
+
+def order_table(places: List[int]) -> bytes:
+    """The table that puts bits back in their order: bit number n of a byte is the one that stands at `places[n]`."""
+    return bytes(sum((byte >> place & 1) << bit for bit, place in enumerate(places)) for byte in range(256))
+
+
+def sync_orders(four: bytes) -> List[List[int]]:
+    """The orders of the eight bits that make a sync word of four bytes, the usual one among them where they are one;
+    none of other bytes. The halves of each of its bytes are alike, so for each of four pairs two orders do."""
+    first, second = four[0], four[1]
+    if four[2] != first ^ 255 or four[3] != second ^ 255:
+        return []
+    # AA has bits 1 and 3 of a half byte, 99 bits 0 and 3
+    masks = (~first & second, first & ~second, ~first & ~second & 255, first & second)
+    pairs = [[bit for bit in range(8) if mask >> bit & 1] for mask in masks]
+    if any(len(it) != 2 for it in pairs):
+        return []
     found = []
-    for byte in range(256):
-        for one, other in zip(pairs[::2], pairs[1::2]):
-            differs = (byte >> one ^ byte >> other) & 1
-            byte ^= differs << one | differs << other
-        found.append(byte)
-    return bytes(found)
+    for turns in product((0, 1), repeat=4):
+        found.append([pair[turn] for pair, turn in zip(pairs, turns)] + [pair[1 - turn] for pair, turn in zip(
+            pairs, turns)])
+    return found
+
+
+def orders_of(data: bytes) -> Iterator[List[int]]:
+    """The orders of data lines, but the usual one, in which data begin as a stream."""
+    seen = set()
+    for found in AFTER_LEAD.finditer(data[:SEARCHED]):
+        for places in sync_orders(found[1]):
+            if tuple(places) not in seen and places != sorted(places):
+                seen.add(tuple(places))
+                if begins_well(data[:JUDGED].translate(order_table(places))):
+                    yield places
 
 
 def begins_well(data: bytes) -> bool:
@@ -127,14 +155,36 @@ def begins_well(data: bytes) -> bool:
 
 
 def exchanged(data: bytes, is_stream: Judge) -> Optional[Wires]:
-    """Two data lines that are exchanged, or none."""
-    for pairs in swaps():
-        table = swap_table(pairs)
-        if has_beginning(data, table) and begins_well(data.translate(table)) and is_stream(data.translate(table)):
-            lines = " and ".join(f"bits {one} and {other}" for one, other in zip(pairs[::2], pairs[1::2]))
-            of_four = ": two lines of a bus of four" if len(pairs) == 4 else ": two data lines"
-            return Wires(f"{lines} of each byte are exchanged{of_four}", "exchange these two lines")
-    return None
+    """Data lines that are exchanged, two or more, or none. Where it isn't clear which, that is said."""
+    orders = list(orders_of(data))
+    sure = next((it for it in orders if is_stream(data.translate(order_table(it)))), None)
+    if sure or len(orders) == 1 and x7.SYNC not in data[:SEARCHED]:
+        return of_order(sure or orders[0])
+    if not orders or x7.SYNC in data[:SEARCHED]:
+        return None
+    text = "data lines are exchanged; which is unknown, since the stream is damaged besides"
+    return Wires(text, "compare the lines with the board's drawing, and take the file again")
+
+
+def of_order(places: List[int]) -> Wires:
+    """What is said of data lines in this order."""
+    moved = [bit for bit in range(8) if places[bit] != bit]
+    if all(places[places[bit]] == bit for bit in moved) and len(moved) == 2:
+        return Wires(f"{listed(moved)} of each byte are exchanged: two data lines", "exchange these two lines")
+    if all(places[bit + 4] == places[bit] + 4 for bit in range(4)):
+        low = [bit for bit in moved if bit < 4]
+        if len(low) == 2:
+            lines = " and ".join(listed([bit + half for bit in low]) for half in (0, 4))
+            return Wires(f"{lines} of each byte are exchanged: two lines of a bus of four", "exchange these two lines")
+        text = f"lines {listed(low)[5:]} of a bus of four are exchanged: {ways(low, places, 'line')}"
+        return Wires(text, "put these lines in their order")
+    text = f"{listed(moved)} of each byte are exchanged: {ways(moved, places, 'bit')}: {len(moved)} data lines"
+    return Wires(text, "put these lines in their order")
+
+
+def ways(bits: List[int], places: List[int], what: str) -> str:
+    """Where each of some bits stands."""
+    return ", ".join(f"{what} {bit} comes as {what} {places[bit]}" for bit in bits)
 
 
 def inverted(data: bytes) -> Optional[Wires]:
@@ -189,7 +239,7 @@ def repeated(data: bytes) -> Optional[Wires]:
 
 
 def wires_of(data: bytes, is_stream: Judge = begins_well) -> Optional[Wires]:
-    """What wires did to a stream, or none; `is_stream` judges one in which exchanged lines were put back. Some lines
-    may be exchanged and leave the sync word as it is: then the beginning alone tells too little."""
+    """What wires did to a stream, or none; `is_stream` judges one in which exchanged lines were put back, since the
+    beginning alone may not tell in which of two orders they are."""
     found = repeated(data) or stuck(data) or joined(data)
     return found or exchanged(data, is_stream) or inverted(data) or half(data)

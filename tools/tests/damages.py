@@ -14,11 +14,12 @@ import re
 import struct
 import tarfile
 import zipfile
-from typing import Callable, Dict, List, NamedTuple, Optional
+from typing import Callable, Dict, Iterator, List, NamedTuple, Optional
 
 from casefiles import header  # (casefiles puts the tools on the path)
 import x7formats as x7
 import x7kinds
+from x7ecc import ecc_of, ecc_tables, with_ecc
 
 Files = List[bytes]
 
@@ -72,13 +73,21 @@ class Good:
         """The file with another word of a register, and its checks made anew."""
         return self.mended(put(self.data, self.word_of(register, number), word))
 
-    def ctl0(self, word: int) -> bytes:
-        """The file in which each write of CTL0 has another word, its MASK all bits, and its checks made anew."""
+    def ctl0(self, word: int, is_last: bool = False) -> bytes:
+        """The file in which each write of CTL0 has another word, or that after the frames alone, its MASK all bits, and
+        its checks made anew."""
         data = self.data
         for it in self.writes:
+            if is_last and it.place < self.frames.place:
+                continue
             data = put(data, it.first, word) if it.register == x7.CTL0 else data
             data = put(data, it.first, 0xFFFFFFFF) if it.register == x7.MASK else data
         return self.mended(data)
+
+    def last(self, register: int, word: int) -> bytes:
+        """The file in which a register has another word: in its own last write, or in one more."""
+        count = sum(it.register == register for it in self.writes)
+        return self.with_word(register, word, count - 1) if count else self.setting(register, word)
 
     def setting(self, register: int, word: int) -> bytes:
         """The file with one more write of a register before its first RCRC, the header's length made anew."""
@@ -86,6 +95,16 @@ class Good:
         data = self.data[:at] + x7.write_packet(register, [word]) + self.data[at:]
         data = x7.with_checks(data, [it + 8 for it in self.checks])
         return self.head[:-4] + len(data).to_bytes(4, "big") + data
+
+
+def coded(raw: bytes) -> Good:
+    """A stream with the error correction code in each of its frames, as the vendor's have it, and its checks anew."""
+    good = Good(raw)
+    data = good.data
+    for it in good.writes:
+        if it.register == x7.FDRI:
+            data = data[: it.first] + with_codes(data[it.first : it.end]) + data[it.end :]
+    return Good(good.mended(data))
 
 
 def put(data: bytes, place: int, word: int) -> bytes:
@@ -187,8 +206,10 @@ def losses(g: Good) -> List[Damage]:
 def lines(g: Good) -> List[Damage]:
     """What a serial line, a shell or a tool for texts does."""
     xon = b"".join(g.data[at : at + 1000] + b"\x13\x11"[at // 1000 % 2 :][:1] for at in range(0, len(g.data), 1000))
-    lf = g.data.replace(b"\n", b"\r\n")
+    lf, ended = g.data.replace(b"\n", b"\r\n"), with_line_ends(g)
     found = [
+        row("text mode, 0D0A to 0A", [g.head + ended.replace(b"\r\n", b"\n")], "makes 0A of 0D 0A", 1, LOOSE),
+        row("text mode, 0D0A to 0A, no header", [ended.replace(b"\r\n", b"\n")], "makes 0A of 0D 0A", 1, LOOSE),
         row("text mode, 0A to 0D0A", [g.bit(lf)], "as text"),
         row("text mode, no header", [lf], "as text"),
         row("XON and XOFF eaten", [g.bit(g.data.translate(None, b"\x11\x13"))], "XON", 1, LOOSE),
@@ -219,6 +240,19 @@ def lines(g: Good) -> List[Damage]:
     return found
 
 
+def with_line_ends(g: Good) -> bytes:
+    """The data of the stream with 0D 0A in it: its own, or a few that are put into its frames, the codes of the frames
+    and the checks made anew."""
+    if g.data.count(b"\r\n") > 1:
+        return g.data
+    data = g.data
+    for part in range(1, 4):
+        place, at = g.frames.first + g.frames.present // 101 * part // 4 * 404, 100 * part + 21
+        frame = data[place : place + at] + b"\r\n" + data[place + at + 2 : place + 404]
+        data = data[:place] + with_codes(frame) + data[place + 404 :]
+    return x7.with_checks(data, g.checks)
+
+
 def doubled_ff(g: Good) -> Damage:
     """Each byte FF twice, as telnet sends it: of a stream that has none after its sync word no word is damaged."""
     doubled = g.bit(g.data.replace(b"\xff", b"\xff\xff"))
@@ -237,6 +271,7 @@ def bits(g: Good) -> List[Damage]:
         row("a bit of the last check", [g.bit(flip(g.data, g.checks[-1] + 3))], "a check fails"),
         row("a bit of the sync word", [g.bit(flip(g.data, g.sync + 3))], "it is damaged: AA995567"),
         row("a bit of the IDCODE", [g.bit(flip(g.data, idcode + 2, 0x10))], "IDCODE|a check fails"),
+        row("a bit by which it is no device's", [g.bit(flip(g.data, idcode + 1, 2))], "IDCODE .* is damaged: with 0"),
         row("a bit of COR0", [g.bit(flip(g.data, g.word_of(x7.COR0) + 1, 0x80))], "a check fails"),
         row("a bit of FAR", [g.bit(flip(g.data, far + 2, 0x40))], "a check fails|a column|Address|address"),
         row("a bit of FDRI's count", [g.bit(flip(g.data, g.frames.place + 3))], "its count|words were lost or "
@@ -316,6 +351,7 @@ def pins(g: Good) -> List[Damage]:
     found.append(
         row("lines 0 and 1 of four exchanged", [each_byte(g.data, lambda it: exchanged_bits(it, four))], "exchanged")
     )
+    found += orders_of_lines(g) + address_lines(g)
     found.append(row("line 2 of four at 0", [each_byte(g.data, lambda it: it & 0xBB)], "always 0|stuck"))
     found.append(row("every second byte", [g.data[::2]], "every second byte"))
     found.append(row("every other second byte", [g.data[1::2]], "every second byte"))
@@ -327,62 +363,120 @@ def pins(g: Good) -> List[Damage]:
     return found
 
 
+def orders_of_lines(g: Good) -> List[Damage]:
+    """Three data lines or more in another order; bit n of each byte comes as the bit that stands at place n."""
+    found = []
+    for name, order in (
+        ("three data lines in a ring", (1, 2, 0, 3, 4, 5, 6, 7)),
+        ("three data lines of both halves in a ring", (0, 4, 2, 7, 1, 5, 6, 3)),
+        ("four data lines in a ring", (1, 2, 3, 0, 4, 5, 6, 7)),
+        ("two pairs of data lines", (1, 0, 3, 2, 4, 5, 6, 7)),
+        ("eight data lines in a ring", (1, 2, 3, 4, 5, 6, 7, 0)),
+        ("eight data lines at random", (5, 0, 3, 6, 2, 7, 1, 4)),
+        ("three lines of a bus of four in a ring", (1, 2, 0, 3, 5, 6, 4, 7)),
+        ("a bus of four the other way round", (3, 2, 1, 0, 7, 6, 5, 4)),
+    ):
+        moved = each_byte(g.data, lambda it: exchanged_bits(it, dict(enumerate(order))))
+        ways = ".*".join(f"{bit} comes as (bit|line) {order[bit]}" for bit in range(4) if order[bit] != bit)
+        found.append(row(name, [moved], f"are exchanged.*{ways}"))
+    moved = each_byte(g.data, lambda it: exchanged_bits(it, {0: 4, 4: 0, 2: 6, 6: 2}))
+    found.append(row("two pairs that leave the sync word", [moved], "are exchanged.*0 comes as bit 4.*2 comes as"))
+    return found
+
+
+def address_lines(g: Good) -> List[Damage]:
+    """Two address lines of a parallel flash that are exchanged, and that is read as a whole."""
+    width = len(g.data).bit_length()
+    flash = g.data.ljust(1 << width, b"\xff")
+    found = []
+    for one, other in ((0, 1), (1, 2), (2, 9), (4, 7), (8, 11), (9, 12), (10, width - 1), (width - 2, width - 1)):
+        if one < other < width:
+            moved = exchanged_places(flash, one, other)
+            right = f"bits {one} and {other} of each byte's address are exchanged"
+            found.append(row(f"address lines {one} and {other} exchanged", [moved], right))
+    return found
+
+
+def exchanged_places(data: bytes, one: int, other: int) -> bytes:
+    """The data with two bits of each byte's place exchanged."""
+    both, moved = 1 << one | 1 << other, bytearray(data)
+    step = 1 << one
+    for place in range(0, len(data), step):
+        if (place >> one ^ place >> other) & 1:
+            moved[place : place + step] = data[place ^ both : (place ^ both) + step]
+    return bytes(moved)
+
+
 def flashes(g: Good, other: Good) -> List[Damage]:
     """What a flash holds: partly written, not erased, of several streams."""
-    found, flash = [], g.data + b"\xff" * (-len(g.data) % 65536)
-    size, half = len(g.data), len(g.data) // 2 // 256 * 256
+    return [*half_written(g), *not_erased(g, other), *several_streams(g, other), *readbacks(g)]
+
+
+def half_written(g: Good) -> List[Damage]:
+    """A flash, or a file, of which a part was written."""
+    found, size, half = [], len(g.data), len(g.data) // 2 // 256 * 256
     for name, count, whole in (
         ("half", half, size + 65536),
         ("half, of a large flash", half, 1 << 22),
         ("the first page", 256, 65536),
         ("the end", g.desync - 64, size + 65536),
     ):
-        found.append(
-            row(f"partly written: {name}", [g.data[:count] + b"\xff" * (whole - count)], r"is FF|an erased flash")
-        )
-    found.append(
-        row("partly written, then 00", [g.data[:half] + bytes(65536)], r"is 00|are 00", 1, LOOSE + "|doesn't end")
-    )
-    place = g.middle // 256 * 256
+        file = g.data[:count] + b"\xff" * (whole - count)
+        found.append(row(f"partly written: {name}", [file], r"is FF|an erased flash"))
+    found.append(row("partly written, then 00", [g.data[:half] + bytes(65536)], r"is 00|are 00", 1, LOOSE))
+    begun = g.bit(g.data[:half] + bytes(size - half))
+    found.append(row("begun and not filled", [begun], r"is 00|are 00", 1, LOOSE))
+    place, right = g.middle // 256 * 256, r"bytes .*(are|is) (all )?FF|FF .*page|page.*FF"
     for count in (256, 4096, 65536):
         if place + count < g.desync - 512:
             page = g.data[:place] + b"\xff" * count + g.data[place + count :]
-            found.append(row(f"{count} bytes of FF within", [g.bit(page)], FF_WITHIN, 1, LOOSE))
-            found.append(row(f"{count} bytes of FF within, no header", [page], FF_WITHIN, 1, LOOSE))
+            found.append(row(f"{count} bytes of FF within", [g.bit(page)], right, 1, LOOSE))
+            found.append(row(f"{count} bytes of FF within, no header", [page], right, 1, LOOSE))
     found.append(row("the first page FF", [b"\xff" * 256 + g.data[256:]], "packets follow|beginning"))
-    return found + written_otherwise(g, other, flash)
-
-
-def written_otherwise(g: Good, other: Good, flash: bytes) -> List[Damage]:
-    """What a flash holds of a stream, in place of `flash`, that was written over something, elsewhere or beside others;
-    and frames alone."""
-    found, half = [], len(g.data) // 2 // 256 * 256
-    exchanged = g.data[half:] + g.data[:half]
-    both = bytes(one & two for one, two in zip(g.data, other.data))
-    found.append(row(
-        "two images in one flash, neither erased",
-        [both],
-        "erased|two images|unknown",
-        1,
-        LOOSE + "|for a device with|no 7-series",
-    ))
-    over = g.data[:half] + bytes(it & 0x5A for it in g.data[half:])
-    right = "erased|unknown"
-    found.append(row("written at a place that wasn't erased", [over], right, 1, LOOSE + "|doesn't end"))
-    found.append(row("halves exchanged", [exchanged], EXCHANGED))
-    found.append(row("halves exchanged, header kept", [g.bit(exchanged)], EXCHANGED))
-    found.append(row("the second half alone", [g.data[half:]], "beginning|packets follow|unknown"))
-    found.append(row("a flash of the stream", [flash], "starts|nothing is wrong", 0))
-    found.append(row("read twice", [2 * flash], "second|twice|repeat|starts|nothing is wrong", 0))
     found.append(row("all FF", [b"\xff" * 70000], "all bytes are FF, as in an erased flash"))
     found.append(row("all 00", [bytes(70000)], "all bytes are 00"))
-    found.append(row("two devices", [g.raw + other.raw], TWO_DEVICES))
-    found.append(row("two devices, no header", [g.data + other.data], TWO_DEVICES))
-    found.append(row("two devices in one flash", [flash + other.data], TWO_DEVICES))
-    found.append(row("frames alone", [raw_frames(g)], "readback|frames alone|frame data"))
-    way = next(it for it in x7kinds.WAYS if it.what == "the bytes of each word")
-    found.append(row("frames alone, swapped", [way.back(raw_frames(g))], "readback|frames alone|frame data|unknown"))
     return found
+
+
+def not_erased(g: Good, other: Good) -> List[Damage]:
+    """A flash that was written where it wasn't erased: a bit is 1 where all that was written has it."""
+    right, half = "erased|unknown", len(g.data) // 2 // 256 * 256
+    found = []
+    for name, second in (("two images", other.data), ("two images of one device", other_design(g))):
+        both = bytes(one & two for one, two in zip(g.data, second))
+        found.append(row(f"{name} in one flash, neither erased", [both], right))
+    over = g.data[:half] + bytes(it & 0x5A for it in g.data[half:])
+    found.append(row("written at a place that wasn't erased", [over], right))
+    return found
+
+
+def other_design(g: Good) -> bytes:
+    """The data of another design for the device of a stream: its frames that hold something hold other bits."""
+    data, take = g.data, random.Random(2)
+    for it in g.writes:
+        if it.register == x7.FDRI:
+            frames = data[it.first : it.end]
+            parts = (frames[at : at + 404] for at in range(0, len(frames), 404))
+            changed = (bytes(one and take.randrange(256) for one in part) if any(part) else part for part in parts)
+            data = data[: it.first] + with_codes(b"".join(changed)) + data[it.end :]
+    return x7.with_checks(data, g.checks)
+
+
+def several_streams(g: Good, other: Good) -> List[Damage]:
+    """A flash with a stream's parts in another order, or with two streams."""
+    flash, half = g.data + b"\xff" * (-len(g.data) % 65536), len(g.data) // 2 // 256 * 256
+    order, two = "exchanged|other order|wrong order|begins at byte", "two devices|different devices|second "
+    two += "(header|stream)"
+    return [
+        row("halves exchanged", [g.data[half:] + g.data[:half]], order),
+        row("halves exchanged, header kept", [g.bit(g.data[half:] + g.data[:half])], order),
+        row("the second half alone", [g.data[half:]], "beginning|packets follow|unknown"),
+        row("a flash of the stream", [flash], "starts|nothing is wrong", 0),
+        row("read twice", [2 * flash], "second|twice|repeat|starts|nothing is wrong", 0),
+        row("two devices", [g.raw + other.raw], two),
+        row("two devices, no header", [g.data + other.data], two),
+        row("two devices in one flash", [flash + other.data], two),
+    ]
 
 
 def raw_frames(g: Good) -> bytes:
@@ -390,9 +484,46 @@ def raw_frames(g: Good) -> bytes:
     return bytes(404) + b"".join(g.data[it.first : it.end] for it in g.writes if it.register == x7.FDRI)
 
 
+def readbacks(g: Good) -> List[Damage]:
+    """Frames as a device gives them, with the error correction code of each in its word 50, given as a stream."""
+    frames = with_codes(raw_frames(g))
+    names = ("the bytes of each word", "the bits of each byte")
+    ways = [next(it for it in x7kinds.WAYS if it.what == name) for name in names]
+    held = next(at for at in range(0, len(frames), 404) if frames[at : at + 404].strip(b"\0"))
+    right = "frame data alone, as of a readback"
+    swapped = ways[0].back(raw_frames(g))
+    return [
+        row("frames alone", [raw_frames(g)], "readback|frames alone|frame data"),
+        row("frames alone, swapped", [swapped], "readback|frames alone|frame data|unknown"),
+        row("a readback with codes", [frames], right + ": .*error correction code"),
+        *(row(f"a readback, {it.what} swapped", [it.back(frames)], f"{right}, {it.what} swapped") for it in ways),
+        row("a readback with codes after words of its own", [bytes(40) + frames], right + ", from byte 40 on"),
+        row("one frame of a readback, and its pad", [bytes(404) + frames[held : held + 404]], right),
+        row("a readback in a header", [g.bit(frames)], right),
+    ]
+
+
+def with_codes(frames: bytes) -> bytes:
+    """Frames with the error correction code of each."""
+    tables = ecc_tables()
+    parts = (frames[at : at + 404] for at in range(0, len(frames), 404))
+    return b"".join(with_ecc(it, ecc_of(it, tables)) if any(it) and len(it) == 404 else it for it in parts)
+
+
 def packed(g: Good) -> List[Damage]:
-    """Files that hold a stream in another form."""
-    image = bytes(32) + b"\x66\x55\x99\xaaXNLX" + bytes(900) + x7kinds.exchanged(g.data, 4, (3, 2, 1, 0))
+    """Files that hold a stream in another form, and files of other kinds."""
+    return [*compressed(g), *as_text(g), *of_others(g)]
+
+
+def compressed(g: Good) -> List[Damage]:
+    """Files in which a stream is packed."""
+    zipped, tarred = io.BytesIO(), io.BytesIO()
+    with zipfile.ZipFile(zipped, "w") as file:
+        file.writestr("design.bit", g.raw)
+    with tarfile.open(fileobj=tarred, mode="w") as tar:
+        info = tarfile.TarInfo("design.bit")
+        info.size = len(g.raw)
+        tar.addfile(info, io.BytesIO(g.raw))
     return [
         row("gzip", [gzip.compress(g.raw)], "gzip"),
         row("gzip cut off", [gzip.compress(g.raw)[:900]], "gzip"),
@@ -404,15 +535,41 @@ def packed(g: Good) -> List[Damage]:
         row("7z", [b"7z\xbc\xaf\x27\x1c" + gzip.compress(g.raw)], "7z"),
         row("zstd", [b"\x28\xb5\x2f\xfd" + gzip.compress(g.raw)], "zstd"),
         row("lz4", [b"\x04\x22\x4d\x18" + gzip.compress(g.raw)], "lz4"),
-        row("ELF", [b"\x7fELF" + bytes(900)], "ELF"),
-        row("rbt", [rbt_of(g.data)], r"\.rbt"),
+    ]
+
+
+def as_text(g: Good) -> List[Damage]:
+    """Files that hold a stream as a text."""
+    rbt = b"Xilinx ASCII Bitstream\nBits: %d\n" % (8 * len(g.data)) + b"".join(
+        b"%s\n" % f"{it:032b}".encode() for it in x7.words_of(g.data[:4096])
+    )
+    packed_in_c = "const unsigned char design[] = {\n" + ",\n".join(
+        "  " + ", ".join(f"0x{it:02x}" for it in g.raw[at : at + 12]) for at in range(0, 1200, 12)
+    ) + "};\n"
+    return [
+        row("rbt", [rbt], r"\.rbt"),
         row("Intel HEX", [intel_hex(g.data)], "Intel HEX"),
         row("Intel HEX with a mark", [b"\xef\xbb\xbf" + intel_hex(g.data)], "Intel HEX"),
         row("S-records", [b"S1130000FFFFFFFFFFFFFFFFFFFFFFFFFFFFFFFFFC\n" * 9], "S-record"),
         row("base64", [base64.encodebytes(g.data)], "base64"),
-        row("uuencode", [uuencode_of(g.raw)], "uuencode|text"),
-        row("an array in C", [c_array_of(g.raw)], "C source|array|text"),
-        row("BOOT.BIN", [image], "Zynq-7000"),
+        row(
+            "uuencode",
+            [b"begin 644 design.bit\n" + b"".join(binascii.b2a_uu(g.raw[at : at + 45]) for at in range(0, 4500, 45))],
+            "uuencode|text",
+        ),
+        row("an array in C", [packed_in_c.encode()], "C source|array|text"),
+    ]
+
+
+def of_others(g: Good) -> List[Damage]:
+    """Files of other kinds, some of which hold a stream."""
+    return [
+        row("ELF", [b"\x7fELF" + bytes(900)], "ELF"),
+        row(
+            "BOOT.BIN",
+            [bytes(32) + b"\x66\x55\x99\xaaXNLX" + bytes(900) + x7kinds.exchanged(g.data, 4, (3, 2, 1, 0))],
+            "Zynq-7000",
+        ),
         row("a device tree", [b"\xd0\x0d\xfe\xed" + bytes(900)], "device tree"),
         row("a U-Boot image", [b"\x27\x05\x19\x56" + bytes(60) + g.data], "U-Boot"),
         row("sof", [b"SOF\0" + bytes(900)], "sof|Intel|Altera"),
@@ -518,30 +675,42 @@ def words(part: bytes, order: str, form: str) -> str:
 
 def dumps(g: Good) -> List[Damage]:
     """Dumps as text. Only what xxd writes in hexadecimal is for xxd -r."""
-    by_xxd, no_xxd = "hex dump(.|\n)*xxd -r FILE", r"(?s)^(?!.*xxd -r).*dump"
-    of_digits, no_xxd_file = "hexadecimal digits(.|\n)*xxd -r -p|turn FILE", r"(?s)^(?!.*xxd -r FILE).*"
-    in_c = b"unsigned char design_bit[] = {\n  0xff, 0xff, 0xff, 0xff\n};\n"
-    plain = "\n".join(it.hex() for it in dump_rows(g.data, 30)).encode() + b"\n"
-    xxd = dump(g.data, lambda at, it: f"{at:08x}: {halves(it, '>', '04x')}  {ascii_of(it)}")
-    upper = dump(g.data, lambda at, it: f"{at:08x}: {halves(it, '>', '04X')}  {ascii_of(it)}")
-    xxd_e = dump(g.data, lambda at, it: f"{at:08x}: {words(it, '<', '08x')}  {ascii_of(it)}")
-    xxd_b = dump(g.data, lambda at, it: f"{at:08x}: {' '.join(f'{one:08b}' for one in it)}  {ascii_of(it)}", 6)
-    canonical = dump(g.data, lambda at, it: f"{at:08x}  {it[:8].hex(' ')}  {it[8:].hex(' ')}  |{ascii_of(it)}|")
+    def lines(form: Callable[[int, bytes], str]) -> bytes:
+        return "".join(f"{form(16 * at, part)}\n" for at, part in enumerate(dump_rows(g.data))).encode()
+
+    def halves(part: bytes, order: str) -> List[int]:
+        return [int.from_bytes(part[at : at + 2], order) for at in range(0, 16, 2)]  # type: ignore[arg-type]
+
+    def words(part: bytes, order: str) -> List[int]:
+        return [int.from_bytes(part[at : at + 4], order) for at in range(0, 16, 4)]  # type: ignore[arg-type]
+
+    xxd = lines(lambda at, it: f"{at:08x}: {' '.join(f'{one:04x}' for one in halves(it, 'big'))}  {ascii_of(it)}")
+    upper = lines(lambda at, it: f"{at:08x}: {' '.join(f'{one:04X}' for one in halves(it, 'big'))}  {ascii_of(it)}")
+    hexdump_c = lines(lambda at, it: f"{at:08x}  {it[:8].hex(' ')}  {it[8:].hex(' ')}  |{ascii_of(it)}|")
+    hexdump = lines(lambda at, it: f"{at:07x} {' '.join(f'{one:04x}' for one in halves(it, 'little'))}")
+    od = lines(lambda at, it: f"{at:07o} {' '.join(f'{one:06o}' for one in halves(it, 'little'))}")
+    od_x1 = lines(lambda at, it: f"{at:07o} {it.hex(' ')}")
+    od_x4 = lines(lambda at, it: f"{at:07o} {' '.join(f'{one:08x}' for one in words(it, 'little'))}")
+    xxd_e = lines(lambda at, it: f"{at:08x}: {' '.join(f'{one:08x}' for one in words(it, 'little'))}  {ascii_of(it)}")
+    six = enumerate(dump_rows(g.data, 6))
+    bits_of = [f"{6 * at:08x}: {' '.join(f'{one:08b}' for one in it)}  {ascii_of(it)}\n" for at, it in six]
+    in_words = lines(lambda at, it: " ".join(f"{one:08X}" for one in words(it, "big")))
+    xxd_p = "\n".join(it.hex() for it in dump_rows(g.data, 30)).encode() + b"\n"
+    no_xxd = r"(?s)^(?!.*xxd -r).*dump"
     return [
-        row("xxd", [xxd], by_xxd),
-        row("xxd -u", [upper], by_xxd),
-        row("xxd -p", [plain], of_digits),
-        row("xxd -i", [in_c], "C source|array|text"),
+        row("xxd", [xxd], "hex dump(.|\n)*xxd -r FILE"),
+        row("xxd -u", [upper], "hex dump(.|\n)*xxd -r FILE"),
+        row("xxd -p", [xxd_p], "hexadecimal digits(.|\n)*xxd -r -p|turn FILE"),
+        row("xxd -i", [b"unsigned char design_bit[] = {\n  0xff, 0xff, 0xff, 0xff\n};\n"], "C source|array|text"),
         row("xxd -e", [xxd_e], no_xxd),
-        row("xxd -b", [xxd_b], no_xxd),
-        row("hexdump -C", [canonical], no_xxd),
-        row("hexdump", [dump(g.data, lambda at, it: f"{at:07x} {halves(it, '<', '04x')}")], no_xxd),
-        row("od", [dump(g.data, lambda at, it: f"{at:07o} {halves(it, '<', '06o')}")], no_xxd),
-        row("od -tx1", [dump(g.data, lambda at, it: f"{at:07o} {it.hex(' ')}")], no_xxd),
-        row("od -tx4", [dump(g.data, lambda at, it: f"{at:07o} {words(it, '<', '08x')}")], no_xxd),
-        row("words of 8 digits", [dump(g.data, lambda at, it: words(it, ">", "08X"))],
-            no_xxd_file + "(digits|dump|words)"),
-        row("bytes with blanks", [dump(g.data, lambda at, it: it.hex(" ").upper())], no_xxd_file + "(digits|dump)"),
+        row("xxd -b", ["".join(bits_of).encode()], no_xxd),
+        row("hexdump -C", [hexdump_c], no_xxd),
+        row("hexdump", [hexdump], no_xxd),
+        row("od", [od], no_xxd),
+        row("od -tx1", [od_x1], no_xxd),
+        row("od -tx4", [od_x4], no_xxd),
+        row("words of 8 digits", [in_words], r"(?s)^(?!.*xxd -r FILE).*(digits|dump|words)"),
+        row("bytes with blanks", [lines(lambda at, it: it.hex(" ").upper())], r"(?s)^(?!.*xxd -r FILE).*(digits|dump)"),
     ]
 
 
@@ -607,15 +776,17 @@ def settings(g: Good) -> List[Damage]:
         row("GTS kept", [g.with_word(x7.COR0, cor0 | 0x38)], "outputs stay off for ever"),
         row("GWE kept", [g.with_word(x7.COR0, cor0 | 7)], "GWE_CYCLE"),
         row("GTS_USER_B 0", [g.ctl0(0x500)], "GTS_USER_B"),
-        row("SBITS 1x", [g.ctl0(0x521)], "SBITS|starts|nothing is wrong", 0),
+        row("SBITS 1x before the frames", [g.ctl0(0x521)], "frames .* are dropped: CTL0 has SBITS 1x"),
+        row("SBITS 1x after the frames", [g.ctl0(0x521, True)], "starts|nothing is wrong", 0),
         row("encrypted", [g.ctl0(0x541)], "encrypted"),
         row("LOCK waits", [g.with_word(x7.COR0, cor0 & ~0x1C0 | 2 << 6)], "LOCK_CYCLE", 0),
         row("MATCH waits", [g.with_word(x7.COR0, cor0 & ~0xE00 | 1 << 9)], "MATCH_CYCLE", 0),
         row("SSCLKSRC TCK", [g.with_word(x7.COR0, cor0 | 1 << 16)], "TCK", 0),
         row("SSCLKSRC user", [g.with_word(x7.COR0, cor0 & ~0x18000 | 1 << 15)], "clock of the design", 0),
-        row("TIMER short", [g.setting(x7.TIMER, 0x40000001)], "TIMER|watchdog"),
-        row("BSPI of 32 bits", [g.setting(31, 0x26C)], "BSPI", 0),
-        row("BSPI of four lines", [g.setting(31, 0x26B)], "BSPI", 0),
+        row("TIMER short", [g.last(x7.TIMER, 0x40000001)], "TIMER|watchdog"),
+        row("TIMER short, then off", [g.setting(x7.TIMER, 0x40000100)], "^(it starts|nothing is wrong)", 0),
+        row("BSPI of 32 bits", [g.last(31, 0x26C)], "BSPI 0000026C.: .*32 address bits", 0),
+        row("BSPI of four lines", [g.last(31, 0x26B)], "BSPI 0000026B.: all 4 data lines", 0),
         row("no check", [no_checks(g)], "no write to CRC", 0),
     ]
     if width >= 0:
@@ -667,12 +838,13 @@ def good(g: Good) -> List[Damage]:
     ]
 
 
-def all_of(g: Good, other: Good) -> List[Damage]:
-    """All kinds, of a stream and one of another device."""
-    return [
-        *good(g), *cuts(g), *losses(g), *lines(g), *bits(g), *turned(g), *pins(g), *flashes(g, other), *packed(g),
-        *texts(g), *dumps(g), *headers(g, other), *settings(g), *several(g, other),
-    ]  # fmt: skip
+def all_of(g: Good, other: Good) -> Iterator[Damage]:
+    """All kinds, of a stream and one of another device, one group after the other: those of a large one would fill the
+    memory at once."""
+    for group in (cuts, losses, lines, bits, turned, pins, packed, texts, dumps, settings, good):
+        yield from group(g)
+    for pair in (flashes, headers, several):
+        yield from pair(g, other)
 
 
 # A number of bytes or words in what is said.

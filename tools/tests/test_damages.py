@@ -19,17 +19,11 @@ from typing import Dict, List
 
 from casefiles import Tally, put_file
 from calls import called
-from casefiles import Tally, put_file
-from damages import Damage, Good, all_of, judged
+from damages import Damage, Good, all_of, coded, judged
 import streams as s
 
-# The kinds of which `why` knows less: that something is wrong, and not all of what happened.
-KNOWN_LESS = re.compile(
-    r"partly written, then 00|two images in one flash, neither erased|written at a place that wasn't erased"
-    r"|256 bytes of FF within.*|frames alone, swapped|SBITS 1x|\d+ bytes (lost|added), no header"
-)
-# what so short a stream as the compressed one tells less of
-SHORT = re.compile("(XON and XOFF|0D) (eaten|to 0A).*")
+# The kinds of which `why` knows less: that something is wrong, and that what happened is unknown.
+KNOWN_LESS = re.compile(r"\d+ bytes lost, no header")
 
 
 def said(damage: Damage, folder: str) -> "tuple[int, str]":
@@ -41,7 +35,7 @@ def said(damage: Damage, folder: str) -> "tuple[int, str]":
 
 def other_device(lines: List[str]) -> Good:
     """A planned stream of another device."""
-    return Good(s.bit(s.with_data(lines, "IDCODE", "03631093"), "7a100tcsg324"))
+    return coded(s.bit(s.with_data(lines, "IDCODE", "03631093"), "7a100tcsg324"))
 
 
 def most_of(damage: Damage, good: Good) -> int:
@@ -54,8 +48,7 @@ def table(tally: Tally, kind: str, good: Good, other: Good, folder: str) -> None
     for damage in all_of(good, other):
         status, text = said(damage, folder)
         verdict = judged(damage, status, text, most_of(damage, good))
-        is_less = KNOWN_LESS.fullmatch(damage.name) or kind == "compressed" and SHORT.fullmatch(damage.name)
-        allowed = ("right", "part", "unknown") if is_less else ("right",)
+        allowed = ("right", "unknown") if KNOWN_LESS.fullmatch(damage.name) else ("right",)
         tally.check(f"{kind}, {damage.name}", verdict in allowed, f"{verdict}, status {status}: {text[:400]!r}, "
                                                                   f"wanted {damage.right!r}")
 
@@ -96,7 +89,7 @@ if len(sys.argv) > 2:
     sys.exit(0)
 TALLY = Tally()
 with tempfile.TemporaryDirectory() as FOLDER:
-    table(TALLY, "full", Good(s.bit(s.full())), other_device(s.full()), FOLDER)
-    table(TALLY, "compressed", Good(s.bit(s.compressed())), other_device(s.compressed()), FOLDER)
+    table(TALLY, "full", coded(s.bit(s.full())), other_device(s.full()), FOLDER)
+    table(TALLY, "compressed", coded(s.bit(s.compressed())), other_device(s.compressed()), FOLDER)
     half_written(TALLY, Good(s.bit(s.full())), FOLDER)
 TALLY.end()
