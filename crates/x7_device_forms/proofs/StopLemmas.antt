@@ -50,13 +50,14 @@ svf_played_about name texts event (inr h) = about_by name event (svf_event name 
 
 -- ---- where reading stops
 
-pub reads_stop : (form : AskedForm) (old now : InputsState) (event : Event) → (event ≡ no_memory) ⊎ (event ≡ too_many_reads) → StopsBy (cause_of_event event) form old now event
-reads_stop form old now event (inl e) = want_stops form old now event e
-reads_stop form old now event (inr e) = stops_by (cause_of_event event) form old now event (inr (inl e))
+pub reads_stop : (part : List ℕ) (streams : List (List ℕ)) (old now : InputsState) (event : Event) → (event ≡ no_memory) ⊎ (event ≡ too_many_reads) → StopsBy (cause_of_event event) (Playing part streams) old now event
+reads_stop part streams old now event (inl e) = want_stops (Playing part streams) old now event e
+reads_stop part streams old now event (inr e) = stops_by (cause_of_event event) (Playing part streams) old now event (inr (inl e))
 
-pub reads_only : {A B : Type 0} (value : A → B) (form : AskedForm) (old now : InputsState) (r : Result A Refusal) → IfErr r (λ x. (event_of x ≡ no_memory) ⊎ (event_of x ≡ too_many_reads)) → StopsReading (Some form) old now (result_by value r)
-reads_only value form old now (Ok a) h = tt
-reads_only value form old now (Err x) h = reads_stop form old now (event_of x) h
+pub reads_only : {A B : Type 0} (value : A → B) (part : List ℕ) (streams : List (List ℕ)) (old now : InputsState) (r : Result A Refusal) → IfErr r (λ x. (event_of x ≡ no_memory) ⊎ (event_of x ≡ too_many_reads))
+    → StopsReading (Some (Playing part streams)) old now (result_by value r)
+reads_only value part streams old now (Ok a) h = tt
+reads_only value part streams old now (Err x) h = reads_stop part streams old now (event_of x) h
 
 -- streams that are played one after the other, after a part
 pub streams_stop : (part : List ℕ) (streams : List (List ℕ)) (old mid now : InputsState) (event : Event) → AsksAtMost old 1 mid

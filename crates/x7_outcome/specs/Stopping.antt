@@ -28,10 +28,15 @@ inputs_of contents (UpdatingFlash flash stream) = limited stream_limit stream �
 inputs_of contents (ToMcs image) = limited flash_limit image ∷ []
 inputs_of contents (FromMcs text) = limited text_limit text ∷ []
 
--- the event names the form's flash, or is that too many words were read out, or names the input at which reading
+-- the event says that too many words were read out, of a form that writes what a device reads out
+abbrev pub ReadsTooMany : AskedForm → Event → Type 0
+ReadsTooMany (Playing part streams) event = event ≡ too_many_reads
+ReadsTooMany _ event = ⊥
+
+-- the event names the form's flash, or says that too many words were read out, or names the input at which reading
 -- stopped
 abbrev pub NamesItsStop : AskedForm → InputsState → InputsState → Event → Type 0
-NamesItsStop form old now event = Among (flash_names (Some form)) event.concerned ⊎ ((event ≡ too_many_reads) ⊎ StopsAt (inputs_of now.contents form) old now event)
+NamesItsStop form old now event = Among (flash_names (Some form)) event.concerned ⊎ (ReadsTooMany form event ⊎ StopsAt (inputs_of now.contents form) old now event)
 
 -- by the cause of an event: one that lies in what an input or a flash holds, in its fault or in its absence names where
 -- the command stopped; of any other nothing is said

@@ -57,7 +57,7 @@ returns g c =
           (part_steady part) c.read_part.ensures.asks.stays c.play_streams.ensures.inputs (λ n h. inr h) c.in_ok-part.ensures.caused
           (answers_end (List ℕ) Answer streams (i.state c.read_part.new.inputs) (i.state c.play_streams.new.inputs) (λ t. streams_known t stream_limit streams) (reported c.in_ok-part.part) p.0 (result_by play_answer c.text_of.result) (data_steady streams stream_limit) p.2
           (text_ends c.in_ok-part.part p.0 c.in_ok-player.player c.text_of.result p.1 c.text_of.ensures.text c.text_of.ensures.refused));
-      stops = reads_only play_answer (Playing c.args.part_name.now (map string_bytes c.args.streams.now)) (g.I.Inputs.state c.args.inputs.now)
+      stops = reads_only play_answer c.args.part_name.now (map string_bytes c.args.streams.now) (g.I.Inputs.state c.args.inputs.now)
           (g.I.Inputs.state c.play_streams.new.inputs) c.text_of.result (err_weaker c.text_of.result (λ r h. elim h [ inl e ↦ inl e | inr e ↦ inr e.0 ]) c.text_of.ensures.refused);
       asks = streams_asked string_bytes c.args.part_name.now c.args.streams.now (g.I.Inputs.state c.args.inputs.now) (g.I.Inputs.state c.read_part.new.inputs) (g.I.Inputs.state c.play_streams.new.inputs) c.read_part.ensures.asks.once c.play_streams.ensures.asks;
       stays = stays_on _ _ _ c.read_part.ensures.asks.stays c.play_streams.ensures.inputs;
