@@ -3,9 +3,12 @@
 use std::alloc::Global;
 use std::fmt::Display;
 use x7_boot::{BootFault, ImageFault};
+use x7_debug::ScriptFault;
 use x7_forms::Status;
+use x7_frames::FramesFault;
 use x7_listing::AsmFault;
 use x7_part::{PartFault, PartKey, Which};
+use x7_planner::PlanFault;
 
 /// Whether the value is printed as this text. Without memory it isn't.
 fn is_printed<D: Display>(alloc: Global, value: &D, text: &str) -> bool {
@@ -31,6 +34,7 @@ fn part_faults_name_the_key_and_the_row(rt: HostRuntime) {
         (PartFault::Range(in_first_row), "range minors in row 1"),
         (PartFault::SameRow(2), "same row 2"),
         (PartFault::TooMany(131_073), "too many frames: 131073"),
+        (PartFault::NoMemory, "no memory"),
     ];
     for (fault, text) in cases {
         assert!(rt; is_printed(rt.alloc(), &fault, text));
@@ -46,6 +50,49 @@ fn assembly_faults_name_the_line(rt: HostRuntime) {
             "line 67108865 passes the limit",
         ),
         (AsmFault::NoMemory, "no memory"),
+    ];
+    for (fault, text) in cases {
+        assert!(rt; is_printed(rt.alloc(), &fault, text));
+    }
+}
+
+#[test]
+fn frames_faults_name_the_line(rt: HostRuntime) {
+    let cases = [
+        (FramesFault::Line(3), "line 3 is no frame line"),
+        (
+            FramesFault::Address(4),
+            "line 4 has an address that the part lacks",
+        ),
+        (FramesFault::Twice(5), "line 5 repeats an address"),
+        (FramesFault::NoMemory, "no memory"),
+    ];
+    for (fault, text) in cases {
+        assert!(rt; is_printed(rt.alloc(), &fault, text));
+    }
+}
+
+#[test]
+fn plan_faults_name_the_address_or_the_count(rt: HostRuntime) {
+    let cases = [
+        (PlanFault::Empty, "the plan has no frame"),
+        (
+            PlanFault::Foreign(0x0042_000A),
+            "the part has no frame at 0042000A",
+        ),
+        (PlanFault::Range(10), "10 slots can't be read"),
+        (PlanFault::NoMemory, "no memory"),
+    ];
+    for (fault, text) in cases {
+        assert!(rt; is_printed(rt.alloc(), &fault, text));
+    }
+}
+
+#[test]
+fn script_faults_name_the_line(rt: HostRuntime) {
+    let cases = [
+        (ScriptFault::Line(6), "line 6 is no order"),
+        (ScriptFault::NoMemory, "no memory"),
     ];
     for (fault, text) in cases {
         assert!(rt; is_printed(rt.alloc(), &fault, text));

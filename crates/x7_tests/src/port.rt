@@ -31,6 +31,12 @@ fn a_text_has_statements_or_a_line_at_fault(rt: HostRuntime) {
     assert!(rt; found_in(rt.alloc(), b"STATE RESET;\nSDR 8;") == Some(Found::FaultOnLine(2)));
 }
 
+/// The contract of `svf_of` takes texts of up to 512 MiB; that the constant is as large, no clause says.
+#[test]
+fn the_limit_of_a_text_is_512_mib(rt: HostRuntime) {
+    assert!(rt; SVF_TEXT_LIMIT == 536_870_912);
+}
+
 #[test]
 fn a_new_port_is_in_test_logic_reset_with_idcode(rt: HostRuntime) {
     let tap = Tap::new();
