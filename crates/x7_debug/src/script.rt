@@ -54,9 +54,9 @@ fn take_line(orders: &mut Vec<Order>, line_number: u64, line: &[u8]) -> Result<(
 /// The script of a text; or the number of its first line that is none of a script's; or want of memory.
 ///
 /// A line is empty, a comment that `#` begins, or an order (this project's choice). An order is `step N`, `back N` or
-/// `go N`, with a number of 32 bits in decimal without leading zeros; or `until synced`, `until searching`, `until
-/// stopped` or `until phase P` with P from 0 to 7. Or it is `regs`, `phase`, or `frame FAR`, the address in eight
-/// upper-case hexadecimal digits. One space stands between the words, and the last line may lack its end.
+/// `go N`, with a number of 32 bits in decimal without leading zeros; or `until synced`, `until searching`,
+/// `until stopped` or `until phase P` with P from 0 to 7. Or it is `regs`, `phase`, or `frame FAR`, the address in
+/// eight upper-case hexadecimal digits. One space stands between the words, and the last line may lack its end.
 pub fn script_of(alloc: Global, text: &[u8]) -> Result<Script, ScriptFault>
     ensures script { IfOk result (λ script. IsScriptOf text.now (Ok script)) }
     ensures fault { IfErr result (λ fault. (fault ≡ ScriptFault.NoMemory) ⊎ IsScriptOf text.now (Err fault)) }
