@@ -255,9 +255,10 @@ fn summary_of_plan(alloc: Global, part: &Part, seed: u32, plan: &Plan) -> Result
     summarized(alloc, seed, plan.len(), &player, size)
 }
 
-/// The summary of the full stream of a seed's plan, played on a new device (this project's choice): `gen NAME SEED`;
-/// `planned N`, the count of planned frames; `stream N`, how many bytes the stream has; `phase P`, the phase of startup
-/// after it; `sum W`, the sum of all words of the memory modulo 2^32, in eight hexadecimal digits.
+/// The summary of the full stream of a seed's plan, played on a new device (this project's choice). Its lines are
+/// `gen NAME SEED`; `planned N`, the count of planned frames; and `stream N`, how many bytes the stream has. Then come
+/// `phase P`, the phase of startup after it, and `sum W`, the sum of all words of the memory modulo 2^32, in eight
+/// hexadecimal digits.
 pub fn gen_text(alloc: Global, part: &Part, seed: u32) -> Result<Vec<u8>, NoMemory>
     ensures text { IfOk result (λ text. text.items ≡ gen_text part.now seed) }
     ensures planned { IfOk result (λ text. text.items ≡ planned_summary part.now seed) }

@@ -220,8 +220,8 @@ impl Registers {
         }
     }
 
-    /// Advances startup and the watchdog by `count` bytes, up to the byte at which the watchdog fires; the word that they
-    /// complete comes after. Gives how many of the bytes are left, 0 where it doesn't fire.
+    /// Advances startup and the watchdog by `count` bytes, up to the byte at which the watchdog fires; the word that
+    /// they complete comes after. Gives how many of the bytes are left, 0 where it doesn't fire.
     #[inline(always)]
     pub(crate) fn take_bytes(&mut self, part: &Part, count: usize) -> usize
         requires going { self.old.values.stop ≡ None }
@@ -361,8 +361,8 @@ impl Registers {
         }
     }
 
-    /// Takes a word in a header's place whose last `count` bytes are new: these bytes first, and then the word, unless the
-    /// watchdog fired at one of them. Gives how many of the bytes are left.
+    /// Takes a word in a header's place whose last `count` bytes are new: these bytes first, and then the word, unless
+    /// the watchdog fired at one of them. Gives how many of the bytes are left.
     #[inline(always)]
     fn take_header(&mut self, part: &Part, step: Step, count: usize) -> usize
         requires may_take { MayTakeWords part.now self.old }

@@ -45,8 +45,8 @@ abbrev pub left_if : Bool → Option (List ℕ) → Option (List ℕ)
 left_if true left = left
 left_if false left = None
 
--- what is known of files as inputs, in hindsight: that they hold what the map says, as long as all that they gave agrees
--- with it
+-- what is known of files as inputs, in hindsight: that they hold what the map says, as long as all that they gave
+-- agrees with it
 abbrev pub known_inputs : NamedBytes → RealInputs → InputsState
 known_inputs map f = record {
   contents = known_if f.agreement.agrees map;

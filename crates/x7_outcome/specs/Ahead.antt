@@ -72,10 +72,10 @@ IsUnjudged stream old new =
     → AreBytes bytes → stream_listing bytes ≡ Err place → place < length bytes
     → new.inputs.given ≤ place
 
--- by the status: where the sink failed, the stream is too large or failed, or memory is wanting, at most
--- `most_bytes_ahead` bytes more were read or given than are listed; where a header is refused at a byte, no byte after
--- that byte was read; where the stream failed, the byte at which its header would be refused was not given; of any
--- other status nothing is said
+-- By the status. Where the sink failed, the stream is too large or failed, or memory is wanting, at most
+-- `most_bytes_ahead` bytes more were read or given than are listed. Where a header is refused at a byte, no byte after
+-- that byte was read. Where the stream failed, the byte at which its header would be refused was not given. Of any
+-- other status nothing is said.
 abbrev pub StaysNearBy : Status → List ℕ → Outside → Outside → Type 0
 StaysNearBy status.WriteFault stream old new = IsNear stream old new
 StaysNearBy status.TooLarge stream old new = IsNear stream old new

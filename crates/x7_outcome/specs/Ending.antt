@@ -151,16 +151,16 @@ abbrev pub OutputGets : Option AskedForm → Outside → Outside → Result Answ
 OutputGets form old new (Ok answer) = PutsAll old.out answer.text new.out
 OutputGets form old new (Err event) = OutputByCause (cause_of_event event) form old new event
 
--- The output failed in no call, by its count of faults; save where the event is a write fault, or memory was wanting. So
--- a failed write is the last, and no other reason is told after it.
+-- The output failed in no call, by its count of faults; save where the event is a write fault, or memory was wanting.
+-- So a failed write is the last, and no other reason is told after it.
 abbrev pub FailsOutLast : {A : Type 0} → SinkState → SinkState → Result A Event → Type 0
 FailsOutLast old new (Ok a) = new.faults ≡ old.faults
 FailsOutLast old new (Err event) = (event ≡ no_memory) ⊎ ((event ≡ writing_failed) ⊎ (new.faults ≡ old.faults))
 
 -- ---- how large a flash is
 
--- By the number of its bytes, known or not, the flash of a form is within the limit where the form's text is whole, and
--- over the limit where the event is that a name of the flash is too large, unless an input of the form has that name
+-- By the number of its bytes, known or not, the flash of a form is within the limit where the form's text is whole. It
+-- is over the limit where the event is that a name of the flash is too large, unless an input of the form has that name
 -- too.
 abbrev pub IsMeasured : Option AskedForm → FlashState → Result Answer Event → Type 0
 IsMeasured form new (Ok answer) = (name : List ℕ) → Among (flash_names form) name → new.extent ≤ flash_limit
@@ -199,8 +199,9 @@ JudgesFlash form old new end = Unit {0}
 
 -- ---- the end of a command
 
--- how a command ended: why, what the output got, how far `list` read ahead, how large the flash is, what was in order
--- before the flash failed, what an update left and called its flash for, and of which flashes the text of a boot is
+-- How a command ended: why, what the output got, how far `list` read ahead, how large the flash is, and what was in
+-- order before the flash failed. Then what an update left and called its flash for, and of which flashes the text of a
+-- boot is.
 pub record CommandEnds (form : Option AskedForm) (old new : Outside) (end : Result Answer Event) : Type 0 where
   pub cause : EndIsCaused form old new end
   pub wrote : OutputGets form old new end
@@ -216,9 +217,9 @@ abbrev pub CommandEndsAs : Option AskedForm → Outside → Outside → Result B
 CommandEndsAs form old new (Ok stopped) = (text : List ℕ) × CommandEnds form old new (Ok (record { stopped = stopped; text = text }))
 CommandEndsAs form old new (Err event) = CommandEnds form old new (Err event)
 
--- What a form did, up to the line that is said of its end: how it ended, where reading stopped, that an update and a
--- boot touched flash and stream in the order of `JudgesFlash`, how often inputs were asked for, and that every input
--- keeps its bytes.
+-- What a form did, up to the line that is said of its end: how it ended, where reading stopped, and that an update and
+-- a boot touched flash and stream in the order of `JudgesFlash`. Then how often inputs were asked for, and that every
+-- input keeps its bytes.
 pub record Answered (form : AskedForm) (old new : Outside) (got : Result Bool Event) : Type 0 where
   pub ends : CommandEndsAs (Some form) old new got
   pub stops : StopsReading (Some form) old.inputs new.inputs got
@@ -256,8 +257,8 @@ AnswersFrom form old new got = (before after : Outside) → AnswersOver form (wi
 abbrev pub AnswersForm : AskedForm → InputsState → InputsState → Result Answer Event → Type 0
 AnswersForm form old new got = AnswersBy (step_over (names_of (Some form)) old new) (λ known end. FormGives known form end) got
 
--- A form that reads inputs alone made its text ready, or not: the text, or the event in place of it, has its cause,
--- reading stopped where an input ends the form, no more inputs were asked for than the form names, and every input
+-- A form that reads inputs alone made its text ready, or not: the text, or the event in place of it, has its cause.
+-- Reading stopped where an input ends the form, no more inputs were asked for than the form names, and every input
 -- keeps its bytes.
 pub record MakesReady (form : AskedForm) (old new : InputsState) (got : Result Answer Event) : Type 0 where
   pub caused : AnswersForm form old new got
@@ -266,7 +267,7 @@ pub record MakesReady (form : AskedForm) (old new : InputsState) (got : Result A
   pub stays : InputsStay old new
 
 -- A form that reads a flash too made its text ready, or not: the text, or the event in place of it, has its cause in
--- inputs and flash, the flash's size and its faults fit the answer, the flash was touched as `JudgesFlash` says, and
+-- inputs and flash. The flash's size and its faults fit the answer, the flash was touched as `JudgesFlash` says, and
 -- the rest is as in `MakesReady`.
 pub record MakesReadyFrom (form : AskedForm) (old new : Sources) (got : Result Answer Event) : Type 0 where
   pub caused : AnswersFrom form old new got

@@ -226,9 +226,9 @@ pub record ImageStreams : Type 0 where
 abbrev pub image_streams : Known → List ℕ → List ℕ → Result ImageStreams Event
 image_streams known golden_name update_name = and_so (stream_data known golden_name) (λ golden. and_so (stream_data known update_name) (λ update. Ok (record { golden = golden; update = update })))
 
--- the image of a golden and an update stream, for parts of which one step of the start address is `unit` bytes; where
+-- The image of a golden and an update stream, for parts of which one step of the start address is `unit` bytes. Where
 -- the image would have more than `flash_limit` bytes, the event is a bad input of the name `name`, that of the update
--- stream
+-- stream.
 abbrev pub image_by : List ℕ → ℕ → ImageStreams → Result Answer Event
 image_by name unit s =
     if nat_lt flash_limit (image_size (length s.golden) (length s.update)) then Err (bad_input name input.Image)
@@ -263,8 +263,8 @@ pub record IsBootText (part : PartData) (flash : List ℕ) (answer : Answer) : T
   pub stopped : answer.stopped ≡ has_failed end
   pub text : answer.text ≡ boot_text part (reverse (map tried (last ∷ older))) end last
 
--- the boot of a part from what is found under the name of a flash: the text of the boot, or that the flash is too
--- large, isn't there or failed; where nothing is known of the flash, any text, or that it is too large
+-- The boot of a part from what is found under the name of a flash: the text of the boot, or that the flash is too
+-- large, isn't there or failed. Where nothing is known of the flash, any text, or that it is too large.
 abbrev pub FlashBoots : List ℕ → PartData → Option Found → Result Answer Event → Type 0
 FlashBoots name part None (Ok answer) = Unit {0}
 FlashBoots name part None (Err event) = event ≡ too_large name
@@ -304,9 +304,9 @@ update_event names (update_fault.NoLayout place) = bad_input names.flash (input.
 update_event names (update_fault.Differs place wrote read) = differs names.flash place
 update_event names update_fault.NoMemory = no_memory
 
--- why a flash isn't updated with a stream, by its bytes where they are known; a byte that is verified may be another
--- than the one written there only where the flash's bytes aren't known; a failed call and want of memory are none of
--- these reasons
+-- Why a flash isn't updated with a stream, by its bytes where they are known. A byte that is verified may be another
+-- than the one written there only where the flash's bytes aren't known. A failed call and want of memory are none of
+-- these reasons.
 abbrev pub IsUpdateFault : Option (List ℕ) → List ℕ → UpdateFault → Type 0
 IsUpdateFault bytes stream (update_fault.NoLayout place) = IfKnown bytes (λ flash. NoLayoutAt (length flash) flash place)
 IsUpdateFault bytes stream update_fault.TooLong = IfKnown bytes (IsTooLong stream)

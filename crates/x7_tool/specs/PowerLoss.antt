@@ -15,7 +15,7 @@ use Rattle.x7_outcome.specs.Leaving.{MayBeFound, calls_since, holding}
 abbrev pub PowerLossMayLeave : Option AskedForm → Sources → List ℕ → Type 0
 PowerLossMayLeave form old found = IfKnown old.flash.bytes (λ all. MayBeFound (known_from old) (updated_by form) all found)
 
--- A run updates a flash with a stream, where the flash's bytes and the stream's data are known; the flash can be
+-- A run updates a flash with a stream, where the flash's bytes and the stream's data are known. The flash can be
 -- updated, and its golden stream, of any kind, starts where the first sector is erased, by an attempt that ends at the
 -- update's place or before it.
 pub record IsUpdateOf (form : Option AskedForm) (old : Sources) (u : UpdatingByAttempt) : Type 0 where

@@ -82,7 +82,7 @@ pub record PromisesSummary (known : Known) (part : List ℕ) (seed : ℕ) (text 
   pub played : text ≡ planned_summary device seed
 
 -- The bytes of `image GOLDEN UPDATE`: a flash that begins with them has both streams, for each part whose start address
--- counts bytes: a boot from it tries the update, and where that fails and CTL0 allows a fallback, a golden stream that
+-- counts bytes. A boot from it tries the update, and where that fails and CTL0 allows a fallback, a golden stream that
 -- `BootsOpen` names starts.
 pub record PromisesImage (known : Known) (golden update image : List ℕ) : Type 0 where
   pub streams : ImageStreams

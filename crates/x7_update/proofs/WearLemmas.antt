@@ -152,8 +152,8 @@ module _ (size : ℕ) (first_sector stream : List ℕ) (target : UpdateTarget) (
         ∙ ap (λ l. writes_of at (replacing size stream target) ++ l) (reading_none at size stream target.place (target.place / sector_size) (sectors_from target.place size))
         ∙ append-nil _
 
-    -- From the update's place on a place is written to by the erase of its sector, and then, where the stream has it, by
-    -- the stream's program, and by nothing else.
+    -- From the update's place on a place is written to by the erase of its sector, and then, where the stream has it,
+    -- by the stream's program, and by nothing else.
     pub writes_above : target.place ≤ at → at < size → writes_of at (calls_to size first_sector stream target) ≡ Erased (at / sector_size) ∷ writes_of at (Programmed target.place stream ∷ [])
     writes_above h k =
         writes_on at (calls_to_open size first_sector stream target) (opening target.slots.next)

@@ -19,9 +19,9 @@ pub fn update_calls_leave()
 {}
 
 /// Whatever a flash gives: of an update with a stream, from its place on, a place is written to by the one erase of its
-/// sector and then, where the stream has it, by the one program of the stream. Below it nothing is written but the switch
-/// words of the open slot and of the next. Each byte from the update's place on was read as it is wanted, with no write
-/// there since, before the next slot is opened.
+/// sector and then, where the stream has it, by the one program of the stream. Below it nothing is written but the
+/// switch words of the open slot and of the next. Each byte from the update's place on was read as it is wanted, with
+/// no write there since, before the next slot is opened.
 pub fn update_calls_write_once()
     ensures above { (size : ℕ) (first_sector stream : List ℕ) → HasRoom size first_sector stream → WritesOnceAbove size first_sector stream }
     ensures below { (size : ℕ) (first_sector stream : List ℕ) → HasRoom size first_sector stream → WritesSwitchesBelow size first_sector stream }

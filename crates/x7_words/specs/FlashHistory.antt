@@ -49,8 +49,8 @@ IsWithin (EraseFailed sector) old found = IsTorn (sector_place sector) erased_se
 IsWithin (Programmed place given) old found = IsTorn place (cleared place given old) old found
 IsWithin (ProgramFailed place given) old found = IsTorn place (cleared place given old) old found
 
--- What a call makes of the bytes: a read gave those of the flash, and leaves it; a whole write does all of its work, and
--- one that failed may leave what may be found within it.
+-- What a call makes of the bytes: a read gave those of the flash, and leaves it; a whole write does all of its work,
+-- and one that failed may leave what may be found within it.
 abbrev pub Makes : FlashCall → List ℕ → List ℕ → Type 0
 Makes (Attached name size) old new = new ≡ old
 Makes (NotAttached name fault) old new = new ≡ old
