@@ -7,7 +7,9 @@ use Rattle.x7_part.specs.declared.fault.PartFault.{PartFault}
 use Rattle.x7_forms.specs.declared.bad_input.InputFault.{InputFault}
 use Rattle.x7_forms.specs.declared.refusal.Why.TheVariants as why
 use Rattle.x7_forms.specs.Event.{Event, bad_input, bad_part, event_of, missing, no_memory, reading_failed, too_large}
-use Rattle.x7_forms.specs.Form.{AskedForm, Booting, names_of}
+use Rattle.x7_forms.specs.Form.{names_of}
+use Rattle.x7_forms.specs.AskedForm.{AskedForm}
+use Rattle.x7_forms.specs.AskedForm as form
 use Rattle.x7_forms.specs.Known.{Absent, Answer, Failing, Found, Held, Known, Lacking, Mishap, flash_found, known_of, mishap_event, part_known, spoiled, spoiled_name, with_inputs, with_mishap}
 use Rattle.x7_boot.specs.Image.{flash_limit}
 use Rattle.x7_boot.specs.Reads.{IfAgrees, answers_since}
@@ -29,7 +31,7 @@ flash_spoiled (Lacking other) t name part event h e = let here = same_as_itself 
 
 -- a mishap of the flash is the first event of a boot whose part was read
 boot_mishap : (known : Option Known) (m : Mishap) (name part_name : List ℕ) (part : PartData) (event : Event) → mishap_event m ≡ event → spoiled_name m ≡ name → FlashBoots name part (Some (spoiled m Absent)) (Err event)
-    → IsDue {A = PartData} known (λ t r. part_known t part_name ≡ r) (Ok part) → DueBy {A = Answer} known m (λ t end. FormGives t (Booting part_name name) end) event
+    → IsDue {A = PartData} known (λ t r. part_known t part_name ≡ r) (Ok part) → DueBy {A = Answer} known m (λ t end. FormGives t (form.Boot part_name name) end) event
 boot_mishap None m name part_name part event e n h read = tt
 boot_mishap (Some t) m name part_name part event e n h read = elim ((part_steady part_name).steady m t part read.1) [
   | inl same ↦ subst (λ (r : Result PartData Event). BootedAs name r ((with_mishap m t).flash name) (Err event)) (sym same) (flash_spoiled m t name part event h n)
@@ -45,7 +47,7 @@ flash_open name part None event h = h
 flash_open name part (Some all) event h = h.1
 
 booted_due : (known : Option Known) (flash : Option (List ℕ)) (C : Mishap → Type 0) (name part_name : List ℕ) (part : PartData) (end : Result Answer Event) → ((t : Known) → known ≡ Some t → t.flash name ≡ flash_found flash)
-    → IsPossible end × IsDecided end → IsDue {A = PartData} known (λ t r. part_known t part_name ≡ r) (Ok part) → FlashBoots name part (flash_found flash) end → IsCausedBy known C (λ t end. FormGives t (Booting part_name name) end) end
+    → IsPossible end × IsDecided end → IsDue {A = PartData} known (λ t r. part_known t part_name ≡ r) (Ok part) → FlashBoots name part (flash_found flash) end → IsCausedBy known C (λ t end. FormGives t (form.Boot part_name name) end) end
 booted_due None flash C name part_name part end same o read h = inr o.0
 booted_due (Some t) flash C name part_name part end same o read h =
     inr (o.1, subst (λ (r : Result PartData Event). BootedAs name r (t.flash name) end) (sym read.1) (subst (λ (f : Option Found). FlashBoots name part f end) (sym (same t refl)) h))
@@ -61,7 +63,7 @@ read_due known C due a (inr h) = h
 
 -- a boot of a part that was read, over a flash that gives what was read
 pub known_boots : (contents : Option (List ℕ → Option (List ℕ))) (C : Mishap → Type 0) (name part_name : List ℕ) (part : PartData) (all : List ℕ) (answer : Answer) → IsCaused {A = PartData} (with_inputs contents (Some all)) C (λ t. part_known t part_name) (Ok part)
-    → FlashBoots name part (Some (Held all)) (Ok answer) → GivesIfKnown (with_inputs contents (Some all)) (Booting part_name name) (Ok answer)
+    → FlashBoots name part (Some (Held all)) (Ok answer) → GivesIfKnown (with_inputs contents (Some all)) (form.Boot part_name name) (Ok answer)
 known_boots None C name part_name part all answer read h = tt
 known_boots (Some inputs) C name part_name part all answer read h =
     let known = known_of inputs (Some all) in
@@ -70,7 +72,7 @@ known_boots (Some inputs) C name part_name part all answer read h =
 
 -- the text of a boot, whether it is ready or not
 pub boots_as_read : {A : Type 0} (text_in : A → Answer) (C : Mishap → Type 0) (name part_name : List ℕ) (part : PartData) (old new : Sources) (got : Result A Refusal) → ((all : List ℕ) → IsCaused {A = PartData} (with_inputs new.inputs.contents (Some all)) C (λ t. part_known t part_name) (Ok part))
-    → IfOk got (λ text. IfAgrees (answers_since old.flash new.flash) (λ all. FlashBoots name part (Some (Held all)) (Ok (text_in text)))) → BootsAsRead (Some (Booting part_name name)) old new (result_by text_in got)
+    → IfOk got (λ text. IfAgrees (answers_since old.flash new.flash) (λ all. FlashBoots name part (Some (Held all)) (Ok (text_in text)))) → BootsAsRead (Some (form.Boot part_name name)) old new (result_by text_in got)
 boots_as_read text_in C name part_name part old new (Ok text) read h = λ all agrees. known_boots new.inputs.contents C name part_name part all (text_in text) (read all) (h all agrees)
 boots_as_read text_in C name part_name part old new (Err x) read h = tt
 
@@ -80,16 +82,16 @@ both name part flash (Err event) h = large_is name (λ e. IsPossible {A = Answer
 
 -- a boot of a part that was read, from a flash
 pub booted_ends : (old new : Outside) (name part_name : List ℕ) (part : PartData) (C : Mishap → Type 0) (end : Result Answer Event) → IsCaused (known_in old new) C (λ known. part_known known part_name) (Ok part)
-    → FlashComes name part old.flash new.flash end → AnswersOver (Booting part_name name) old new end
+    → FlashComes name part old.flash new.flash end → AnswersOver (form.Boot part_name name) old new end
 booted_ends old new name part_name part C (Ok answer) read h =
-    booted_due (known_in old new) old.flash.bytes (CameInRun (Some (Booting part_name name)) old new) name part_name part (Ok answer) (known_flash new.inputs.contents old.flash.bytes name) (tt, tt)
+    booted_due (known_in old new) old.flash.bytes (CameInRun (Some (form.Boot part_name name)) old new) name part_name part (Ok answer) (known_flash new.inputs.contents old.flash.bytes name) (tt, tt)
     (read_due (known_in old new) C (λ t. part_known t part_name) part read) h.0
-booted_ends old new name part_name part C (Err event) read (inl h) = subst (λ (e : Event). AnswersOver (Booting part_name name) old new (Err e)) (sym h) (inl (inl refl))
+booted_ends old new name part_name part C (Err event) read (inl h) = subst (λ (e : Event). AnswersOver (form.Boot part_name name) old new (Err e)) (sym h) (inl (inl refl))
 booted_ends old new name part_name part C (Err event) read (inr (inl (inl h))) =
-    subst (λ (e : Event). AnswersOver (Booting part_name name) old new (Err e)) (sym h.0)
+    subst (λ (e : Event). AnswersOver (form.Boot part_name name) old new (Err e)) (sym h.0)
     (inl (inr (record { mishap = Lacking name; came = inr h.1; reports = refl; due = boot_mishap (known_in old new) (Lacking name) name part_name part (missing name) refl refl refl (read_due (known_in old new) C (λ t. part_known t part_name) part read) })))
 booted_ends old new name part_name part C (Err event) read (inr (inl (inr h))) =
-    subst (λ (e : Event). AnswersOver (Booting part_name name) old new (Err e)) (sym h.0)
+    subst (λ (e : Event). AnswersOver (form.Boot part_name name) old new (Err e)) (sym h.0)
     (inl (inr (record {
       mishap = Failing name new.inputs.given;
       came = (refl, inr h.1);
@@ -97,7 +99,7 @@ booted_ends old new name part_name part C (Err event) read (inr (inl (inr h))) =
       due = boot_mishap (known_in old new) (Failing name new.inputs.given) name part_name part (reading_failed name) refl refl refl (read_due (known_in old new) C (λ t. part_known t part_name) part read);
     })))
 booted_ends old new name part_name part C (Err event) read (inr (inr h)) =
-    booted_due (known_in old new) old.flash.bytes (CameInRun (Some (Booting part_name name)) old new) name part_name part (Err event) (known_flash new.inputs.contents old.flash.bytes name) (both name part old.flash.bytes (Err event) h.0)
+    booted_due (known_in old new) old.flash.bytes (CameInRun (Some (form.Boot part_name name)) old new) name part_name part (Err event) (known_flash new.inputs.contents old.flash.bytes name) (both name part old.flash.bytes (Err event) h.0)
     (read_due (known_in old new) C (λ t. part_known t part_name) part read) h.0
 
 -- ---- how large a flash is
@@ -176,13 +178,13 @@ no_part_last form old new name event a (inr h) = other_fault (Some form) old new
 
 -- the part of a boot was read
 pub part_good : (contents : Option (List ℕ → Option (List ℕ))) (C : Mishap → Type 0) (name part_name : List ℕ) (part : PartData) → IsCaused {A = PartData} (with_inputs contents None) C (λ t. part_known t part_name) (Ok part)
-    → GivesIfKnown (with_inputs contents None) (Booting part_name name) (Ok no_text)
+    → GivesIfKnown (with_inputs contents None) (form.Boot part_name name) (Ok no_text)
 part_good None C name part_name part h = tt
 part_good (Some inputs) C name part_name part (inl h) = absurd h
 part_good (Some inputs) C name part_name part (inr h) = subst (λ (r : Result PartData Event). BootedAs name r None (Ok no_text)) (sym h.1) tt
 
 pub boot_last : {A : Type 0} (value : A → Answer) (name part_name : List ℕ) (old : InputsState) (new : FlashState) (result : Result A Refusal) → IfErr result (λ r. event_of r ≡ reading_failed name → new.attached ≡ true → new.extent ≤ flash_limit)
-    → GivesIfKnown (with_inputs old.contents None) (Booting part_name name) (Ok no_text) → FailsLast (Some (Booting part_name name)) old new (result_by value result)
+    → GivesIfKnown (with_inputs old.contents None) (form.Boot part_name name) (Ok no_text) → FailsLast (Some (form.Boot part_name name)) old new (result_by value result)
 boot_last value name part_name old new (Ok a) h g = tt
 boot_last value name part_name old new (Err r) h g = λ other a e at. elim a [
   | inl same ↦ inl (h (e ∙ ap reading_failed same) at, (no_text, g))
@@ -190,21 +192,21 @@ boot_last value name part_name old new (Err r) h g = λ other a e at. elim a [
 ]
 
 -- a part that was not read: by its cause, the boot ends with the same event, whatever its flash is
-boot_due_kept : (known : Option Known) (m : Mishap) (name part_name : List ℕ) (event : Event) → DueBy {A = PartData} known m (λ t r. part_known t part_name ≡ r) event → DueBy {A = Answer} known m (λ t end. FormGives t (Booting part_name name) end) event
+boot_due_kept : (known : Option Known) (m : Mishap) (name part_name : List ℕ) (event : Event) → DueBy {A = PartData} known m (λ t r. part_known t part_name ≡ r) event → DueBy {A = Answer} known m (λ t end. FormGives t (form.Boot part_name name) end) event
 boot_due_kept None m name part_name event h = tt
 boot_due_kept (Some t) m name part_name event h = subst (λ (r : Result PartData Event). BootedAs name r ((with_mishap m t).flash name) (Err event)) (sym h) refl
 
-boot_kept : (known : Option Known) (C : Mishap → Type 0) (name part_name : List ℕ) (event : Event) → IsCaused {A = PartData} known C (λ t. part_known t part_name) (Err event) → IsCausedBy {A = Answer} known C (λ t end. FormGives t (Booting part_name name) end) (Err event)
+boot_kept : (known : Option Known) (C : Mishap → Type 0) (name part_name : List ℕ) (event : Event) → IsCaused {A = PartData} known C (λ t. part_known t part_name) (Err event) → IsCausedBy {A = Answer} known C (λ t end. FormGives t (form.Boot part_name name) end) (Err event)
 boot_kept known C name part_name event (inl h) =
-    inl (outside_goes PartData Answer known C C (λ t r. part_known t part_name ≡ r) (λ t end. FormGives t (Booting part_name name) end) event (λ m x. x) (λ m e x. boot_due_kept known m name part_name event x) h)
+    inl (outside_goes PartData Answer known C C (λ t r. part_known t part_name ≡ r) (λ t end. FormGives t (form.Boot part_name name) end) event (λ m x. x) (λ m e x. boot_due_kept known m name part_name event x) h)
 boot_kept None C name part_name event (inr h) = inr h
 boot_kept (Some t) C name part_name event (inr h) = inr (h.0, subst (λ (r : Result PartData Event). BootedAs name r (t.flash name) (Err event)) (sym h.1) refl)
 
 pub part_refused : (old new : Outside) (name part_name : List ℕ) (event : Event)
     → IsCaused {A = PartData} (known_in old new) (CameIn (step_over (part_name ∷ []) old.inputs new.inputs)) (λ known. part_known known part_name) (Err event)
-    → AnswersOver (Booting part_name name) old new (Err event)
+    → AnswersOver (form.Boot part_name name) old new (Err event)
 part_refused old new name part_name event read =
-    answers_over (Booting part_name name) old new (Err event)
+    answers_over (form.Boot part_name name) old new (Err event)
     (boot_kept (known_in old new) (CameIn (step_over (part_name ∷ []) old.inputs new.inputs)) name part_name event read)
 
 -- ---- a flash that is read at most

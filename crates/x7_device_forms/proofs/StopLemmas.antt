@@ -11,7 +11,9 @@ use Rattle.x7_forms.specs.Event.{Event, bad_input, cause_of_event, differs, even
 use Rattle.x7_forms.specs.declared.bad_input.InputFault.TheVariants as input
 use Rattle.x7_forms.specs.declared.refusal.Why.{Why}
 use Rattle.x7_forms.specs.declared.refusal.Why.TheVariants as why
-use Rattle.x7_forms.specs.Form.{AskedForm, Booting, Playing, UpdatingFlash, flash_names}
+use Rattle.x7_forms.specs.Form.{flash_names}
+use Rattle.x7_forms.specs.AskedForm.{AskedForm}
+use Rattle.x7_forms.specs.AskedForm as form
 use Rattle.x7_forms.specs.Known.{Answer, part_limit, stream_limit}
 use Rattle.x7_forms.specs.Step.{Among, result_by}
 use Rattle.x7_forms.specs.ReadingStops.{IsAbout, StopsAmong, limited, limited_together}
@@ -50,41 +52,41 @@ svf_played_about name texts event (inr h) = about_by name event (svf_event name 
 
 -- ---- where reading stops
 
-pub reads_stop : (part : List ℕ) (streams : List (List ℕ)) (old now : InputsState) (event : Event) → (event ≡ no_memory) ⊎ (event ≡ too_many_reads) → StopsBy (cause_of_event event) (Playing part streams) old now event
-reads_stop part streams old now event (inl e) = want_stops (Playing part streams) old now event e
-reads_stop part streams old now event (inr e) = stops_by (cause_of_event event) (Playing part streams) old now event (inr (inl e))
+pub reads_stop : (part : List ℕ) (streams : List (List ℕ)) (old now : InputsState) (event : Event) → (event ≡ no_memory) ⊎ (event ≡ too_many_reads) → StopsBy (cause_of_event event) (form.Play part streams) old now event
+reads_stop part streams old now event (inl e) = want_stops (form.Play part streams) old now event e
+reads_stop part streams old now event (inr e) = stops_by (cause_of_event event) (form.Play part streams) old now event (inr (inl e))
 
 pub reads_only : {A B : Type 0} (value : A → B) (part : List ℕ) (streams : List (List ℕ)) (old now : InputsState) (r : Result A Refusal) → IfErr r (λ x. (event_of x ≡ no_memory) ⊎ (event_of x ≡ too_many_reads))
-    → StopsReading (Some (Playing part streams)) old now (result_by value r)
+    → StopsReading (Some (form.Play part streams)) old now (result_by value r)
 reads_only value part streams old now (Ok a) h = tt
 reads_only value part streams old now (Err x) h = reads_stop part streams old now (event_of x) h
 
 -- streams that are played one after the other, after a part
 pub streams_stop : (part : List ℕ) (streams : List (List ℕ)) (old mid now : InputsState) (event : Event) → AsksAtMost old 1 mid
-    → StopsAmong (limited_together now.contents stream_limit streams) mid now event → StopsBy (cause_of_event event) (Playing part streams) old now event
-streams_stop part streams old mid now event n h = among_stops (Playing part streams) old now event (stops_after (limited part_limit part) (limited_together now.contents stream_limit streams) old mid now event n h)
+    → StopsAmong (limited_together now.contents stream_limit streams) mid now event → StopsBy (cause_of_event event) (form.Play part streams) old now event
+streams_stop part streams old mid now event n h = among_stops (form.Play part streams) old now event (stops_after (limited part_limit part) (limited_together now.contents stream_limit streams) old mid now event n h)
 
 -- the form's flash
 pub flash_stops : (form : AskedForm) (old now : InputsState) (event : Event) (name : List ℕ) → event.concerned ≡ name → Among (flash_names (Some form)) name → StopsBy (cause_of_event event) form old now event
 flash_stops form old now event name n a = stops_by (cause_of_event event) form old now event (inl (subst (λ (x : List ℕ). Among (flash_names (Some form)) x) (sym n) a))
 
 -- a boot from a flash
-pub boot_stops : (name part_name : List ℕ) (part : PartData) (old now : InputsState) (first last : FlashState) (end : Result Answer Event) → FlashComes name part first last end → StopsReading (Some (Booting part_name name)) old now end
+pub boot_stops : (name part_name : List ℕ) (part : PartData) (old now : InputsState) (first last : FlashState) (end : Result Answer Event) → FlashComes name part first last end → StopsReading (Some (form.Boot part_name name)) old now end
 boot_stops name part_name part old now first last (Ok answer) h = tt
-boot_stops name part_name part old now first last (Err event) (inl e) = want_stops (Booting part_name name) old now event e
-boot_stops name part_name part old now first last (Err event) (inr (inl (inl h))) = flash_stops (Booting part_name name) old now event name (ap (λ (x : Event). x.concerned) h.0) (inl refl)
-boot_stops name part_name part old now first last (Err event) (inr (inl (inr h))) = flash_stops (Booting part_name name) old now event name (ap (λ (x : Event). x.concerned) h.0) (inl refl)
-boot_stops name part_name part old now first last (Err event) (inr (inr h)) = flash_stops (Booting part_name name) old now event name (ap (λ (x : Event). x.concerned) (flash_open name part first.bytes event h.0)) (inl refl)
+boot_stops name part_name part old now first last (Err event) (inl e) = want_stops (form.Boot part_name name) old now event e
+boot_stops name part_name part old now first last (Err event) (inr (inl (inl h))) = flash_stops (form.Boot part_name name) old now event name (ap (λ (x : Event). x.concerned) h.0) (inl refl)
+boot_stops name part_name part old now first last (Err event) (inr (inl (inr h))) = flash_stops (form.Boot part_name name) old now event name (ap (λ (x : Event). x.concerned) h.0) (inl refl)
+boot_stops name part_name part old now first last (Err event) (inr (inr h)) = flash_stops (form.Boot part_name name) old now event name (ap (λ (x : Event). x.concerned) (flash_open name part first.bytes event h.0)) (inl refl)
 
 -- a flash that can't be used
-pub attach_refused_stops : (name stream : List ℕ) (old now : InputsState) (first last : FlashState) (event : Event) → IsUnattachedOrLarge name first last event → StopsBy (cause_of_event event) (UpdatingFlash name stream) old now event
-attach_refused_stops name stream old now first last event (inl (inl h, d)) = flash_stops (UpdatingFlash name stream) old now event name (ap (λ (x : Event). x.concerned) h.0) (inl refl)
-attach_refused_stops name stream old now first last event (inl (inr h, d)) = flash_stops (UpdatingFlash name stream) old now event name (ap (λ (x : Event). x.concerned) h.0) (inl refl)
-attach_refused_stops name stream old now first last event (inr h) = flash_stops (UpdatingFlash name stream) old now event name (ap (λ (x : Event). x.concerned) h.0) (inl refl)
+pub attach_refused_stops : (name stream : List ℕ) (old now : InputsState) (first last : FlashState) (event : Event) → IsUnattachedOrLarge name first last event → StopsBy (cause_of_event event) (form.Update name stream) old now event
+attach_refused_stops name stream old now first last event (inl (inl h, d)) = flash_stops (form.Update name stream) old now event name (ap (λ (x : Event). x.concerned) h.0) (inl refl)
+attach_refused_stops name stream old now first last event (inl (inr h, d)) = flash_stops (form.Update name stream) old now event name (ap (λ (x : Event). x.concerned) h.0) (inl refl)
+attach_refused_stops name stream old now first last event (inr h) = flash_stops (form.Update name stream) old now event name (ap (λ (x : Event). x.concerned) h.0) (inl refl)
 
 -- a fault of an update
 fault_stops : (flash stream : List ℕ) (old now : InputsState) (fault : UpdateFault) → IsLastAsked stream stream_limit now → AsksAtMost old 1 now
-    → StopsBy (cause_of_event (update_event (record { flash = flash; stream = stream }) fault)) (UpdatingFlash flash stream) old now (update_event (record { flash = flash; stream = stream }) fault)
+    → StopsBy (cause_of_event (update_event (record { flash = flash; stream = stream }) fault)) (form.Update flash stream) old now (update_event (record { flash = flash; stream = stream }) fault)
 fault_stops flash stream old now (update.Failed true) s n = tt
 fault_stops flash stream old now (update.Failed false) s n = inl (inl refl)
 fault_stops flash stream old now update.TooLong s n = inr (inr (record { before = []; input = limited stream_limit stream; after = []; among = refl; concerns = refl; last_asked = s; asks = n }))
@@ -93,13 +95,13 @@ fault_stops flash stream old now (update.Differs place wrote read) s n = tt
 fault_stops flash stream old now update.NoMemory s n = tt
 
 pub updated_stops : (flash stream : List ℕ) (old now : InputsState) (fault : UpdateFault) (event : Event) → event ≡ update_event (record { flash = flash; stream = stream }) fault → IsLastAsked stream stream_limit now → AsksAtMost old 1 now
-    → StopsBy (cause_of_event event) (UpdatingFlash flash stream) old now event
-updated_stops flash stream old now fault event e s n = subst (λ (x : Event). StopsBy (cause_of_event x) (UpdatingFlash flash stream) old now x) (sym e) (fault_stops flash stream old now fault s n)
+    → StopsBy (cause_of_event event) (form.Update flash stream) old now event
+updated_stops flash stream old now fault event e s n = subst (λ (x : Event). StopsBy (cause_of_event x) (form.Update flash stream) old now x) (sym e) (fault_stops flash stream old now fault s n)
 
 -- ---- what an update asks for where its flash can't be used
 
 -- the flash wasn't opened, and no input was asked for
-pub unopened_judges : (flash stream : List ℕ) (old new : Sources) (event : Event) → new.inputs ≡ old.inputs → JudgesFlash {A = Bool} (Some (UpdatingFlash flash stream)) old new (Err event)
+pub unopened_judges : (flash stream : List ℕ) (old new : Sources) (event : Event) → new.inputs ≡ old.inputs → JudgesFlash {A = Bool} (Some (form.Update flash stream)) old new (Err event)
 unopened_judges flash stream old new event e = λ u. inl (omega (arith, ap (λ (x : InputsState). x.selects) e))
 
 -- the stream wasn't read: an event of its name
@@ -125,7 +127,7 @@ want_by now (inr (inr e)) = let r : why.NoMemory ≡ why.ReadFault = e.0 in absu
 never_wants : (flash : List ℕ) (now : FlashState) (event : Event) → event ≡ no_memory → IsUnusable flash now event → ⊥
 never_wants flash now event w u = want_by now (unusable_reason flash now no_memory (subst (λ (x : Event). IsUnusable flash now x) w u))
 
-pub stream_judges : (flash stream : List ℕ) (old new : Sources) (event : Event) → IsAbout stream event → JudgesFlash {A = Bool} (Some (UpdatingFlash flash stream)) old new (Err event)
+pub stream_judges : (flash stream : List ℕ) (old new : Sources) (event : Event) → IsAbout stream event → JudgesFlash {A = Bool} (Some (form.Update flash stream)) old new (Err event)
 stream_judges flash stream old new event (inl e) = λ u. absurd (never_wants flash new.flash event e u)
 stream_judges flash stream old new event (inr n) = λ u. inr (named_judges flash stream new.flash event n u)
 
@@ -144,18 +146,18 @@ fault_judges flash stream now (update.NoLayout place) a u = fault_by now (why.Ba
 fault_judges flash stream now (update.Differs place wrote read) a u = fault_by now (why.Differs place) a (λ e. absurd cc) (λ e. absurd cc) (unusable_reason flash now (differs flash place) u)
 fault_judges flash stream now update.NoMemory a u = fault_by now why.NoMemory a (λ e. absurd cc) (λ e. absurd cc) (unusable_reason flash now no_memory u)
 
-pub updated_judges : (flash stream : List ℕ) (old new : Sources) (fault : UpdateFault) (event : Event) → event ≡ update_event (record { flash = flash; stream = stream }) fault → new.flash.attached ≡ true → JudgesFlash {A = Bool} (Some (UpdatingFlash flash stream)) old new (Err event)
+pub updated_judges : (flash stream : List ℕ) (old new : Sources) (fault : UpdateFault) (event : Event) → event ≡ update_event (record { flash = flash; stream = stream }) fault → new.flash.attached ≡ true → JudgesFlash {A = Bool} (Some (form.Update flash stream)) old new (Err event)
 updated_judges flash stream old new fault event e a = λ u. absurd (fault_judges flash stream new.flash fault a (subst (λ (x : Event). IsUnusable flash new.flash x) e u))
 
 -- ---- that a boot touches its flash last
 
 -- the part wasn't good
-pub untouched_judges : (part_name name : List ℕ) (old new : InputsState) (flash : FlashState) (event : Event) → JudgesFlash {A = Answer} (Some (Booting part_name name)) (sources old flash) (sources new flash) (Err event)
+pub untouched_judges : (part_name name : List ℕ) (old new : InputsState) (flash : FlashState) (event : Event) → JudgesFlash {A = Answer} (Some (form.Boot part_name name)) (sources old flash) (sources new flash) (Err event)
 untouched_judges part_name name old new flash event = inr (inr (inr refl))
 
 -- what a boot from an attached flash, or from one that isn't, comes to
 pub comes_judges : (part_name name : List ℕ) (part : PartData) (old new : InputsState) (first last : FlashState) (got : Result Answer Event) → FlashComes name part first last got
-    → JudgesFlash {A = Answer} (Some (Booting part_name name)) (sources old first) (sources new last) got
+    → JudgesFlash {A = Answer} (Some (form.Boot part_name name)) (sources old first) (sources new last) got
 comes_judges part_name name part old new first last (Ok answer) h = tt
 comes_judges part_name name part old new first last (Err event) (inl e) = inl e
 comes_judges part_name name part old new first last (Err event) (inr (inl (inl h))) = inr (inr (inl (ap (λ (x : Event). x.concerned) h.0)))

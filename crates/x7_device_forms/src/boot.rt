@@ -4,7 +4,7 @@ ghost use Rattle.x7_words.specs.FlashHistory.{FollowsCalls};
 ghost use Rattle.x7_part.specs.Part.{PartData};
 ghost use Rattle.x7_boot.specs.Boot.{IsBoot};
 ghost use Rattle.x7_engine.specs.Standing.{NoWordDue};
-ghost use Rattle.x7_forms.specs.Form.{Booting};
+ghost use Rattle.x7_forms.specs.AskedForm as form;
 ghost use Rattle.x7_boot.specs.Image.{flash_limit};
 ghost use Rattle.x7_forms.specs.Event.{event_of, no_memory, reading_failed};
 ghost use Rattle.x7_boot.specs.Reads.{IfAgrees, answers_since};
@@ -126,7 +126,7 @@ pub fn boot<'w, I: Inputs, F: Flash>(
     part_name: &'w str,
     flash_name: &'w str,
 ) -> Result<PlayText, Refusal<'w>>
-    ensures ready { MakesReadyFrom (Booting part_name.now flash_name.now) (sources (I.state inputs.old) (F.state flash.old))
+    ensures ready { MakesReadyFrom (form.Boot part_name.now flash_name.now) (sources (I.state inputs.old) (F.state flash.old))
         (sources (I.state inputs.new) (F.state flash.new)) (result_by play_answer result) }
     ensures reads { ReadsFlash flash_name.now (F.state flash.old) (F.state flash.new) }
     ensures follows { FollowsCalls (F.state flash.old) (F.state flash.new) }

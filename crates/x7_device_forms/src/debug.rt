@@ -10,7 +10,7 @@ ghost use Rattle.x7_outcome.specs.Outcome.{DebuggedAs, script_event, shown_of};
 ghost use Rattle.x7_forms.specs.Known.{script_limit};
 ghost use Rattle.x7_forms.specs.Turn.{IsLastAsked};
 ghost use Rattle.x7_outcome.specs.Ready.{text_answer};
-ghost use Rattle.x7_forms.specs.Form.{Debugging};
+ghost use Rattle.x7_forms.specs.AskedForm as form;
 ghost use Rattle.x7_forms.specs.Step.{result_by};
 ghost use Rattle.x7_outcome.specs.Ending.{MakesReady};
 
@@ -131,7 +131,7 @@ pub fn debug<'w, I: Inputs>(
     stream_name: &'w str,
     script_name: &'w str,
 ) -> Result<Text, Refusal<'w>>
-    ensures { MakesReady (Debugging part_name.now stream_name.now script_name.now) (I.state inputs.old) (I.state inputs.new) (result_by text_answer result) }
+    ensures { MakesReady (form.Debug part_name.now stream_name.now script_name.now) (I.state inputs.old) (I.state inputs.new) (result_by text_answer result) }
 {
     let given = read_given(alloc, inputs, part_name, stream_name, script_name)?;
     text_of(alloc, given, script_name)

@@ -13,7 +13,7 @@ ghost use Rattle.x7_outcome.specs.Generate.{count_line, counted, gen_text, gen_l
 ghost use Rattle.x7_forms.specs.Event.{event_of, no_memory};
 ghost use Rattle.x7_outcome.specs.Outcome.{gen_answer};
 ghost use Rattle.x7_outcome.specs.Ending.{MakesReady};
-ghost use Rattle.x7_forms.specs.Form.{Generating};
+ghost use Rattle.x7_forms.specs.AskedForm as form;
 ghost use Rattle.x7_playing.specs.Playing.{HasPlayed};
 ghost use Rattle.x7_outcome.specs.Ready.{bytes_answer};
 ghost use Rattle.x7_forms.specs.Step.{result_by};
@@ -284,7 +284,7 @@ pub fn generate<'w, I: Inputs>(
     part_name: &'w str,
     seed: u32,
 ) -> Result<Vec<u8>, Refusal<'w>>
-    ensures { MakesReady (Generating part_name.now seed) (I.state inputs.old) (I.state inputs.new) (result_by bytes_answer result) }
+    ensures { MakesReady (form.Gen part_name.now seed) (I.state inputs.old) (I.state inputs.new) (result_by bytes_answer result) }
 {
     let part = read_part(alloc, inputs, part_name)?;
     summary_of(alloc, &part, seed)

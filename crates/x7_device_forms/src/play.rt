@@ -3,7 +3,7 @@ ghost use Rattle.std.specs.Prelude.{◌≡◌, ◌⊎◌, ℕ, List, map, string
 ghost use Rattle.x7_part.specs.Part.{PartData};
 ghost use Rattle.x7_forms.specs.Event.{event_of, no_memory, too_many_reads};
 ghost use Rattle.x7_playing.specs.Playing.{HasPlayed};
-ghost use Rattle.x7_forms.specs.Form.{Playing};
+ghost use Rattle.x7_forms.specs.AskedForm as form;
 ghost use Rattle.x7_forms.specs.Step.{result_by};
 ghost use Rattle.x7_outcome.specs.Play.{reported, play_answer};
 ghost use Rattle.x7_outcome.specs.Ending.{MakesReady};
@@ -39,7 +39,7 @@ pub fn play<'w, I: Inputs>(
     part_name: &'w str,
     streams: &'w [String],
 ) -> Result<PlayText, Refusal<'w>>
-    ensures { MakesReady (Playing part_name.now (map string_bytes streams.now)) (I.state inputs.old) (I.state inputs.new) (result_by play_answer result) }
+    ensures { MakesReady (form.Play part_name.now (map string_bytes streams.now)) (I.state inputs.old) (I.state inputs.new) (result_by play_answer result) }
 {
     let part = read_part(alloc, inputs, part_name)?;
     let player = play_streams(alloc, &part, inputs, streams)?;

@@ -4,7 +4,7 @@ ghost use Rattle.std.specs.Prelude.{◌≡◌, ◌⊎◌, ◌≤◌, ◌||◌, O
 ghost use Rattle.x7_words.specs.Input.{AsksAtMost, InputsStay};
 ghost use Rattle.x7_forms.specs.Event.{event_of, no_memory};
 ghost use Rattle.x7_forms.specs.Step.{result_by};
-ghost use Rattle.x7_forms.specs.Form.{PlayingSvf};
+ghost use Rattle.x7_forms.specs.AskedForm as form;
 ghost use Rattle.x7_outcome.specs.Ending.{MakesReady};
 ghost use Rattle.x7_svf.specs.Svf.{IsSvfOf};
 ghost use Rattle.x7_svf.specs.declared.fault.SvfFault.{SvfFault as FaultData};
@@ -113,7 +113,7 @@ pub fn svf<'w, I: Inputs>(
     part_name: &'w str,
     text_name: &'w str,
 ) -> Result<PlayText, Refusal<'w>>
-    ensures { MakesReady (PlayingSvf part_name.now text_name.now) (I.state inputs.old) (I.state inputs.new) (result_by play_answer result) }
+    ensures { MakesReady (form.Svf part_name.now text_name.now) (I.state inputs.old) (I.state inputs.new) (result_by play_answer result) }
 {
     let given = read_given(alloc, inputs, part_name, text_name)?;
     text_of(alloc, given, text_name)

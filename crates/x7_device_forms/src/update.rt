@@ -1,6 +1,6 @@
 //! The command `update`: a flash gets another update stream, and may lose its power at any moment.
 ghost use Rattle.std.specs.Prelude.{◌≡◌, Some, false};
-ghost use Rattle.x7_forms.specs.Form.{UpdatingFlash};
+ghost use Rattle.x7_forms.specs.AskedForm as form;
 ghost use Rattle.x7_forms.specs.Event.{event_of};
 ghost use Rattle.x7_forms.specs.Step.{result_by};
 ghost use Rattle.x7_outcome.specs.Leaving.{UsesFlash};
@@ -52,9 +52,9 @@ pub fn update<'w, I: Inputs, F: Flash>(
     flash_name: &'w str,
     stream_name: &'w str,
 ) -> Result<(), Refusal<'w>>
-    ensures answered { AnsweredSilently (UpdatingFlash flash_name.now stream_name.now) (sources (I.state inputs.old) (F.state flash.old))
+    ensures answered { AnsweredSilently (form.Update flash_name.now stream_name.now) (sources (I.state inputs.old) (F.state flash.old))
         (sources (I.state inputs.new) (F.state flash.new)) (result_by (λ _. false) result) }
-    ensures flash { UsesFlash (Some (UpdatingFlash flash_name.now stream_name.now)) (sources (I.state inputs.new) (F.state flash.old)) (F.state flash.new) }
+    ensures flash { UsesFlash (Some (form.Update flash_name.now stream_name.now)) (sources (I.state inputs.new) (F.state flash.old)) (F.state flash.new) }
 {
     open_flash(flash, flash_name)?;
     let read = read_stream(alloc, inputs, stream_name)?;

@@ -1,3 +1,4 @@
+pub mod AskedForm
 pub mod Event
 pub mod Form
 pub mod Known

@@ -1,6 +1,7 @@
 //! The forms of the command line, in the order of docs/x7.1.
 ghost use Rattle.std.specs.Prelude.{◌≡◌, map, string_bytes};
-ghost use Rattle.x7_forms.specs.Form.{Assembling, Booting, FromMcs, Listing, PlayingSvf, PlanningFull, ToMcs, debug_form, form_of_strings, gen_form, image_form, number_in, one_name, plan_form, plan_read_form, play_form, two_names, word_in, PlanningPartial, UpdatingFlash, form_asked};
+ghost use Rattle.x7_forms.specs.Form.{debug_form, form_of_strings, gen_form, image_form, number_in, one_name, plan_form, plan_read_form, play_form, two_names, word_in, form_asked};
+ghost use Rattle.x7_forms.specs.AskedForm as form;
 
 use x7_text::{number_of_decimal, word_of_hex};
 
@@ -114,7 +115,7 @@ pub enum Form<'w> {
 
 /// `list STREAM`.
 fn list_form(names: &[String]) -> Option<Form<'_>>
-    ensures { form_asked result ≡ one_name Listing (map string_bytes names.now) }
+    ensures { form_asked result ≡ one_name form.List (map string_bytes names.now) }
 {
     match names {
         [stream] => Some(Form::List {
@@ -126,7 +127,7 @@ fn list_form(names: &[String]) -> Option<Form<'_>>
 
 /// `asm TEXT`.
 fn asm_form(names: &[String]) -> Option<Form<'_>>
-    ensures { form_asked result ≡ one_name Assembling (map string_bytes names.now) }
+    ensures { form_asked result ≡ one_name form.Asm (map string_bytes names.now) }
 {
     match names {
         [text] => Some(Form::Asm {
@@ -170,7 +171,7 @@ fn debug_form(names: &[String]) -> Option<Form<'_>>
 
 /// `svf PART TEXT`.
 fn svf_form(names: &[String]) -> Option<Form<'_>>
-    ensures { form_asked result ≡ two_names PlayingSvf (map string_bytes names.now) }
+    ensures { form_asked result ≡ two_names form.Svf (map string_bytes names.now) }
 {
     match names {
         [part, text] => Some(Form::Svf {
@@ -183,7 +184,7 @@ fn svf_form(names: &[String]) -> Option<Form<'_>>
 
 /// `plan full PART FRAMES`.
 fn plan_full_form(names: &[String]) -> Option<Form<'_>>
-    ensures { form_asked result ≡ two_names PlanningFull (map string_bytes names.now) }
+    ensures { form_asked result ≡ two_names form.PlanFull (map string_bytes names.now) }
 {
     match names {
         [part, frames] => Some(Form::PlanFull {
@@ -196,7 +197,7 @@ fn plan_full_form(names: &[String]) -> Option<Form<'_>>
 
 /// `plan partial PART FRAMES`.
 fn plan_partial_form(names: &[String]) -> Option<Form<'_>>
-    ensures { form_asked result ≡ two_names PlanningPartial (map string_bytes names.now) }
+    ensures { form_asked result ≡ two_names form.PlanPartial (map string_bytes names.now) }
 {
     match names {
         [part, frames] => Some(Form::PlanPartial {
@@ -295,7 +296,7 @@ fn image_form(names: &[String]) -> Option<Form<'_>>
 
 /// `boot PART FLASH`.
 fn boot_form(names: &[String]) -> Option<Form<'_>>
-    ensures { form_asked result ≡ two_names Booting (map string_bytes names.now) }
+    ensures { form_asked result ≡ two_names form.Boot (map string_bytes names.now) }
 {
     match names {
         [part, flash] => Some(Form::Boot {
@@ -308,7 +309,7 @@ fn boot_form(names: &[String]) -> Option<Form<'_>>
 
 /// `update FLASH STREAM`.
 fn update_form(names: &[String]) -> Option<Form<'_>>
-    ensures { form_asked result ≡ two_names UpdatingFlash (map string_bytes names.now) }
+    ensures { form_asked result ≡ two_names form.Update (map string_bytes names.now) }
 {
     match names {
         [flash, stream] => Some(Form::Update {
@@ -321,7 +322,7 @@ fn update_form(names: &[String]) -> Option<Form<'_>>
 
 /// `mcs IMAGE`.
 fn mcs_form(names: &[String]) -> Option<Form<'_>>
-    ensures { form_asked result ≡ one_name ToMcs (map string_bytes names.now) }
+    ensures { form_asked result ≡ one_name form.Mcs (map string_bytes names.now) }
 {
     match names {
         [image] => Some(Form::Mcs {
@@ -333,7 +334,7 @@ fn mcs_form(names: &[String]) -> Option<Form<'_>>
 
 /// `unmcs TEXT`.
 fn unmcs_form(names: &[String]) -> Option<Form<'_>>
-    ensures { form_asked result ≡ one_name FromMcs (map string_bytes names.now) }
+    ensures { form_asked result ≡ one_name form.Unmcs (map string_bytes names.now) }
 {
     match names {
         [text] => Some(Form::Unmcs {

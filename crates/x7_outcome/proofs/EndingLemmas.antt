@@ -2,7 +2,8 @@
 use Rattle.std.proofs.Common.{◌≡◌, ℕ, List, Option, None, Some, Result, Ok, Err, refl, ap, subst, sym, ◌∙◌, inl, inr}
 use Rattle.x7_forms.specs.declared.status.Status.{Status}
 use Rattle.x7_forms.specs.Event.{Event, ReasonCause, Want, Fault, Absence, Break, Contents, cause_of_event}
-use Rattle.x7_forms.specs.Form.{AskedForm, listed_by}
+use Rattle.x7_forms.specs.Form.{listed_by}
+use Rattle.x7_forms.specs.AskedForm.{AskedForm}
 use Rattle.x7_forms.specs.Known.{Answer, Failing, Known, Lacking, Mishap, mishap_event}
 use Rattle.x7_forms.specs.Step.{DecidedBy, IsCausedBy, IsDue, IsFromOutside, PossibleBy}
 use Rattle.x7_outcome.specs.Ahead.{StaysNear, StaysNearIn}

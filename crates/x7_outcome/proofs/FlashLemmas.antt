@@ -15,7 +15,9 @@ use Rattle.x7_forms.specs.declared.refusal.Why.TheVariants as why
 use Rattle.x7_forms.specs.Event.{Event}
 use Rattle.x7_update.specs.After.{MayBeLeft}
 use Rattle.x7_update.specs.Made.{LeavesAny}
-use Rattle.x7_forms.specs.Form.{AskedForm, UpdatingFlash, names_of}
+use Rattle.x7_forms.specs.Form.{names_of}
+use Rattle.x7_forms.specs.AskedForm.{AskedForm}
+use Rattle.x7_forms.specs.AskedForm as form
 use Rattle.x7_forms.specs.Known.{Answer, Failing, Lacking, Mishap, with_inputs}
 use Rattle.x7_outcome.specs.Called.{AttachedAs, OnlyAttaches}
 use Rattle.x7_outcome.specs.Leaving.{HasData, LeavesAnyFlash, LeavesAsItWas, calls_since}
@@ -93,7 +95,7 @@ attached_leaves name old new flash found (inr (fault, e)) h =
 
 -- what a flash that was attached and then updated may hold
 pub updated_leaves : (name stream bytes : List ℕ) (inputs : InputsState) (old mid new : FlashState) → AttachedAs name old (history_of mid) → new.extent ≡ mid.extent → ((flash : List ℕ) → HasData (with_inputs inputs.contents (Some flash)) stream bytes)
-    → LeavesAny bytes (history_of mid) (history_of new) → LeavesAnyFlash (Some (UpdatingFlash name stream)) (sources inputs old) new
+    → LeavesAny bytes (history_of mid) (history_of new) → LeavesAnyFlash (Some (form.Update name stream)) (sources inputs old) new
 updated_leaves name stream bytes inputs old mid new a size has l = λ flash found long fits h.
     let made : new.calls ≡ old.calls ++ Attached name mid.extent ∷ l.calls =
     ap (λ (c : FlashHistory). c.calls) l.made ∙ ap (λ (c : List FlashCall). c ++ l.calls) a.made ∙ append_assoc old.calls (Attached name mid.extent ∷ []) l.calls in

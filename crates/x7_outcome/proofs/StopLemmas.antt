@@ -4,7 +4,7 @@ use Rattle.x7_words.specs.Input.{AsksAtMost, InputsState}
 use Rattle.x7_words.proofs.InputLemmas.{few_more, few_on}
 use Rattle.x7_forms.specs.declared.refusal.Refusal.{Refusal}
 use Rattle.x7_forms.specs.Event.{Absence, Break, ReasonCause, Contents, Difference, Event, Fault, Want, Wording, cause_of_event, event_of, no_memory}
-use Rattle.x7_forms.specs.Form.{AskedForm}
+use Rattle.x7_forms.specs.AskedForm.{AskedForm}
 use Rattle.x7_forms.specs.Step.{result_by}
 use Rattle.x7_forms.specs.ReadingStops.{IsAbout, Limited, StopsAmong}
 use Rattle.x7_forms.specs.Turn.{IsLastAsked}

@@ -3,7 +3,8 @@ use Rattle.std.specs.Prelude.{◌≡◌, ℕ, ◌+◌, ◌<◌, ◌≤◌, List,
 use Rattle.x7_words.specs.Sink.{SinkState, appended}
 use Rattle.x7_words.specs.Word.{AreBytes}
 use Rattle.x7_listing.specs.StreamListing.{stream_listing}
-use Rattle.x7_forms.specs.Form.{AskedForm, listed_by}
+use Rattle.x7_forms.specs.Form.{listed_by}
+use Rattle.x7_forms.specs.AskedForm.{AskedForm}
 use Rattle.x7_forms.specs.declared.status.Status.{Status}
 use Rattle.x7_forms.specs.declared.status.Status.TheVariants as status
 use Rattle.x7_outcome.specs.Outside.{Outside}

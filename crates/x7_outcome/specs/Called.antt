@@ -7,7 +7,8 @@ use Rattle.x7_words.specs.declared.input.SelectFault.{SelectFault}
 use Rattle.x7_update.specs.Made.{HasUpdated, IsRefused}
 use Rattle.x7_update.specs.declared.fault.UpdateFault.{UpdateFault}
 use Rattle.x7_forms.specs.Event.{Event}
-use Rattle.x7_forms.specs.Form.{AskedForm, UpdatingFlash}
+use Rattle.x7_forms.specs.AskedForm.{AskedForm}
+use Rattle.x7_forms.specs.AskedForm as form
 use Rattle.x7_forms.specs.Known.{Answer}
 use Rattle.x7_outcome.specs.Leaving.{HasData}
 use Rattle.x7_outcome.specs.Outcome.{UpdateNames, update_event}
@@ -42,6 +43,6 @@ RefusesUpdate names old new event =
 
 -- What an update called its flash for: one that is done all calls of an update with the stream's data, and no others.
 abbrev pub UpdateCalled : Option AskedForm → Outside → Outside → Result Answer Event → Type 0
-UpdateCalled (Some (UpdatingFlash flash stream)) old new (Ok answer) = (bytes : List ℕ) × HasData (known_in old new) stream bytes × CallsUpdate flash bytes old.flash new.flash
-UpdateCalled (Some (UpdatingFlash flash stream)) old new (Err event) = RefusesUpdate (record { flash = flash; stream = stream }) old new event
+UpdateCalled (Some (form.Update flash stream)) old new (Ok answer) = (bytes : List ℕ) × HasData (known_in old new) stream bytes × CallsUpdate flash bytes old.flash new.flash
+UpdateCalled (Some (form.Update flash stream)) old new (Err event) = RefusesUpdate (record { flash = flash; stream = stream }) old new event
 UpdateCalled form old new end = Unit {0}

@@ -11,7 +11,9 @@ use Rattle.x7_listing.specs.StreamListing.{stream_listing}
 use Rattle.x7_forms.specs.declared.refusal.Why.{Why}
 use Rattle.x7_forms.specs.declared.refusal.Why.TheVariants as why
 use Rattle.x7_forms.specs.Event.{Event, ReasonCause, Wording, Want, Fault, Absence, Break, Contents, Difference, cause_of_event, differs, missing, no_memory, reading_failed, too_large, usage, writing_failed}
-use Rattle.x7_forms.specs.Form.{AskedForm, Booting, Listing, UpdatingFlash, flash_names, listed_by, names_of, updated_by}
+use Rattle.x7_forms.specs.Form.{flash_names, listed_by, names_of, updated_by}
+use Rattle.x7_forms.specs.AskedForm.{AskedForm}
+use Rattle.x7_forms.specs.AskedForm as form
 use Rattle.x7_forms.specs.Known.{Answer, Held, Known, bytes_found, flash_found, with_inputs}
 use Rattle.x7_part.specs.Part.{PartData}
 use Rattle.x7_forms.specs.Status.{final_status}
@@ -43,7 +45,7 @@ ReportsMishap form old new event = IsOfMishap Answer (known_in old new) (CameInR
 -- the event says that a byte differs, of a flash that the form updates and whose bytes aren't known; which byte it is the
 -- flash's calls show (`UpdateCalled`)
 abbrev pub IsDifference : AskedForm → Outside → Outside → Event → Type 0
-IsDifference (UpdatingFlash name stream) old new event = (place : ℕ) × (event ≡ differs name place) × (old.flash.bytes ≡ None)
+IsDifference (form.Update name stream) old new event = (place : ℕ) × (event ≡ differs name place) × (old.flash.bytes ≡ None)
 IsDifference _ old new event = ⊥
 
 -- A write of the flash of a form failed: the flash is within the limit, and where the contents are known, the form
@@ -78,8 +80,8 @@ EndIsCaused (Some form) old new (Err event) = CausedBy (cause_of_event event) fo
 
 -- The text of a boot is that of every flash of this size that gives what was read, one of the system too.
 abbrev pub BootsAsRead : Option AskedForm → Sources → Sources → Result Answer Event → Type 0
-BootsAsRead (Some (Booting part flash)) old new (Ok answer) =
-    IfAgrees (answers_since old.flash new.flash) (λ all. GivesIfKnown (with_inputs new.inputs.contents (Some all)) (Booting part flash) (Ok answer))
+BootsAsRead (Some (form.Boot part flash)) old new (Ok answer) =
+    IfAgrees (answers_since old.flash new.flash) (λ all. GivesIfKnown (with_inputs new.inputs.contents (Some all)) (form.Boot part flash) (Ok answer))
 BootsAsRead form old new end = Unit {0}
 
 -- ---- what the output got
@@ -193,8 +195,8 @@ TouchesFlashLast name old new event = (event ≡ no_memory) ⊎ ((event ≡ writ
 -- An update whose flash can't be used asks for no stream, unless the stream has the flash's name. A boot that an event
 -- ended touched its flash as `TouchesFlashLast` says.
 abbrev pub JudgesFlash : {A : Type 0} → Option AskedForm → Sources → Sources → Result A Event → Type 0
-JudgesFlash (Some (UpdatingFlash flash stream)) old new (Err event) = IsUnusable flash new.flash event → (new.inputs.selects ≤ old.inputs.selects) ⊎ (flash ≡ stream)
-JudgesFlash (Some (Booting part flash)) old new (Err event) = TouchesFlashLast flash old.flash new.flash event
+JudgesFlash (Some (form.Update flash stream)) old new (Err event) = IsUnusable flash new.flash event → (new.inputs.selects ≤ old.inputs.selects) ⊎ (flash ≡ stream)
+JudgesFlash (Some (form.Boot part flash)) old new (Err event) = TouchesFlashLast flash old.flash new.flash event
 JudgesFlash form old new end = Unit {0}
 
 -- ---- the end of a command
@@ -233,7 +235,7 @@ AnsweredSilently form old new got = (before after : Outside) → after.out ≡ b
 
 -- what a listing did, whatever the flash and the sink of messages hold
 abbrev pub AnsweredListing : List ℕ → Transfer → Transfer → Result Bool Event → Type 0
-AnsweredListing stream old new got = (before after : Outside) → Answered (Listing stream) (with_transfer before old) (with_transfer after new) got
+AnsweredListing stream old new got = (before after : Outside) → Answered (form.List stream) (with_transfer before old) (with_transfer after new) got
 
 -- how a text that is ready was written, or the event in place of one: the answer of the call is whether what the text
 -- reports stopped, or an event

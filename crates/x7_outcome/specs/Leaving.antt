@@ -9,7 +9,8 @@ use Rattle.x7_update.specs.Writing.{Becomes}
 use Rattle.x7_forms.specs.declared.refusal.Why.{Why}
 use Rattle.x7_forms.specs.declared.refusal.Why.TheVariants as why
 use Rattle.x7_forms.specs.Event.{Event}
-use Rattle.x7_forms.specs.Form.{AskedForm, flash_use, updated_by}
+use Rattle.x7_forms.specs.Form.{flash_use, updated_by}
+use Rattle.x7_forms.specs.AskedForm.{AskedForm}
 use Rattle.x7_forms.specs.Known.{Answer, Known}
 use Rattle.x7_outcome.specs.Outcome.{stream_data}
 use Rattle.x7_outcome.specs.Outside.{UsesFlashAs, Outside, Sources, known_from, known_in}

@@ -53,7 +53,8 @@ use Rattle.x7_debug.specs.Showing.{final_position, transcript_of}
 use Rattle.x7_outcome.specs.Generate.{gen_text}
 use Rattle.x7_forms.specs.declared.bad_input.InputFault.TheVariants as input
 use Rattle.x7_forms.specs.Event.{Event, bad_input, differs, missing, no_memory, reading_failed, too_large, usage, writing_failed}
-use Rattle.x7_forms.specs.Form.{AskedForm, Assembling, Booting, Debugging, FromMcs, Imaging, ImagingFor, Listing, PlanningFull, PlanningRead, Playing, PlayingSvf, ToMcs, PlanningPartial, Generating, UpdatingFlash}
+use Rattle.x7_forms.specs.AskedForm.{AskedForm}
+use Rattle.x7_forms.specs.AskedForm as form
 use Rattle.x7_outcome.specs.Boot.{boot_text}
 use Rattle.x7_forms.specs.Known.{Absent, Answer, Broken, Found, Held, Known, and_so, data_in, part_known, stream_limit, whole_known, if_within, text_limit, script_limit}
 use Rattle.x7_outcome.specs.Play.{played}
@@ -365,21 +366,21 @@ mcs_read known text_name = and_so (whole_known known text_limit text_name) (λ t
 
 -- a form comes to this end over what is known: one case a form
 abbrev pub FormGives : Known → AskedForm → Result Answer Event → Type 0
-FormGives known (Listing stream_name) end = listed known stream_name ≡ end
-FormGives known (Assembling text_name) end = AssembledAs text_name (whole_known known text_limit text_name) end
-FormGives known (Playing part_name stream_names) end = played known part_name stream_names ≡ end
-FormGives known (Debugging part_name stream_name script_name) end = DebuggedAs script_name (debug_inputs known part_name stream_name script_name) end
-FormGives known (PlayingSvf part_name text_name) end = PlayedSvf text_name (part_and_text known part_name text_name) end
-FormGives known (PlanningFull part_name frames_name) end = PlannedFull frames_name (part_and_text known part_name frames_name) end
-FormGives known (PlanningPartial part_name frames_name) end = PlannedPartial frames_name (part_and_text known part_name frames_name) end
-FormGives known (PlanningRead part_name far n) end = PlannedRead part_name far n (part_known known part_name) end
-FormGives known (Generating part_name seed) end = gen_answer_of known part_name seed ≡ end
-FormGives known (Imaging golden_name update_name) end = image_answer known golden_name update_name ≡ end
-FormGives known (ImagingFor part_name golden_name update_name) end = image_answer_for known part_name golden_name update_name ≡ end
-FormGives known (Booting part_name flash_name) end = BootedAs flash_name (part_known known part_name) (known.flash flash_name) end
-FormGives known (UpdatingFlash flash_name stream_name) end = UpdatedAs known (record { flash = flash_name; stream = stream_name }) end
-FormGives known (ToMcs image_name) end = mcs_written known image_name ≡ end
-FormGives known (FromMcs text_name) end = mcs_read known text_name ≡ end
+FormGives known (form.List stream_name) end = listed known stream_name ≡ end
+FormGives known (form.Asm text_name) end = AssembledAs text_name (whole_known known text_limit text_name) end
+FormGives known (form.Play part_name stream_names) end = played known part_name stream_names ≡ end
+FormGives known (form.Debug part_name stream_name script_name) end = DebuggedAs script_name (debug_inputs known part_name stream_name script_name) end
+FormGives known (form.Svf part_name text_name) end = PlayedSvf text_name (part_and_text known part_name text_name) end
+FormGives known (form.PlanFull part_name frames_name) end = PlannedFull frames_name (part_and_text known part_name frames_name) end
+FormGives known (form.PlanPartial part_name frames_name) end = PlannedPartial frames_name (part_and_text known part_name frames_name) end
+FormGives known (form.PlanRead part_name far n) end = PlannedRead part_name far n (part_known known part_name) end
+FormGives known (form.Gen part_name seed) end = gen_answer_of known part_name seed ≡ end
+FormGives known (form.Image golden_name update_name) end = image_answer known golden_name update_name ≡ end
+FormGives known (form.ImageFor part_name golden_name update_name) end = image_answer_for known part_name golden_name update_name ≡ end
+FormGives known (form.Boot part_name flash_name) end = BootedAs flash_name (part_known known part_name) (known.flash flash_name) end
+FormGives known (form.Update flash_name stream_name) end = UpdatedAs known (record { flash = flash_name; stream = stream_name }) end
+FormGives known (form.Mcs image_name) end = mcs_written known image_name ≡ end
+FormGives known (form.Unmcs text_name) end = mcs_read known text_name ≡ end
 
 -- the words come to this end over what is known: words without a form are a wrong usage
 abbrev pub IsOutcome : Known → Option AskedForm → Result Answer Event → Type 0

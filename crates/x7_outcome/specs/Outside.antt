@@ -4,7 +4,8 @@ use Rattle.x7_words.specs.Count.{HasRisen}
 use Rattle.x7_words.specs.Flash.{FlashFails, FlashState, WriteFails, names_asked}
 use Rattle.x7_words.specs.Input.{InputsState}
 use Rattle.x7_words.specs.Sink.{SinkFails, SinkState}
-use Rattle.x7_forms.specs.Form.{AskedForm, FlashUse, Read, Unused, Updated, flash_names, names_of, updated_by}
+use Rattle.x7_forms.specs.Form.{FlashUse, Read, Unused, Updated, flash_names, names_of, updated_by}
+use Rattle.x7_forms.specs.AskedForm.{AskedForm}
 use Rattle.x7_forms.specs.Known.{Failing, Known, Lacking, Mishap, with_inputs}
 use Rattle.x7_forms.specs.Step.{Among, FailsAmong, LacksAmong}
 

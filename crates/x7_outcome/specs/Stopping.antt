@@ -4,7 +4,9 @@ use Rattle.std.specs.Prelude.{◌≡◌, ℕ, List, [], ◌∷◌, Option, None,
 use Rattle.x7_words.specs.Input.{InputsState}
 use Rattle.x7_boot.specs.Image.{flash_limit}
 use Rattle.x7_forms.specs.Event.{Absence, ReasonCause, Contents, Event, Fault, cause_of_event, too_many_reads}
-use Rattle.x7_forms.specs.Form.{AskedForm, Assembling, Booting, Debugging, FromMcs, Generating, Imaging, ImagingFor, Listing, PlanningFull, PlanningPartial, PlanningRead, Playing, PlayingSvf, ToMcs, UpdatingFlash, flash_names}
+use Rattle.x7_forms.specs.Form.{flash_names}
+use Rattle.x7_forms.specs.AskedForm.{AskedForm}
+use Rattle.x7_forms.specs.AskedForm as form
 use Rattle.x7_forms.specs.Known.{part_limit, stream_limit, script_limit, text_limit}
 use Rattle.x7_forms.specs.Step.{Among}
 use Rattle.x7_forms.specs.ReadingStops.{Limited, StopsAt, limited, limited_together}
@@ -12,25 +14,25 @@ use Rattle.x7_forms.specs.ReadingStops.{Limited, StopsAt, limited, limited_toget
 -- the inputs that a form reads, in the order of its words, each with the most bytes that it may have: the streams of
 -- `play` have one limit together
 abbrev pub inputs_of : Option (List ℕ → Option (List ℕ)) → AskedForm → List Limited
-inputs_of contents (Listing stream) = limited stream_limit stream ∷ []
-inputs_of contents (Assembling text) = limited text_limit text ∷ []
-inputs_of contents (Playing part streams) = limited part_limit part ∷ limited_together contents stream_limit streams
-inputs_of contents (Debugging part stream script) = limited part_limit part ∷ limited stream_limit stream ∷ limited script_limit script ∷ []
-inputs_of contents (PlayingSvf part text) = limited part_limit part ∷ limited text_limit text ∷ []
-inputs_of contents (PlanningFull part frames) = limited part_limit part ∷ limited text_limit frames ∷ []
-inputs_of contents (PlanningPartial part frames) = limited part_limit part ∷ limited text_limit frames ∷ []
-inputs_of contents (PlanningRead part far n) = limited part_limit part ∷ []
-inputs_of contents (Generating part seed) = limited part_limit part ∷ []
-inputs_of contents (Imaging golden update) = limited stream_limit golden ∷ limited stream_limit update ∷ []
-inputs_of contents (ImagingFor part golden update) = limited part_limit part ∷ limited stream_limit golden ∷ limited stream_limit update ∷ []
-inputs_of contents (Booting part flash) = limited part_limit part ∷ []
-inputs_of contents (UpdatingFlash flash stream) = limited stream_limit stream ∷ []
-inputs_of contents (ToMcs image) = limited flash_limit image ∷ []
-inputs_of contents (FromMcs text) = limited text_limit text ∷ []
+inputs_of contents (form.List stream) = limited stream_limit stream ∷ []
+inputs_of contents (form.Asm text) = limited text_limit text ∷ []
+inputs_of contents (form.Play part streams) = limited part_limit part ∷ limited_together contents stream_limit streams
+inputs_of contents (form.Debug part stream script) = limited part_limit part ∷ limited stream_limit stream ∷ limited script_limit script ∷ []
+inputs_of contents (form.Svf part text) = limited part_limit part ∷ limited text_limit text ∷ []
+inputs_of contents (form.PlanFull part frames) = limited part_limit part ∷ limited text_limit frames ∷ []
+inputs_of contents (form.PlanPartial part frames) = limited part_limit part ∷ limited text_limit frames ∷ []
+inputs_of contents (form.PlanRead part far n) = limited part_limit part ∷ []
+inputs_of contents (form.Gen part seed) = limited part_limit part ∷ []
+inputs_of contents (form.Image golden update) = limited stream_limit golden ∷ limited stream_limit update ∷ []
+inputs_of contents (form.ImageFor part golden update) = limited part_limit part ∷ limited stream_limit golden ∷ limited stream_limit update ∷ []
+inputs_of contents (form.Boot part flash) = limited part_limit part ∷ []
+inputs_of contents (form.Update flash stream) = limited stream_limit stream ∷ []
+inputs_of contents (form.Mcs image) = limited flash_limit image ∷ []
+inputs_of contents (form.Unmcs text) = limited text_limit text ∷ []
 
 -- the event says that too many words were read out, of a form that writes what a device reads out
 abbrev pub ReadsTooMany : AskedForm → Event → Type 0
-ReadsTooMany (Playing part streams) event = event ≡ too_many_reads
+ReadsTooMany (form.Play part streams) event = event ≡ too_many_reads
 ReadsTooMany _ event = ⊥
 
 -- the event names the form's flash, or says that too many words were read out, or names the input at which reading

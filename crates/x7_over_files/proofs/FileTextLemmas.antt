@@ -13,7 +13,8 @@ use Rattle.x7_part.specs.PartFile.{part_in}
 use Rattle.x7_part.specs.declared.fault.PartFault.{PartFault}
 use Rattle.x7_words.specs.Sink.{PutsAll, SinkState}
 use Rattle.x7_forms.specs.Event.{Event, reason_row, too_large}
-use Rattle.x7_forms.specs.Form.{AskedForm, Assembling, Listing, Playing}
+use Rattle.x7_forms.specs.AskedForm.{AskedForm}
+use Rattle.x7_forms.specs.AskedForm as form
 use Rattle.x7_forms.specs.Known.{Answer, Known, StreamRead, and_so, data_by, data_in, input_found, known_of, part_by, part_known, part_limit, put_before, stream_known, stream_limit, streams_known, taken_whole, text_limit, whole_known, with_inputs}
 use Rattle.x7_forms.specs.Status.{final_status, text_status}
 use Rattle.x7_forms.specs.declared.refusal.Why.{Why}
@@ -120,20 +121,20 @@ listed_is name bytes (Err place) over answer e = absurd (cc)
 listed_is name bytes (Ok text) true answer e = absurd (cc)
 listed_is name bytes (Ok text) false answer e = ap text_in e
 
-pub lists : (map : NamedBytes) (asked : Option AskedForm) (old new : Outside) (files : RealInputs) (s : Status) (name bytes : List ℕ) → new.inputs ≡ known_inputs map files → Runs asked old new s → asked ≡ Some (Listing name)
+pub lists : (map : NamedBytes) (asked : Option AskedForm) (old new : Outside) (files : RealInputs) (s : Status) (name bytes : List ℕ) → new.inputs ≡ known_inputs map files → Runs asked old new s → asked ≡ Some (form.List name)
     → Read map files name bytes → Lists bytes old.out new.out s
 lists map asked old new files s name bytes i r is read done =
-    let w = wrote_whole map (Listing name) asked old new s false is (ap (λ x. x.contents) i ∙ known_files map files read.agrees) r done in
+    let w = wrote_whole map (form.List name) asked old new s false is (ap (λ x. x.contents) i ∙ known_files map files read.agrees) r done in
     (w.answer.text, listed_is name bytes (stream_listing bytes) (nat_lt stream_limit (length bytes)) w.answer (subst (λ (x : Option (List ℕ)). listed_found name (input_found x) ≡ Ok w.answer) read.has w.gives), w.puts)
 
 assembled_is : (name text : List ℕ) (answer : Answer) (over : Bool) → AssembledAs name (if over then Err (too_large name) else Ok text) (Ok answer) → IsAsm text (Ok answer.text)
 assembled_is name text answer true h = absurd (cc)
 assembled_is name text answer false h = h.1
 
-pub assembles : (map : NamedBytes) (asked : Option AskedForm) (old new : Outside) (files : RealInputs) (s : Status) (name text : List ℕ) → new.inputs ≡ known_inputs map files → Runs asked old new s → asked ≡ Some (Assembling name)
+pub assembles : (map : NamedBytes) (asked : Option AskedForm) (old new : Outside) (files : RealInputs) (s : Status) (name text : List ℕ) → new.inputs ≡ known_inputs map files → Runs asked old new s → asked ≡ Some (form.Asm name)
     → Read map files name text → Assembles text old.out new.out s
 assembles map asked old new files s name text i r is read done =
-    let w = wrote_whole map (Assembling name) asked old new s false is (ap (λ x. x.contents) i ∙ known_files map files read.agrees) r done in
+    let w = wrote_whole map (form.Asm name) asked old new s false is (ap (λ x. x.contents) i ∙ known_files map files read.agrees) r done in
     (w.answer.text, assembled_is name text w.answer (nat_lt text_limit (length text)) (subst (λ (x : Option (List ℕ)). AssembledAs name (taken_whole name text_limit (input_found x)) (Ok w.answer)) read.has w.gives), w.puts)
 
 -- a part file that gives a part gives that of its text
@@ -173,9 +174,9 @@ module _ (map : NamedBytes) (flash : Option (List ℕ)) where
       stream_read limit name bytes step.0 has step.1 ∙ ap (λ d. Ok d) (sym (append-nil step.0.bytes) ∙ same)
 
 pub plays : (map : NamedBytes) (asked : Option AskedForm) (old new : Outside) (files : RealInputs) (s : Status) (part stream text bytes : List ℕ) → new.inputs ≡ known_inputs map files → Runs asked old new s
-    → asked ≡ Some (Playing part (stream ∷ [])) → Read map files part text → Read map files stream bytes → Plays text bytes old.out new.out s
+    → asked ≡ Some (form.Play part (stream ∷ [])) → Read map files part text → Read map files stream bytes → Plays text bytes old.out new.out s
 plays map asked old new files s part stream text bytes i r is read_part read_stream stopped done =
-    let w = wrote_whole map (Playing part (stream ∷ [])) asked old new s stopped is (ap (λ x. x.contents) i ∙ known_files map files read_part.agrees) r done in
+    let w = wrote_whole map (form.Play part (stream ∷ [])) asked old new s stopped is (ap (λ x. x.contents) i ∙ known_files map files read_part.agrees) r done in
     let fed = joined_read map old.flash.bytes stream_limit stream bytes w.promise.bytes read_stream.has w.promise.joined in
     record {
       part = w.promise.device;

@@ -5,7 +5,8 @@ use Rattle.x7_part.specs.Part.{PartData}
 use Rattle.x7_part.specs.PartFile.{part_in}
 use Rattle.x7_listing.specs.Assembly.{IsAsm}
 use Rattle.x7_listing.specs.StreamListing.{stream_listing}
-use Rattle.x7_forms.specs.Form.{AskedForm, Playing}
+use Rattle.x7_forms.specs.AskedForm.{AskedForm}
+use Rattle.x7_forms.specs.AskedForm as form
 use Rattle.x7_forms.specs.Known.{data_in}
 use Rattle.x7_forms.specs.Status.{text_status}
 use Rattle.x7_forms.specs.declared.status.Status.{Status}
@@ -27,7 +28,7 @@ pub record PlayedFiles : Type 0 where
 
 -- the form `play` with these two files
 abbrev pub play_of : PlayedFiles → AskedForm
-play_of files = Playing files.part (files.stream ∷ [])
+play_of files = form.Play files.part (files.stream ∷ [])
 
 -- all that the files gave agrees with the map, which has both of these under their names
 pub record ReadBoth (map : NamedBytes) (inputs : RealInputs) (files : PlayedFiles) : Type 0 where

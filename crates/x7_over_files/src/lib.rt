@@ -2,7 +2,8 @@
 #![tactic(auto)]
 
 ghost use Rattle.std.specs.Prelude.{◌≡◌, ℕ, List, Some};
-ghost use Rattle.x7_forms.specs.Form.{Assembling, Listing, form_of_strings};
+ghost use Rattle.x7_forms.specs.Form.{form_of_strings};
+ghost use Rattle.x7_forms.specs.AskedForm as form;
 ghost use Rattle.x7_over_files.specs.FileTexts.{Assembles, Lists, PlayedFiles, Plays, Read, ReadBoth, play_of};
 
 use std::alloc::Global;
@@ -23,9 +24,9 @@ pub fn run_over_files<'r, R: Files, W: World, O: Sink, E: Sink>(
     out: &mut O,
     err: &mut E,
 ) -> (Status, FileInputs<'r, R, W>)
-    ensures lists { (name bytes : List ℕ) → form_of_strings words.now.items ≡ Some (Listing name)
+    ensures lists { (name bytes : List ℕ) → form_of_strings words.now.items ≡ Some (form.List name)
         → Read W.contents result.1 name bytes → Lists bytes (O.state out.old) (O.state out.new) result.0 }
-    ensures assembles { (name text : List ℕ) → form_of_strings words.now.items ≡ Some (Assembling name)
+    ensures assembles { (name text : List ℕ) → form_of_strings words.now.items ≡ Some (form.Asm name)
         → Read W.contents result.1 name text → Assembles text (O.state out.old) (O.state out.new) result.0 }
     ensures plays { (files : PlayedFiles) → form_of_strings words.now.items ≡ Some (play_of files)
         → ReadBoth W.contents result.1 files → Plays files.text files.bytes (O.state out.old) (O.state out.new) result.0 }

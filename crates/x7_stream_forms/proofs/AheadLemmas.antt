@@ -16,7 +16,7 @@ use Rattle.x7_outcome.specs.Outside.{Outside}
 use Rattle.x7_forms.specs.declared.status.Status.{Status}
 use Rattle.x7_forms.specs.declared.status.Status.TheVariants as status
 use Rattle.x7_forms.specs.Event.{Event, status_of_event, bad_input, missing, no_memory, reading_failed, too_large, writing_failed}
-use Rattle.x7_forms.specs.Form.{Listing}
+use Rattle.x7_forms.specs.AskedForm as form
 use Rattle.x7_forms.specs.Turn.{IsBadBeginning, NoLetterGiven, UnreadBeginning, Unopened, UnreadToEnd, longest_beginning, turn_size}
 use Rattle.x7_stream_forms.specs.Between.{ListsInTurns, ListsStream}
 use Rattle.x7_forms.proofs.BeginningLemmas.{letter_there}
@@ -64,7 +64,7 @@ stays_by status.ReadFault stream old new h = h
 stays_by status.NoMemory stream old new h = h
 stays_by s stream old new h = tt
 
-pub stays_near : (event : Event) (stream : List ℕ) (old new : Outside) → StaysBy (status_of_event event) new.inputs.contents stream new.inputs.given new.inputs.rest old.out.written new.out.written → StaysNear (status_of_event event) (Some (Listing stream)) old new
+pub stays_near : (event : Event) (stream : List ℕ) (old new : Outside) → StaysBy (status_of_event event) new.inputs.contents stream new.inputs.given new.inputs.rest old.out.written new.out.written → StaysNear (status_of_event event) (Some (form.List stream)) old new
 stays_near event stream old new h = stays_by (status_of_event event) stream old new h
 
 -- ---- what has become longer

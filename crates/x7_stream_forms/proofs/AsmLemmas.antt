@@ -8,7 +8,7 @@ use Rattle.x7_forms.specs.Event.{Event, no_memory}
 use Rattle.x7_forms.specs.Known.{Answer, whole_known, text_limit}
 use Rattle.x7_outcome.specs.Outcome.{AssembledAs, asm_event}
 use Rattle.x7_forms.specs.Step.{IsDecided, IsPossible, ReadsWhole}
-use Rattle.x7_forms.specs.Form.{Assembling}
+use Rattle.x7_forms.specs.AskedForm as form
 use Rattle.x7_outcome.specs.Ending.{AnswersForm}
 use Rattle.x7_forms.proofs.ReadLemmas.{answers_by}
 use Rattle.x7_outcome.proofs.FeedLemmas.{unread_by}
@@ -31,13 +31,13 @@ module _ {V : Type 0} (items : V → List ℕ) (old new : InputsState) (name tex
   ended : (r : Result V AsmFault) → read ≡ r → MatchResult r (λ v. IsAsm text (Ok (items v))) (λ f. IsAsmFault f text)
   ended r e = subst (λ o. MatchResult o (λ v. IsAsm text (Ok (items v))) (λ f. IsAsmFault f text)) e h
 
-  pub asm_faulted : (f : AsmFault) (event : Event) → read ≡ Err f → asm_event name f ≡ event → AnswersForm (Assembling name) old new (Err event)
+  pub asm_faulted : (f : AsmFault) (event : Event) → read ≡ Err f → asm_event name f ≡ event → AnswersForm (form.Asm name) old new (Err event)
   asm_faulted f event r e =
-      subst (λ (x : Event). AnswersForm (Assembling name) old new (Err x)) e
+      subst (λ (x : Event). AnswersForm (form.Asm name) old new (Err x)) e
       (answers_by (List ℕ) Answer (name ∷ []) old new (λ t. whole_known t text_limit name) text (AssembledAs name) (Err (asm_event name f)) whole (faulted_by name text f (ended (Err f) r)))
 
-  pub asm_given : (v : V) → read ≡ Ok v → AnswersForm (Assembling name) old new (Ok (record { stopped = false; text = items v }))
+  pub asm_given : (v : V) → read ≡ Ok v → AnswersForm (form.Asm name) old new (Ok (record { stopped = false; text = items v }))
   asm_given v r = answers_by (List ℕ) Answer (name ∷ []) old new (λ t. whole_known t text_limit name) text (AssembledAs name) (Ok (record { stopped = false; text = items v })) whole (inr (tt, tt, (refl, ended (Ok v) r)))
 
-pub asm_unread : (old new : InputsState) (name : List ℕ) (event : Event) → ReadsWhole old new text_limit name (Err event) → AnswersForm (Assembling name) old new (Err event)
+pub asm_unread : (old new : InputsState) (name : List ℕ) (event : Event) → ReadsWhole old new text_limit name (Err event) → AnswersForm (form.Asm name) old new (Err event)
 asm_unread old new name event h = unread_by name text_limit (λ t end. AssembledAs name (whole_known t text_limit name) end) old new event (λ t e. subst (λ (r : Result (List ℕ) Event). AssembledAs name r (Err event)) (sym e) refl) h

@@ -15,7 +15,7 @@ use Rattle.x7_header.proofs.HeaderLemmas.{raw_at}
 use Rattle.x7_listing.specs.Listing.{listing_of}
 use Rattle.x7_listing.specs.StreamListing.{stream_listing}
 use Rattle.x7_forms.specs.declared.bad_input.InputFault.TheVariants as input
-use Rattle.x7_forms.specs.Form.{Listing}
+use Rattle.x7_forms.specs.AskedForm as form
 use Rattle.x7_forms.specs.Event.{Event, ReasonCause, Break, bad_input, cause_of_event, event_of, missing, no_memory, reading_failed, status_of_event, too_large, writing_failed}
 use Rattle.x7_forms.specs.Status.{final_status}
 use Rattle.x7_forms.specs.declared.refusal.Refusal.{Refusal}
@@ -71,9 +71,9 @@ EndedIn stream old new end =
 
 ended_cause : (cause : ReasonCause) (stream : List ℕ) (old new : Outside) (event : Event) → cause_of_event event ≡ cause
     → EndedBy cause (known_in old new) (CameIn (step_over (stream ∷ []) old.inputs new.inputs)) stream (SinkFails old.out new.out) old.out.written new.out.written event
-    → EndIsCaused (Some (Listing stream)) old new (Err event)
+    → EndIsCaused (Some (form.List stream)) old new (Err event)
 ended_cause Break stream old new event e h = rw e (h.0, inl h.1)
-ended_cause cause stream old new event e h = has_cause (Listing stream) old new (Err event) (answers_over (Listing stream) old new (Err event) h.0)
+ended_cause cause stream old new event e h = has_cause (form.List stream) old new (Err event) (answers_over (form.List stream) old new (Err event) h.0)
 
 left_as : (reason : Why) (stream : List ℕ) (old new : Outside) → LeftAs reason (known_in old new) stream old.out.written new.out.written → ListingAfterReason reason stream old new
 left_as why.ReadFault stream old new h = h
@@ -81,23 +81,23 @@ left_as why.TooLarge stream old new h = h
 left_as why.NoMemory stream old new h = h
 left_as reason stream old new h = h
 
-some_of : (known : Option Known) (stream : List ℕ) (old new : SinkState) → PutsSomeOf known stream old.written new.written → GetsPrefixOfText known (Listing stream) old new
+some_of : (known : Option Known) (stream : List ℕ) (old new : SinkState) → PutsSomeOf known stream old.written new.written → GetsPrefixOfText known (form.List stream) old new
 some_of None stream old new h = h
 some_of (Some known) stream old new h = h
 
 ended_left : (cause : ReasonCause) (stream : List ℕ) (old new : Outside) (event : Event)
     → EndedBy cause (known_in old new) (CameIn (step_over (stream ∷ []) old.inputs new.inputs)) stream (SinkFails old.out new.out) old.out.written new.out.written event
-    → OutputByCause cause (Some (Listing stream)) old new event
+    → OutputByCause cause (Some (form.List stream)) old new event
 ended_left Break stream old new event h = some_of (known_in old new) stream old.out new.out h.2
 ended_left cause stream old new event h = left_as event.reason stream old new h.1
 
-pub list_ends : (stream : List ℕ) (old new : Outside) (end : Result Answer Event) → EndedIn stream old new end → StaysNear (final_status end) (Some (Listing stream)) old new → CommandEnds (Some (Listing stream)) old new end
-list_ends stream old new (Ok answer) h n = record { cause = has_cause (Listing stream) old new (Ok answer) (answers_over (Listing stream) old new (Ok answer) h.0); wrote = h.1; near = n; measured = λ name a. absurd a; fails_last = tt; updates = tt; called = tt; as_read = tt }
+pub list_ends : (stream : List ℕ) (old new : Outside) (end : Result Answer Event) → EndedIn stream old new end → StaysNear (final_status end) (Some (form.List stream)) old new → CommandEnds (Some (form.List stream)) old new end
+list_ends stream old new (Ok answer) h n = record { cause = has_cause (form.List stream) old new (Ok answer) (answers_over (form.List stream) old new (Ok answer) h.0); wrote = h.1; near = n; measured = λ name a. absurd a; fails_last = tt; updates = tt; called = tt; as_read = tt }
 list_ends stream old new (Err event) h n = record { cause = ended_cause (cause_of_event event) stream old new event refl h; wrote = ended_left (cause_of_event event) stream old new event h; near = n; measured = λ name a e. absurd a; fails_last = λ name a e at. absurd a; updates = tt; called = tt; as_read = tt }
 
 -- a listing ends as it should, by the result of the call that ended it
 pub list_seen : {A : Type 0} (stream : List ℕ) (old new : Outside) (r : Result A Refusal) → OnOk r ((text : List ℕ) × EndedIn stream old new (Ok (record { stopped = false; text = text })))
-    → IfErr r (λ x. EndedIn stream old new (Err (event_of x))) → IfErr r (λ x. StaysNear (status_of_event (event_of x)) (Some (Listing stream)) old new) → CommandEndsAs (Some (Listing stream)) old new (result_by (λ _. false) r)
+    → IfErr r (λ x. EndedIn stream old new (Err (event_of x))) → IfErr r (λ x. StaysNear (status_of_event (event_of x)) (Some (form.List stream)) old new) → CommandEndsAs (Some (form.List stream)) old new (result_by (λ _. false) r)
 list_seen stream old new (Ok a) ok err near = (ok.0, list_ends stream old new (Ok (record { stopped = false; text = ok.0 })) ok.1 tt)
 list_seen stream old new (Err x) ok err near = list_ends stream old new (Err (event_of x)) err near
 

@@ -7,7 +7,7 @@ use Rattle.x7_text.specs.Lines.{split}
 use Rattle.x7_mcs.specs.declared.fault.McsFault.{McsFault}
 use Rattle.x7_mcs.specs.declared.fault.McsFault.TheVariants as mcs
 use Rattle.x7_forms.specs.Event.{Event, no_memory}
-use Rattle.x7_forms.specs.Form.{FromMcs}
+use Rattle.x7_forms.specs.AskedForm as form
 use Rattle.x7_forms.specs.Known.{Answer, and_so, whole_known, text_limit}
 use Rattle.x7_forms.specs.Step.{IsDecided, IsPossible, ReadsWhole}
 use Rattle.x7_forms.proofs.ReadLemmas.{answers_end, whole_steady}
@@ -35,14 +35,14 @@ module _ {V : Type 0} (items : V → List ℕ) (old new : InputsState) (name tex
   ended : (r : Result V McsFault) → read ≡ r → MatchResult r (λ v. mcs_of text ≡ Ok (items v)) (λ f. HasMcsFault f (split text))
   ended r e = subst (λ o. MatchResult o (λ v. mcs_of text ≡ Ok (items v)) (λ f. HasMcsFault f (split text))) e h
 
-  pub mcs_faulted : (f : McsFault) (event : Event) → read ≡ Err f → mcs_event name f ≡ event → AnswersForm (FromMcs name) old new (Err event)
+  pub mcs_faulted : (f : McsFault) (event : Event) → read ≡ Err f → mcs_event name f ≡ event → AnswersForm (form.Unmcs name) old new (Err event)
   mcs_faulted f event r e =
-      subst (λ (x : Event). AnswersForm (FromMcs name) old new (Err x)) e
+      subst (λ (x : Event). AnswersForm (form.Unmcs name) old new (Err x)) e
       (answers_end (List ℕ) Answer (name ∷ []) old new (λ t. whole_known t text_limit name) (λ bytes. mcs_image name (mcs_of bytes)) text (Err (mcs_event name f)) (whole_steady text_limit name) whole (faulted_by name text f (ended (Err f) r)))
 
-  pub mcs_given : (v : V) → read ≡ Ok v → AnswersForm (FromMcs name) old new (Ok (record { stopped = false; text = items v }))
+  pub mcs_given : (v : V) → read ≡ Ok v → AnswersForm (form.Unmcs name) old new (Ok (record { stopped = false; text = items v }))
   mcs_given v r =
       answers_end (List ℕ) Answer (name ∷ []) old new (λ t. whole_known t text_limit name) (λ bytes. mcs_image name (mcs_of bytes)) text (Ok (record { stopped = false; text = items v })) (whole_steady text_limit name) whole (inr (tt, tt, ap (mcs_image name) (ended (Ok v) r)))
 
-pub mcs_unread : (old new : InputsState) (name : List ℕ) (event : Event) → ReadsWhole old new text_limit name (Err event) → AnswersForm (FromMcs name) old new (Err event)
+pub mcs_unread : (old new : InputsState) (name : List ℕ) (event : Event) → ReadsWhole old new text_limit name (Err event) → AnswersForm (form.Unmcs name) old new (Err event)
 mcs_unread old new name event h = unread_by name text_limit (λ t end. mcs_read t name ≡ end) old new event (λ t e. ap (λ (r : Result (List ℕ) Event). and_so r (λ bytes. mcs_image name (mcs_of bytes))) e) h

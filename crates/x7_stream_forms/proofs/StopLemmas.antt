@@ -3,7 +3,7 @@ use Rattle.std.proofs.Common.{◌≡◌, ℕ, List, false, Some, Result, Ok, Err
 use Rattle.x7_words.specs.Input.{InputsState}
 use Rattle.x7_forms.specs.declared.refusal.Refusal.{Refusal}
 use Rattle.x7_forms.specs.Event.{Event, cause_of_event, event_of, no_memory, writing_failed}
-use Rattle.x7_forms.specs.Form.{AskedForm}
+use Rattle.x7_forms.specs.AskedForm.{AskedForm}
 use Rattle.x7_forms.specs.Step.{result_by}
 use Rattle.x7_forms.specs.ReadingStops.{IsAbout}
 use Rattle.x7_frames.specs.declared.fault.FramesFault.{FramesFault}

@@ -3,7 +3,7 @@ ghost use Rattle.std.specs.Prelude.{◌≡◌};
 ghost use Rattle.x7_forms.specs.Event.{event_of};
 ghost use Rattle.x7_outcome.specs.Outcome.{asm_event};
 ghost use Rattle.x7_outcome.specs.Ending.{MakesReady};
-ghost use Rattle.x7_forms.specs.Form.{Assembling};
+ghost use Rattle.x7_forms.specs.AskedForm as form;
 ghost use Rattle.x7_outcome.specs.Ready.{bytes_answer};
 ghost use Rattle.x7_forms.specs.Step.{result_by};
 
@@ -34,7 +34,7 @@ pub fn asm<'w, I: Inputs>(
     inputs: &mut I,
     name: &'w str,
 ) -> Result<Vec<u8>, Refusal<'w>>
-    ensures { MakesReady (Assembling name.now) (I.state inputs.old) (I.state inputs.new) (result_by bytes_answer result) }
+    ensures { MakesReady (form.Asm name.now) (I.state inputs.old) (I.state inputs.new) (result_by bytes_answer result) }
 {
     let read = feed_whole(alloc, inputs, name, AsmLines::new(alloc))?;
     match read {

@@ -8,7 +8,7 @@ ghost use Rattle.x7_forms.specs.Event.{bad_input, event_of, no_memory};
 ghost use Rattle.x7_forms.specs.declared.bad_input.InputFault.TheVariants as input;
 ghost use Rattle.x7_outcome.specs.Outcome.{image_by, image_streams};
 ghost use Rattle.x7_outcome.specs.Ending.{MakesReady};
-ghost use Rattle.x7_forms.specs.Form.{Imaging, ImagingFor};
+ghost use Rattle.x7_forms.specs.AskedForm as form;
 ghost use Rattle.x7_outcome.specs.Ready.{bytes_answer};
 ghost use Rattle.x7_stream_forms.specs.Image.{streams_of};
 ghost use Rattle.x7_forms.specs.Step.{AnswersAs, result_by, step_over};
@@ -119,7 +119,7 @@ pub fn image<'w, I: Inputs>(
     golden_name: &'w str,
     update_name: &'w str,
 ) -> Result<Vec<u8>, Refusal<'w>>
-    ensures { MakesReady (Imaging golden_name.now update_name.now) (I.state inputs.old) (I.state inputs.new) (result_by bytes_answer result) }
+    ensures { MakesReady (form.Image golden_name.now update_name.now) (I.state inputs.old) (I.state inputs.new) (result_by bytes_answer result) }
 {
     let streams = read_streams(alloc, inputs, golden_name, update_name)?;
     image_by_bytes(alloc, &streams, update_name)
@@ -133,7 +133,7 @@ pub fn image_for<'w, I: Inputs>(
     golden_name: &'w str,
     update_name: &'w str,
 ) -> Result<Vec<u8>, Refusal<'w>>
-    ensures { MakesReady (ImagingFor part_name.now golden_name.now update_name.now) (I.state inputs.old) (I.state inputs.new) (result_by bytes_answer result) }
+    ensures { MakesReady (form.ImageFor part_name.now golden_name.now update_name.now) (I.state inputs.old) (I.state inputs.new) (result_by bytes_answer result) }
 {
     let part = read_part(alloc, inputs, part_name)?;
     let streams = read_streams(alloc, inputs, golden_name, update_name)?;

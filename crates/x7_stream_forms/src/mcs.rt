@@ -3,7 +3,7 @@ ghost use Rattle.std.specs.Prelude.{◌≡◌};
 ghost use Rattle.x7_forms.specs.Event.{event_of};
 ghost use Rattle.x7_outcome.specs.Outcome.{mcs_event};
 ghost use Rattle.x7_outcome.specs.Ending.{MakesReady};
-ghost use Rattle.x7_forms.specs.Form.{FromMcs, ToMcs};
+ghost use Rattle.x7_forms.specs.AskedForm as form;
 ghost use Rattle.x7_outcome.specs.Ready.{bytes_answer, mcs_answer};
 ghost use Rattle.x7_forms.specs.Step.{result_by};
 
@@ -37,7 +37,7 @@ pub fn mcs<'w, I: Inputs>(
     inputs: &mut I,
     image_name: &'w str,
 ) -> Result<McsText, Refusal<'w>>
-    ensures { MakesReady (ToMcs image_name.now) (I.state inputs.old) (I.state inputs.new) (result_by mcs_answer result) }
+    ensures { MakesReady (form.Mcs image_name.now) (I.state inputs.old) (I.state inputs.new) (result_by mcs_answer result) }
 {
     let bytes = read_whole(alloc, inputs, image_name, IMAGE_LIMIT)?;
     Ok(McsText::new(alloc, bytes)?)
@@ -49,7 +49,7 @@ pub fn unmcs<'w, I: Inputs>(
     inputs: &mut I,
     name: &'w str,
 ) -> Result<Vec<u8>, Refusal<'w>>
-    ensures { MakesReady (FromMcs name.now) (I.state inputs.old) (I.state inputs.new) (result_by bytes_answer result) }
+    ensures { MakesReady (form.Unmcs name.now) (I.state inputs.old) (I.state inputs.new) (result_by bytes_answer result) }
 {
     let read = feed_whole(alloc, inputs, name, McsLines::new(alloc))?;
     match read {

@@ -6,7 +6,7 @@ ghost use Rattle.x7_part.specs.Part.{frame_words};
 ghost use Rattle.x7_forms.specs.Event.{event_of, no_memory};
 ghost use Rattle.x7_outcome.specs.Outcome.{PlannedRead, frames_event, planner_event};
 ghost use Rattle.x7_forms.specs.Turn.{IsLastAsked};
-ghost use Rattle.x7_forms.specs.Form.{PlanningFull, PlanningPartial, PlanningRead};
+ghost use Rattle.x7_forms.specs.AskedForm as form;
 ghost use Rattle.x7_stream_forms.specs.Plan.{PlanGivesPartial, ReadsPlan};
 ghost use Rattle.x7_stream_forms.specs.FullText.{full_answer};
 ghost use Rattle.x7_outcome.specs.Ready.{bytes_answer};
@@ -87,7 +87,7 @@ pub fn plan_full<'w, I: Inputs>(
     part_name: &'w str,
     frames_name: &'w str,
 ) -> Result<FullText, Refusal<'w>>
-    ensures { MakesReady (PlanningFull part_name.now frames_name.now) (I.state inputs.old) (I.state inputs.new) (result_by full_answer result) }
+    ensures { MakesReady (form.PlanFull part_name.now frames_name.now) (I.state inputs.old) (I.state inputs.new) (result_by full_answer result) }
 {
     let part = read_part(alloc, inputs, part_name)?;
     let plan = read_plan(alloc, inputs, &part, frames_name)?;
@@ -119,7 +119,7 @@ pub fn plan_partial<'w, I: Inputs>(
     part_name: &'w str,
     frames_name: &'w str,
 ) -> Result<Vec<u8>, Refusal<'w>>
-    ensures { MakesReady (PlanningPartial part_name.now frames_name.now) (I.state inputs.old) (I.state inputs.new) (result_by bytes_answer result) }
+    ensures { MakesReady (form.PlanPartial part_name.now frames_name.now) (I.state inputs.old) (I.state inputs.new) (result_by bytes_answer result) }
 {
     let part = read_part(alloc, inputs, part_name)?;
     let plan = read_plan(alloc, inputs, &part, frames_name)?;
@@ -153,7 +153,7 @@ pub fn plan_read<'w, I: Inputs>(
     far: u32,
     slot_count: u32,
 ) -> Result<Vec<u8>, Refusal<'w>>
-    ensures { MakesReady (PlanningRead part_name.now far slot_count) (I.state inputs.old) (I.state inputs.new) (result_by bytes_answer result) }
+    ensures { MakesReady (form.PlanRead part_name.now far slot_count) (I.state inputs.old) (I.state inputs.new) (result_by bytes_answer result) }
 {
     let part = read_part(alloc, inputs, part_name)?;
     readback_text(alloc, &part, part_name, far, slot_count)

@@ -6,7 +6,8 @@ use Rattle.x7_words.specs.Sink.{SinkState, PutsOrFails}
 use Rattle.x7_words.proofs.InputLemmas.{few_at, stays_at}
 use Rattle.x7_forms.specs.declared.status.Status.{Status}
 use Rattle.x7_forms.specs.Event.{Event, event_line, status_of_event, usage}
-use Rattle.x7_forms.specs.Form.{AskedForm, Unused, flash_use, listed_by, updated_by}
+use Rattle.x7_forms.specs.Form.{Unused, flash_use, listed_by, updated_by}
+use Rattle.x7_forms.specs.AskedForm.{AskedForm}
 use Rattle.x7_forms.specs.Known.{Answer}
 use Rattle.x7_forms.specs.Status.{text_status}
 use Rattle.x7_outcome.specs.Leaving.{UsesFlash}

@@ -4,7 +4,9 @@ use Rattle.x7_words.specs.Flash.{FlashState}
 use Rattle.x7_words.specs.FlashHistory.{FollowsCalls}
 use Rattle.x7_words.proofs.FollowLemmas.{follow_none}
 use Rattle.x7_words.specs.Input.{InputsState}
-use Rattle.x7_forms.specs.Form.{AskedForm, FlashUse, Read, Unused, Updated, UpdatingFlash, flash_use, updated_by}
+use Rattle.x7_forms.specs.Form.{FlashUse, Read, Unused, Updated, flash_use, updated_by}
+use Rattle.x7_forms.specs.AskedForm.{AskedForm}
+use Rattle.x7_forms.specs.AskedForm as form
 use Rattle.x7_forms.specs.Known.{Known}
 use Rattle.x7_outcome.specs.Leaving.{LeavesAnyFlash, LeavesAsItWas, MayBeFound, UsesFlash, holding}
 use Rattle.x7_outcome.proofs.FlashLemmas.{leaves_same}
@@ -36,7 +38,7 @@ uses_same form inputs s = record {
 
 -- a form that reads its flash leaves what that held
 reads_leave : (asks : AskedForm) (name : List ℕ) (inputs : InputsState) (old new : FlashState) → flash_use (Some asks) ≡ Read name → LeavesAsItWas old new → LeavesAnyFlash (Some asks) (sources inputs old) new
-reads_leave (UpdatingFlash flash stream) name inputs old new n left = absurd (cc)
+reads_leave (form.Update flash stream) name inputs old new n left = absurd (cc)
 reads_leave asks name inputs old new n left = λ all found long fits h. left all found h
 
 -- a form that reads its flash

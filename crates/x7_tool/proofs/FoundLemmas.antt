@@ -8,7 +8,8 @@ use Rattle.x7_words.proofs.FollowLemmas.{known_at}
 use Rattle.x7_recovery.specs.Golden.{BootsAlike, UpdatingByAttempt}
 use Rattle.x7_recovery.proofs.GoldenLemmas.{found_alike}
 use Rattle.x7_forms.specs.Event.{Event}
-use Rattle.x7_forms.specs.Form.{AskedForm, updated_by}
+use Rattle.x7_forms.specs.Form.{updated_by}
+use Rattle.x7_forms.specs.AskedForm.{AskedForm}
 use Rattle.x7_forms.specs.Known.{Known}
 use Rattle.x7_tool.specs.PowerLoss.{EachBootsOfAny, IsUpdateOf, PowerLossMayLeave}
 use Rattle.x7_outcome.specs.Leaving.{LeavesAnyFlash, MayBeFound, holding}

@@ -32,7 +32,8 @@ use Rattle.x7_effects.specs.Played.{PlaysFull, PlaysPartial, PlaysRead, device_a
 use Rattle.x7_effects.proofs.LawLemmas.{full_law, partial_law, read_law}
 use Rattle.x7_forms.specs.declared.bad_input.InputFault.TheVariants as input
 use Rattle.x7_forms.specs.Event.{Event, bad_input, too_many_reads}
-use Rattle.x7_forms.specs.Form.{AskedForm, Booting, Generating, Imaging, ImagingFor, PlanningFull, PlanningPartial, PlanningRead, Playing, PlayingSvf}
+use Rattle.x7_forms.specs.AskedForm.{AskedForm}
+use Rattle.x7_forms.specs.AskedForm as form
 use Rattle.x7_forms.specs.Known.{Answer, Found, Held, Known, and_so, streams_known, part_by, part_limit, part_known, reads_limit, stream_limit, whole_known, text_limit}
 use Rattle.x7_outcome.specs.Play.{report_of, reported}
 use Rattle.x7_outcome.specs.Outcome.{BootedAs, IsBootText, FlashBoots, FormGives, ImageStreams, PartAndText, PlannedFull, PlannedPartial, PlannedRead, PlayedSvf, gen_answer, has_failed, image_by, image_streams, part_and_text}
@@ -211,13 +212,13 @@ image_for_promised known part golden update (Ok p) (Err event) answer e f h = ab
 image_for_promised known part golden update (Ok p) (Ok s) answer e f h = record { device = p; streams = s; part_read = e; read = f; boots = λ more. image_has_streams update p.start_unit s p answer more (part_is known part p e) refl h }
 
 pub promised : (known : Known) (form : AskedForm) (answer : Answer) → FormGives known form (Ok answer) → PromiseOf known form answer
-promised known (PlanningFull part frames) answer a = full_promised known part frames (part_and_text known part frames) answer refl a
-promised known (PlanningPartial part frames) answer a = partial_promised known part frames (part_and_text known part frames) answer refl a
-promised known (PlanningRead part far n) answer a = read_promised known part far n (part_known known part) answer refl a
-promised known (Generating part seed) answer a = summary_promised known part seed (part_known known part) answer refl a
-promised known (Playing part streams) answer a = play_promised known part streams (part_known known part) (streams_known known stream_limit streams) answer refl refl a
-promised known (PlayingSvf part text) answer a = port_promised known part text (part_and_text known part text) answer refl a
-promised known (Imaging golden update) answer a = image_promised known golden update (image_streams known golden update) answer refl a
-promised known (ImagingFor part golden update) answer a = image_for_promised known part golden update (part_known known part) (image_streams known golden update) answer refl refl a
-promised known (Booting part flash) answer a = start_promised known part flash (part_known known part) answer refl a
+promised known (form.PlanFull part frames) answer a = full_promised known part frames (part_and_text known part frames) answer refl a
+promised known (form.PlanPartial part frames) answer a = partial_promised known part frames (part_and_text known part frames) answer refl a
+promised known (form.PlanRead part far n) answer a = read_promised known part far n (part_known known part) answer refl a
+promised known (form.Gen part seed) answer a = summary_promised known part seed (part_known known part) answer refl a
+promised known (form.Play part streams) answer a = play_promised known part streams (part_known known part) (streams_known known stream_limit streams) answer refl refl a
+promised known (form.Svf part text) answer a = port_promised known part text (part_and_text known part text) answer refl a
+promised known (form.Image golden update) answer a = image_promised known golden update (image_streams known golden update) answer refl a
+promised known (form.ImageFor part golden update) answer a = image_for_promised known part golden update (part_known known part) (image_streams known golden update) answer refl refl a
+promised known (form.Boot part flash) answer a = start_promised known part flash (part_known known part) answer refl a
 promised known form answer a = tt

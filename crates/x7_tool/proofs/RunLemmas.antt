@@ -16,7 +16,9 @@ use Rattle.x7_mcs.proofs.SizeLemmas.{text_short}
 use Rattle.x7_forms.specs.declared.status.Status.{Status}
 use Rattle.x7_forms.specs.declared.status.Status.TheVariants as status
 use Rattle.x7_forms.specs.Event.{Event, ReasonCause, Wording, Want, Fault, Absence, Break, Contents, Difference, cause_of_event, no_memory, status_of_event, usage, writing_failed}
-use Rattle.x7_forms.specs.Form.{AskedForm, Assembling, Booting, FlashUse, FromMcs, Unused, UpdatingFlash, flash_use, listed_by, names_of, names_used, updated_by}
+use Rattle.x7_forms.specs.Form.{FlashUse, Unused, flash_use, listed_by, names_of, names_used, updated_by}
+use Rattle.x7_forms.specs.AskedForm.{AskedForm}
+use Rattle.x7_forms.specs.AskedForm as form
 use Rattle.x7_forms.specs.Status.{final_status, text_status}
 use Rattle.x7_forms.specs.Known.{Answer, Failing, Known, Lacking, Mishap, and_so, input_found, known_of, taken_whole, whole_known, with_inputs, if_within, text_limit}
 use Rattle.x7_forms.specs.Step.{Among}
@@ -98,17 +100,17 @@ leads_back s form known end goal_end (inl n) back = inl n
 leads_back s form known end goal_end (inr h) back = inr (back h)
 
 form_back : (form : AskedForm) (old new : Outside) (s : Status) (end : Result Answer Event) → ((known : Known) → known_in old new ≡ Some known → NothingFailed (Some form) old new → (s ≡ status.NoMemory) ⊎ IsOutcome known (Some form) end) → TextsLeadBack (Some form) old new s end
-form_back (Assembling name) old new s end outcome = λ bytes text fits short listed has quiet.
+form_back (form.Asm name) old new s end outcome = λ bytes text fits short listed has quiet.
     let known : Known = known_of has.0 old.flash.bytes in
     let is : known_in old new ≡ Some known = ap (λ (i : Option (List ℕ → Option (List ℕ))). with_inputs i old.flash.bytes) has.1.0 in
     let whole : whole_known known text_limit name ≡ Ok text = ap (λ (i : Option (List ℕ)). taken_whole name text_limit (input_found i)) has.1.1 ∙ within_limit name text text_limit (omega (arith, short, stream_short bytes text fits listed)) in
-    leads_back s (Assembling name) known end (Ok (record { stopped = false; text = bytes })) (outcome known is quiet)
+    leads_back s (form.Asm name) known end (Ok (record { stopped = false; text = bytes })) (outcome known is quiet)
     (λ h. asm_back name text bytes end (stream_back bytes text fits short listed) (subst (λ (r : Result (List ℕ) Event). AssembledAs name r end) whole h))
-form_back (FromMcs name) old new s end outcome = λ bytes fits short has quiet.
+form_back (form.Unmcs name) old new s end outcome = λ bytes fits short has quiet.
     let known : Known = known_of has.0 old.flash.bytes in
     let is : known_in old new ≡ Some known = ap (λ (i : Option (List ℕ → Option (List ℕ))). with_inputs i old.flash.bytes) has.1.0 in
     let whole : whole_known known text_limit name ≡ Ok (mcs_text bytes) = ap (λ (i : Option (List ℕ)). taken_whole name text_limit (input_found i)) has.1.1 ∙ within_limit name (mcs_text bytes) text_limit (omega (arith, short, text_short bytes)) in
-    leads_back s (FromMcs name) known end (Ok (record { stopped = false; text = bytes })) (outcome known is quiet)
+    leads_back s (form.Unmcs name) known end (Ok (record { stopped = false; text = bytes })) (outcome known is quiet)
     (λ h. mcs_back name (mcs_text bytes) bytes end (text_gives bytes fits short) (sym (ap (λ (r : Result (List ℕ) Event). and_so r (λ text. mcs_image name (mcs_of text))) whole) ∙ h))
 form_back form old new s end outcome = tt
 
@@ -139,7 +141,7 @@ promise_is (Some form) old new (Err event) h = no_promise (known_in old new) (So
 -- a boot keeps its promise over every flash that gives what was read
 promise_read : (form : Option AskedForm) (old new : Outside) (end : Result Answer Event) → BootsAsRead form (sources old.inputs old.flash) (sources new.inputs new.flash) end → PromisesAsRead form old new end
 promise_read None old new end h = tt
-promise_read (Some (Booting part flash)) old new (Ok answer) h = λ all agrees. promise_by (with_inputs new.inputs.contents (Some all)) (Booting part flash) answer (h all agrees)
+promise_read (Some (form.Boot part flash)) old new (Ok answer) h = λ all agrees. promise_by (with_inputs new.inputs.contents (Some all)) (form.Boot part flash) answer (h all agrees)
 promise_read (Some form) old new end h = tt
 
 -- ---- a run
@@ -220,17 +222,17 @@ updates_none form old new end u = subst (λ (x : Option (List ℕ)). UpdateLeave
 
 -- a form without a stream for a flash calls no flash for an update
 called_none : (form : AskedForm) (old new : Outside) (end : Result Answer Event) → updated_by (Some form) ≡ None → UpdateCalled (Some form) old new end
-called_none (UpdatingFlash flash stream) old new end u = absurd (cc)
+called_none (form.Update flash stream) old new end u = absurd (cc)
 called_none form old new end u = tt
 
 -- an event is no text of a boot
 no_text_read : (form : AskedForm) (old new : Outside) (event : Event) → BootsAsRead (Some form) (sources old.inputs old.flash) (sources new.inputs new.flash) (Err event)
-no_text_read (Booting part flash) old new event = tt
+no_text_read (form.Boot part flash) old new event = tt
 no_text_read form old new event = tt
 
 -- a form that uses no flash has no text of a boot
 unread : (form : AskedForm) (old new : Outside) (end : Result Answer Event) → flash_use (Some form) ≡ Unused → BootsAsRead (Some form) (sources old.inputs old.flash) (sources new.inputs new.flash) end
-unread (Booting part flash) old new end u = absurd (cc)
+unread (form.Boot part flash) old new end u = absurd (cc)
 unread form old new end u = tt
 
 -- a form that uses no flash

@@ -6,7 +6,7 @@ use Rattle.x7_words.specs.Input.{InputsState}
 use Rattle.x7_words.specs.Sink.{SinkState}
 use Rattle.x7_forms.specs.declared.status.Status.{Status}
 use Rattle.x7_forms.specs.Event.{Event}
-use Rattle.x7_forms.specs.Form.{AskedForm}
+use Rattle.x7_forms.specs.AskedForm.{AskedForm}
 use Rattle.x7_outcome.specs.Ending.{Answered}
 use Rattle.x7_outcome.specs.Outside.{Outside, outside}
 use Rattle.x7_tool.specs.Runs.{Runs}

@@ -5,7 +5,8 @@ use Rattle.x7_words.specs.FlashHistory.{MayLeave}
 use Rattle.x7_words.specs.Word.{AreBytes}
 use Rattle.x7_boot.specs.Boot.{BootedState, IsBoot}
 use Rattle.x7_recovery.specs.Golden.{BootsAlike, IsPreparedByAttempt, UpdatingByAttempt}
-use Rattle.x7_forms.specs.Form.{AskedForm, updated_by}
+use Rattle.x7_forms.specs.Form.{updated_by}
+use Rattle.x7_forms.specs.AskedForm.{AskedForm}
 use Rattle.x7_forms.specs.Known.{Known}
 use Rattle.x7_outcome.specs.Outcome.{stream_data}
 use Rattle.x7_outcome.specs.Outside.{Sources, known_from}

@@ -23,7 +23,8 @@ use Rattle.x7_svf.specs.Svf.{IsSvfOf}
 use Rattle.x7_effects.specs.Played.{PlaysFull, PlaysPartial, PlaysRead, device_after}
 use Rattle.x7_forms.specs.Event.{Event}
 use Rattle.x7_outcome.specs.Generate.{plan_of_seed, planned_summary}
-use Rattle.x7_forms.specs.Form.{AskedForm, Booting, Generating, Imaging, ImagingFor, PlanningFull, PlanningPartial, PlanningRead, Playing, PlayingSvf}
+use Rattle.x7_forms.specs.AskedForm.{AskedForm}
+use Rattle.x7_forms.specs.AskedForm as form
 use Rattle.x7_forms.specs.Known.{Answer, Held, Known, streams_known, part_known, stream_limit}
 use Rattle.x7_outcome.specs.Play.{report_of}
 use Rattle.x7_outcome.specs.Outcome.{ImageStreams, PartAndText, image_streams, part_and_text, svf_answer, IsBootText}
@@ -130,15 +131,15 @@ pub record PromisesStart (known : Known) (part flash : List ℕ) (answer : Answe
 
 -- what a whole text of a form promises over what is known
 abbrev pub PromiseOf : Known → AskedForm → Answer → Type 0
-PromiseOf known (Playing part streams) answer = PromisesPlayed known part streams answer
-PromiseOf known (PlayingSvf part text) answer = PromisesPort known part text answer
-PromiseOf known (PlanningFull part frames) answer = PromisesFull known part frames answer.text
-PromiseOf known (PlanningPartial part frames) answer = PromisesPartial known part frames answer.text
-PromiseOf known (PlanningRead part far n) answer = PromisesRead known part far n answer.text
-PromiseOf known (Generating part seed) answer = PromisesSummary known part seed answer.text
-PromiseOf known (Imaging golden update) answer = PromisesImage known golden update answer.text
-PromiseOf known (ImagingFor part golden update) answer = PromisesImageFor known part golden update answer.text
-PromiseOf known (Booting part flash) answer = PromisesStart known part flash answer
+PromiseOf known (form.Play part streams) answer = PromisesPlayed known part streams answer
+PromiseOf known (form.Svf part text) answer = PromisesPort known part text answer
+PromiseOf known (form.PlanFull part frames) answer = PromisesFull known part frames answer.text
+PromiseOf known (form.PlanPartial part frames) answer = PromisesPartial known part frames answer.text
+PromiseOf known (form.PlanRead part far n) answer = PromisesRead known part far n answer.text
+PromiseOf known (form.Gen part seed) answer = PromisesSummary known part seed answer.text
+PromiseOf known (form.Image golden update) answer = PromisesImage known golden update answer.text
+PromiseOf known (form.ImageFor part golden update) answer = PromisesImageFor known part golden update answer.text
+PromiseOf known (form.Boot part flash) answer = PromisesStart known part flash answer
 PromiseOf known form answer = Unit {0}
 
 -- what a whole text promises where the inputs are known

@@ -12,7 +12,9 @@ use Rattle.x7_forms.specs.declared.refusal.Refusal.{Refusal}
 use Rattle.x7_forms.specs.declared.status.Status.{Status}
 use Rattle.x7_forms.specs.declared.status.Status.TheVariants as status
 use Rattle.x7_forms.specs.Event.{Event, event_line}
-use Rattle.x7_forms.specs.Form.{AskedForm, Assembling, Booting, FromMcs, flash_use, names_of, updated_by}
+use Rattle.x7_forms.specs.Form.{flash_use, names_of, updated_by}
+use Rattle.x7_forms.specs.AskedForm.{AskedForm}
+use Rattle.x7_forms.specs.AskedForm as form
 use Rattle.x7_forms.specs.Status.{final_status}
 use Rattle.x7_forms.specs.Known.{Answer, Known, stream_limit, with_inputs}
 use Rattle.x7_forms.specs.Step.{result_by}
@@ -54,26 +56,26 @@ LeadsBack s end bytes = (s ≡ status.NoMemory) ⊎ (end ≡ Ok (record { stoppe
 abbrev pub ListingAssembles : List ℕ → Outside → Outside → Status → Result Answer Event → Type 0
 ListingAssembles name old new s end =
     (bytes text : List ℕ) → AreBytes bytes → length bytes ≤ stream_limit → stream_listing bytes ≡ Ok text
-    → HasText new name text → NothingFailed (Some (Assembling name)) old new → LeadsBack s end bytes
+    → HasText new name text → NothingFailed (Some (form.Asm name)) old new → LeadsBack s end bytes
 
 -- where nothing failed, the Intel HEX text of an image of at most `flash_limit` bytes gives the image, or memory was
 -- wanting
 abbrev pub GivesImage : List ℕ → Outside → Outside → Status → Result Answer Event → Type 0
 GivesImage name old new s end =
     (bytes : List ℕ) → AreBytes bytes → length bytes ≤ flash_limit
-    → HasText new name (mcs_text bytes) → NothingFailed (Some (FromMcs name)) old new → LeadsBack s end bytes
+    → HasText new name (mcs_text bytes) → NothingFailed (Some (form.Unmcs name)) old new → LeadsBack s end bytes
 
 -- `asm` of a listing gives the stream, and `unmcs` of an Intel HEX text the image, as `ListingAssembles` and
 -- `GivesImage` say; of other forms nothing is said
 abbrev pub TextsLeadBack : Option AskedForm → Outside → Outside → Status → Result Answer Event → Type 0
-TextsLeadBack (Some (Assembling name)) old new s end = ListingAssembles name old new s end
-TextsLeadBack (Some (FromMcs name)) old new s end = GivesImage name old new s end
+TextsLeadBack (Some (form.Asm name)) old new s end = ListingAssembles name old new s end
+TextsLeadBack (Some (form.Unmcs name)) old new s end = GivesImage name old new s end
 TextsLeadBack form old new s end = Unit {0}
 
 -- the text of a boot keeps the promise of a boot over every flash of this size that gives what was read
 abbrev pub PromisesAsRead : Option AskedForm → Outside → Outside → Result Answer Event → Type 0
-PromisesAsRead (Some (Booting part flash)) old new (Ok answer) =
-    IfAgrees (answers_since old.flash new.flash) (λ all. Promise (with_inputs new.inputs.contents (Some all)) (Some (Booting part flash)) (Ok answer))
+PromisesAsRead (Some (form.Boot part flash)) old new (Ok answer) =
+    IfAgrees (answers_since old.flash new.flash) (λ all. Promise (with_inputs new.inputs.contents (Some all)) (Some (form.Boot part flash)) (Ok answer))
 PromisesAsRead form old new end = Unit {0}
 
 -- what the output got, and how far `list` read ahead of it

@@ -1,5 +1,5 @@
 use Rattle.std.proofs.Common.{[], ◌∷◌, None, Some, inl, refl}
-use Rattle.x7_forms.specs.Form.{Booting}
+use Rattle.x7_forms.specs.AskedForm as form
 use Rattle.x7_forms.specs.Event.{event_of}
 use Rattle.x7_outcome.specs.Outside.{sources}
 use Rattle.x7_outcome.specs.Play.{play_answer}
@@ -30,7 +30,7 @@ returns-clause-ready g c =
       caused = λ before after. booted_ends (record before { inputs = old; flash = first }) (record after { inputs = new; flash = last }) name part_name part C made (c.in_ok-part.ensures.caused first.bytes) c.boot_from.ensures.caused;
       as_read = boots_as_read play_answer C name part_name part (sources old first) (sources new last) c.boot_from.result (λ all. c.in_ok-part.ensures.caused (Some all)) c.boot_from.ensures.as_read;
       stops = boot_stops name part_name part old new first last made c.boot_from.ensures.caused;
-      measured = boot_measured (Some (Booting part_name name)) name part first last made c.boot_from.ensures.caused;
+      measured = boot_measured (Some (form.Boot part_name name)) name part first last made c.boot_from.ensures.caused;
       fails_last = boot_last play_answer name part_name new last c.boot_from.result c.boot_from.ensures.failed (part_good new.contents C name part_name part (c.in_ok-part.ensures.caused None));
       judges = comes_judges part_name name part old new first last made c.boot_from.ensures.caused;
       asks = c.read_part.ensures.asks.once;
@@ -47,9 +47,9 @@ returns-in_err-part-clause-ready g c = rw (handed_on c.from_residual.result c.in
     record {
       caused = λ before after. part_refused (record before { inputs = old; flash = flash }) (record after { inputs = new; flash = flash }) name part_name event (c.in_err-part.ensures.caused flash.bytes);
       as_read = tt;
-      stops = first_stops (Booting part_name name) (limited part_limit part_name) [] old new event refl c.read_part.ensures.asks.last c.read_part.ensures.asks.once (no_part_about part_name event c.in_err-part.ensures.named);
-      measured = no_part_measured (Some (Booting part_name name)) flash part_name event (inl refl) c.in_err-part.ensures.named;
-      fails_last = no_part_last (Booting part_name name) new flash part_name event (inl refl) c.in_err-part.ensures.named;
+      stops = first_stops (form.Boot part_name name) (limited part_limit part_name) [] old new event refl c.read_part.ensures.asks.last c.read_part.ensures.asks.once (no_part_about part_name event c.in_err-part.ensures.named);
+      measured = no_part_measured (Some (form.Boot part_name name)) flash part_name event (inl refl) c.in_err-part.ensures.named;
+      fails_last = no_part_last (form.Boot part_name name) new flash part_name event (inl refl) c.in_err-part.ensures.named;
       judges = untouched_judges part_name name old new flash event;
       asks = c.read_part.ensures.asks.once;
       stays = c.read_part.ensures.asks.stays;

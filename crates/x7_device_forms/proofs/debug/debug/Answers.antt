@@ -1,5 +1,5 @@
 use Rattle.std.proofs.Common.{refl, ◌∷◌, []}
-use Rattle.x7_forms.specs.Form.{Debugging}
+use Rattle.x7_forms.specs.AskedForm as form
 use Rattle.x7_forms.specs.Known.{Answer, part_limit, stream_limit, script_limit}
 use Rattle.x7_forms.specs.Event.{event_of}
 use Rattle.x7_forms.specs.ReadingStops.{limited}
@@ -25,8 +25,8 @@ returns g c =
     let made = c.text_of.result in
     record {
       caused = answers_by DebugInputs Answer (part ∷ stream ∷ script ∷ []) old new (λ t. debug_inputs t part stream script) given (DebuggedAs script) (result_by text_answer made) c.in_ok-given.ensures.caused (debug_due script given made c.text_of.ensures.text c.text_of.ensures.refused);
-      stops = result_stops text_answer (Debugging part stream script) old new made (err_weaker made
-          (λ r h. third_stops (Debugging part stream script) (limited part_limit part) (limited stream_limit stream) (limited script_limit script) [] old new (event_of r) refl c.in_ok-given.ensures.last_asked c.read_given.ensures.asks (debug_about script given (event_of r) h))
+      stops = result_stops text_answer (form.Debug part stream script) old new made (err_weaker made
+          (λ r h. third_stops (form.Debug part stream script) (limited part_limit part) (limited stream_limit stream) (limited script_limit script) [] old new (event_of r) refl c.in_ok-given.ensures.last_asked c.read_given.ensures.asks (debug_about script given (event_of r) h))
           c.text_of.ensures.refused);
       asks = c.read_given.ensures.asks;
       stays = c.read_given.ensures.inputs;
@@ -41,7 +41,7 @@ returns-in_err-given g c = rw (handed_on c.from_residual.result c.in_err-given.f
     let event = event_of c.in_err-given.field-0.0 in
     record {
       caused = answers_kept DebugInputs Answer (part ∷ stream ∷ script ∷ []) old new (λ t. debug_inputs t part stream script) (DebuggedAs script) event (λ x. refl) c.in_err-given.ensures.caused;
-      stops = among_stops (Debugging part stream script) old new event c.in_err-given.ensures.stops;
+      stops = among_stops (form.Debug part stream script) old new event c.in_err-given.ensures.stops;
       asks = c.read_given.ensures.asks;
       stays = c.read_given.ensures.inputs;
     })

@@ -1,6 +1,6 @@
 use Rattle.std.proofs.Common.{Ok, refl, ◌∷◌, []}
 use Rattle.x7_part.specs.Part.{PartData}
-use Rattle.x7_forms.specs.Form.{Generating}
+use Rattle.x7_forms.specs.AskedForm as form
 use Rattle.x7_forms.specs.Known.{Answer, part_limit, part_known}
 use Rattle.x7_forms.specs.Event.{event_of}
 use Rattle.x7_forms.specs.ReadingStops.{limited}
@@ -22,7 +22,7 @@ returns-in_err-part g c = rw (handed_on c.from_residual.result c.in_err-part.fie
     let event = event_of c.in_err-part.field-0.0 in
     record {
       caused = answers_stop PartData Answer (name ∷ []) (name ∷ []) old new (λ t. part_known t name) (λ t p. Ok (gen_answer p seed)) event (λ n h. h) c.in_err-part.ensures.caused;
-      stops = first_stops (Generating name seed) (limited part_limit name) [] old new event refl c.read_part.ensures.asks.last c.read_part.ensures.asks.once (no_part_about name event c.in_err-part.ensures.named);
+      stops = first_stops (form.Gen name seed) (limited part_limit name) [] old new event refl c.read_part.ensures.asks.last c.read_part.ensures.asks.once (no_part_about name event c.in_err-part.ensures.named);
       asks = c.read_part.ensures.asks.once;
       stays = c.read_part.ensures.asks.stays;
     })
@@ -37,7 +37,7 @@ returns g c =
     let made = c.summary_of.result in
     record {
       caused = answers_end PartData Answer (name ∷ []) old new (λ t. part_known t name) (λ p. Ok (gen_answer p seed)) part (result_by bytes_answer made) (part_steady name) c.in_ok-part.ensures.caused (made_due (gen_answer part seed) made c.summary_of.ensures.text c.summary_of.ensures.refused);
-      stops = want_only bytes_answer (Generating name seed) old new made c.summary_of.ensures.refused;
+      stops = want_only bytes_answer (form.Gen name seed) old new made c.summary_of.ensures.refused;
       asks = c.read_part.ensures.asks.once;
       stays = c.read_part.ensures.asks.stays;
     }

@@ -6,7 +6,7 @@ use Rattle.x7_outcome.specs.Play.{reported, play_answer}
 use Rattle.x7_forms.specs.Step.{result_by}
 use Rattle.x7_device_forms.proofs.PlayLemmas.{text_ends}
 use Rattle.x7_forms.proofs.ReadLemmas.{answers_end, answers_go, answers_stop, data_steady, first_of, part_steady}
-use Rattle.x7_forms.specs.Form.{Playing}
+use Rattle.x7_forms.specs.AskedForm as form
 use Rattle.x7_forms.proofs.ResultLemmas.{handed_on, err_weaker}
 use Rattle.x7_words.proofs.InputLemmas.{stays_on}
 use Rattle.x7_outcome.proofs.StopLemmas.{first_asked, first_stops}
@@ -22,7 +22,7 @@ returns-in_err-part g c = rw (handed_on c.from_residual.result c.in_err-part.fie
     record {
       caused = answers_stop PartData Answer (part ∷ []) (part ∷ streams) (i.state c.args.inputs.now) (i.state c.read_part.new.inputs) (λ t. part_known t part) (λ t p. and_so (streams_known t stream_limit streams) (reported p)) (event_of c.in_err-part.field-0.0)
           (first_of part streams) c.in_err-part.ensures.caused;
-      stops = first_stops (Playing c.args.part_name.now (map string_bytes c.args.streams.now)) (limited part_limit c.args.part_name.now)
+      stops = first_stops (form.Play c.args.part_name.now (map string_bytes c.args.streams.now)) (limited part_limit c.args.part_name.now)
           (limited_together (g.I.Inputs.state c.read_part.new.inputs).contents stream_limit (map string_bytes c.args.streams.now)) (g.I.Inputs.state c.args.inputs.now)
           (g.I.Inputs.state c.read_part.new.inputs) (event_of c.in_err-part.field-0.0) refl c.read_part.ensures.asks.last c.read_part.ensures.asks.once
           (no_part_about c.args.part_name.now (event_of c.in_err-part.field-0.0) c.in_err-part.ensures.named);

@@ -1,5 +1,5 @@
 use Rattle.std.proofs.Common.{refl, ◌∷◌, []}
-use Rattle.x7_forms.specs.Form.{PlayingSvf}
+use Rattle.x7_forms.specs.AskedForm as form
 use Rattle.x7_forms.specs.Known.{Answer, part_limit, text_limit}
 use Rattle.x7_forms.specs.Event.{event_of}
 use Rattle.x7_forms.specs.ReadingStops.{limited}
@@ -24,8 +24,8 @@ returns g c =
     let made = c.text_of.result in
     record {
       caused = answers_by PartAndText Answer (part ∷ text ∷ []) old new (λ t. part_and_text t part text) given (PlayedSvf text) (result_by play_answer made) c.in_ok-given.ensures.caused (svf_due text given made c.text_of.ensures.text c.text_of.ensures.refused);
-      stops = result_stops play_answer (PlayingSvf part text) old new made (err_weaker made
-          (λ r h. second_stops (PlayingSvf part text) (limited part_limit part) (limited text_limit text) [] old new (event_of r) refl c.in_ok-given.ensures.last_asked c.read_given.ensures.asks (svf_played_about text given (event_of r) h))
+      stops = result_stops play_answer (form.Svf part text) old new made (err_weaker made
+          (λ r h. second_stops (form.Svf part text) (limited part_limit part) (limited text_limit text) [] old new (event_of r) refl c.in_ok-given.ensures.last_asked c.read_given.ensures.asks (svf_played_about text given (event_of r) h))
           c.text_of.ensures.refused);
       asks = c.read_given.ensures.asks;
       stays = c.read_given.ensures.inputs;
@@ -39,7 +39,7 @@ returns-in_err-given g c = rw (handed_on c.from_residual.result c.in_err-given.f
     let event = event_of c.in_err-given.field-0.0 in
     record {
       caused = answers_kept PartAndText Answer (part ∷ text ∷ []) old new (λ t. part_and_text t part text) (PlayedSvf text) event (λ x. refl) c.in_err-given.ensures.caused;
-      stops = among_stops (PlayingSvf part text) old new event c.in_err-given.ensures.stops;
+      stops = among_stops (form.Svf part text) old new event c.in_err-given.ensures.stops;
       asks = c.read_given.ensures.asks;
       stays = c.read_given.ensures.inputs;
     })

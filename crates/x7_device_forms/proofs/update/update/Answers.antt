@@ -6,7 +6,7 @@ use Rattle.x7_boot.specs.Image.{flash_limit}
 use Rattle.x7_update.specs.After.{IsAfterUpdate}
 use Rattle.x7_update.specs.Layout.{IsUpdatable}
 use Rattle.x7_forms.specs.Event.{Event, event_of}
-use Rattle.x7_forms.specs.Form.{UpdatingFlash}
+use Rattle.x7_forms.specs.AskedForm as form
 use Rattle.x7_forms.specs.Known.{with_inputs, stream_limit}
 use Rattle.x7_forms.specs.Step.{CameIn, step_over}
 use Rattle.x7_outcome.specs.Outside.{Outside, sources}
@@ -31,8 +31,8 @@ returns-in_err-open_flash-clause-answered g c = rw (handed_on c.from_residual.re
     let event = event_of c.in_err-open_flash.field-0.0 in
     record {
       ends = refused_ends c.args.flash_name.now c.args.stream_name.now old new event out
-          (attach_refused_measured (Some (UpdatingFlash c.args.flash_name.now c.args.stream_name.now)) c.args.flash_name.now first mid event c.in_err-open_flash.ensures.refused)
-          (attach_refused_last (UpdatingFlash c.args.flash_name.now c.args.stream_name.now) c.args.flash_name.now new.inputs first mid event c.in_err-open_flash.ensures.refused)
+          (attach_refused_measured (Some (form.Update c.args.flash_name.now c.args.stream_name.now)) c.args.flash_name.now first mid event c.in_err-open_flash.ensures.refused)
+          (attach_refused_last (form.Update c.args.flash_name.now c.args.stream_name.now) c.args.flash_name.now new.inputs first mid event c.in_err-open_flash.ensures.refused)
           (attach_refused_over c.args.flash_name.now c.args.stream_name.now old new event c.in_err-open_flash.ensures.refused) (keeps_all event.reason first mid c.open_flash.ensures.stays.bytes) (inl c.in_err-open_flash.ensures.called_alone);
       stops = attach_refused_stops c.args.flash_name.now c.args.stream_name.now (g.I.Inputs.state c.args.inputs.now) (g.I.Inputs.state c.args.inputs.now) (g.F.Flash.state c.args.flash.now)
           (g.F.Flash.state c.open_flash.new.flash) (event_of c.in_err-open_flash.field-0.0) c.in_err-open_flash.ensures.refused;
@@ -52,10 +52,10 @@ returns-in_err-read-clause-answered g c = rw (handed_on c.from_residual-in_err-r
     let within = subst (λ (o : Option (List ℕ)). IfKnown o (λ all. length all ≤ flash_limit)) same c.in_ok-open_flash.ensures.within in
     record {
       ends = refused_ends c.args.flash_name.now c.args.stream_name.now old new event out
-          (unplayed_measured (Some (UpdatingFlash c.args.flash_name.now c.args.stream_name.now)) mid c.args.stream_name.now event (inl refl) c.in_err-read.ensures.named)
-          (unplayed_last (UpdatingFlash c.args.flash_name.now c.args.stream_name.now) new.inputs mid c.args.stream_name.now event (inl refl) c.in_err-read.ensures.named)
+          (unplayed_measured (Some (form.Update c.args.flash_name.now c.args.stream_name.now)) mid c.args.stream_name.now event (inl refl) c.in_err-read.ensures.named)
+          (unplayed_last (form.Update c.args.flash_name.now c.args.stream_name.now) new.inputs mid c.args.stream_name.now event (inl refl) c.in_err-read.ensures.named)
           (unread_over c.args.flash_name.now c.args.stream_name.now old new event within (c.in_err-read.ensures.caused first.bytes)) (keeps_all event.reason first mid same) (inl (inl c.in_ok-open_flash.ensures.called));
-      stops = first_stops (UpdatingFlash c.args.flash_name.now c.args.stream_name.now) (limited stream_limit c.args.stream_name.now) [] (g.I.Inputs.state c.args.inputs.now)
+      stops = first_stops (form.Update c.args.flash_name.now c.args.stream_name.now) (limited stream_limit c.args.stream_name.now) [] (g.I.Inputs.state c.args.inputs.now)
           (g.I.Inputs.state c.read_stream.new.inputs) (event_of c.in_err-read.field-0.0) refl c.read_stream.ensures.asks.last c.read_stream.ensures.asks.once
           (unplayed_about c.args.stream_name.now (event_of c.in_err-read.field-0.0) c.in_err-read.ensures.named);
       judges = stream_judges c.args.flash_name.now c.args.stream_name.now (sources (g.I.Inputs.state c.args.inputs.now) (g.F.Flash.state c.args.flash.now))
@@ -124,7 +124,7 @@ returns-clause-answered g c = λ before after out.
     let asked = c.update.ensures.only_uses.names ∙ c.open_flash.ensures.asks in
     let cause = cause_from bytes first mid last c.in-Err.fault stays.bytes stays.write_faults stays.faults c.in-Err.ensures.refused in
     record {
-      ends = subst (λ (e : Event). CommandEndsAs (Some (UpdatingFlash name stream)) old new (Err e)) (sym c.refusal_of.ensures)
+      ends = subst (λ (e : Event). CommandEndsAs (Some (form.Update name stream)) old new (Err e)) (sym c.refusal_of.ensures)
           (fault_ends name stream bytes old new c.in-Err.fault out asked within has reads size cause (λ early. let only = c.in-Err.ensures.unchanged early in only.bytes ∙ stays.bytes)
           (inr (bytes, has, (c.in-Err.fault, refl, record { mid = history_of mid; attached = c.in_ok-open_flash.ensures.called; refused = c.in-Err.ensures.refused_calls }))));
       stops = updated_stops c.args.flash_name.now c.args.stream_name.now (g.I.Inputs.state c.args.inputs.now) (g.I.Inputs.state c.read_stream.new.inputs) c.in-Err.fault (event_of c.refusal_of.result) c.refusal_of.ensures c.read_stream.ensures.asks.last c.read_stream.ensures.asks.once;

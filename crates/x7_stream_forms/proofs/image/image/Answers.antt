@@ -1,5 +1,5 @@
 use Rattle.std.proofs.Common.{refl, ◌∷◌, []}
-use Rattle.x7_forms.specs.Form.{Imaging}
+use Rattle.x7_forms.specs.AskedForm as form
 use Rattle.x7_forms.specs.Known.{Answer, stream_limit}
 use Rattle.x7_forms.specs.Event.{event_of}
 use Rattle.x7_forms.specs.ReadingStops.{limited}
@@ -24,8 +24,8 @@ returns g c =
     record {
       caused = answers_end ImageStreams Answer (golden ∷ update ∷ []) old new (λ t. image_streams t golden update) (image_by update 1) streams (result_by bytes_answer made)
           (streams_steady golden update) c.in_ok-streams.ensures.caused (image_due update 1 streams made c.image_by_bytes.ensures.text c.image_by_bytes.ensures.refused);
-      stops = result_stops bytes_answer (Imaging golden update) old new made (err_weaker made
-          (λ r a. second_stops (Imaging golden update) (limited stream_limit golden) (limited stream_limit update) [] old new (event_of r) refl c.in_ok-streams.ensures.last_asked c.read_streams.ensures.asks a) c.image_by_bytes.ensures.named);
+      stops = result_stops bytes_answer (form.Image golden update) old new made (err_weaker made
+          (λ r a. second_stops (form.Image golden update) (limited stream_limit golden) (limited stream_limit update) [] old new (event_of r) refl c.in_ok-streams.ensures.last_asked c.read_streams.ensures.asks a) c.image_by_bytes.ensures.named);
       asks = c.read_streams.ensures.asks;
       stays = c.read_streams.ensures.inputs;
     }
@@ -38,7 +38,7 @@ returns-in_err-streams g c = rw (handed_on c.from_residual.result c.in_err-strea
     let event = event_of c.in_err-streams.field-0.0 in
     record {
       caused = answers_stop ImageStreams Answer (golden ∷ update ∷ []) (golden ∷ update ∷ []) old new (λ t. image_streams t golden update) (λ t. image_by update 1) event (λ n h. h) c.in_err-streams.ensures.caused;
-      stops = among_stops (Imaging golden update) old new event c.in_err-streams.ensures.stops;
+      stops = among_stops (form.Image golden update) old new event c.in_err-streams.ensures.stops;
       asks = c.read_streams.ensures.asks;
       stays = c.read_streams.ensures.inputs;
     })

@@ -11,7 +11,7 @@ use Rattle.x7_forms.specs.Event.{event_of, no_memory, status_of_event, writing_f
 use Rattle.x7_forms.specs.Known.{stream_limit, with_inputs}
 use Rattle.x7_forms.specs.Step.{CameIn, step_over}
 use Rattle.x7_forms.specs.declared.refusal.Refusal.{Refusal}
-use Rattle.x7_forms.specs.Form.{Listing}
+use Rattle.x7_forms.specs.AskedForm as form
 use Rattle.x7_outcome.specs.Ahead.{StaysNear}
 use Rattle.x7_outcome.specs.Ending.{ListsSoFar}
 use Rattle.x7_stream_forms.specs.Between.{ListsInTurns, ListsStream}
@@ -40,7 +40,7 @@ returns-in_err-open-clause-answered g c = rw (handed_on c.from_residual.result c
     record {
       ends = list_ends stream old new (Err event) (unopened old.inputs new.inputs old.flash.bytes stream (SinkFails old.out new.out) old.out.written event c.in_err-open.ensures.refused c.open.ensures.asks.named)
           (stays_near event stream old new (unopened_near new.inputs.contents stream new.inputs.rest old.out.written new.out.written old.inputs new.inputs stream event c.open.ensures.asks.named (same_now old.out) c.in_err-open.ensures.refused));
-      stops = first_stops (Listing c.args.stream_name.now) (limited stream_limit c.args.stream_name.now) [] (g.I.Inputs.state c.args.inputs.now) (g.I.Inputs.state c.open.new.inputs)
+      stops = first_stops (form.List c.args.stream_name.now) (limited stream_limit c.args.stream_name.now) [] (g.I.Inputs.state c.args.inputs.now) (g.I.Inputs.state c.open.new.inputs)
           (event_of c.in_err-open.field-0.0) refl asks.last asks.once
           (unopened_about (g.I.Inputs.state c.args.inputs.now) (g.I.Inputs.state c.open.new.inputs) c.args.stream_name.now (event_of c.in_err-open.field-0.0) c.in_err-open.ensures.refused);
       judges = tt;
@@ -63,7 +63,7 @@ returns-in_err-beginning-clause-answered g c = rw (handed_on c.from_residual-in_
           (stays_near event stream old new (without_prefix_near new.inputs.contents stream new.inputs.rest old.out.written new.out.written
           (i.state c.open.new.inputs) new.inputs stream event refl refl c.read_beginning.ensures.gives_few.stays c.in_ok-open.ensures.opened.found c.open.ensures.asks.named c.read_beginning.ensures.short
           (same_now old.out) c.in_err-beginning.ensures.refused));
-      stops = first_stops (Listing c.args.stream_name.now) (limited stream_limit c.args.stream_name.now) [] (g.I.Inputs.state c.args.inputs.now) (g.I.Inputs.state c.read_beginning.new.inputs)
+      stops = first_stops (form.List c.args.stream_name.now) (limited stream_limit c.args.stream_name.now) [] (g.I.Inputs.state c.args.inputs.now) (g.I.Inputs.state c.read_beginning.new.inputs)
           (event_of c.in_err-beginning.field-0.0) refl
           asks.last asks.once (without_prefix_about (g.I.Inputs.state c.open.new.inputs) (g.I.Inputs.state c.read_beginning.new.inputs) c.args.stream_name.now
           (event_of c.in_err-beginning.field-0.0) c.in_err-beginning.ensures.refused);
@@ -115,7 +115,7 @@ returns-in_err-put_beginning-clause-answered g c = rw (handed_on c.from_residual
           (record after { inputs = i.state c.read_beginning.new.inputs; out = o.state c.put_beginning.new.out }) (Err r) (end c.in_err-put_beginning.ensures.refused)
           (stays_near r stream (record before { inputs = i.state c.args.inputs.now; out = o.state c.args.out.now })
           (record after { inputs = i.state c.read_beginning.new.inputs; out = o.state c.put_beginning.new.out }) near);
-      stops = prefix_stops (Listing c.args.stream_name.now) (g.I.Inputs.state c.args.inputs.now) (g.I.Inputs.state c.read_beginning.new.inputs) (event_of c.in_err-put_beginning.field-0.0) c.in_err-put_beginning.ensures.refused;
+      stops = prefix_stops (form.List c.args.stream_name.now) (g.I.Inputs.state c.args.inputs.now) (g.I.Inputs.state c.read_beginning.new.inputs) (event_of c.in_err-put_beginning.field-0.0) c.in_err-put_beginning.ensures.refused;
       judges = tt;
       asks = asks.once;
       stays = asks.stays;
@@ -163,7 +163,7 @@ returns-then-beginning-clause-answered g c = λ before after.
     ] in
     by w)
     c.put_short.ensures.prefix c.put_short.ensures.refused in
-    let near = both_err c.put_short.result (λ r. PutsPrefix old text now) Why (λ r. StaysNear (status_of_event (event_of r)) (Some (Listing stream)) first later)
+    let near = both_err c.put_short.result (λ r. PutsPrefix old text now) Why (λ r. StaysNear (status_of_event (event_of r)) (Some (form.List stream)) first later)
     (λ r p w.
     let longer = longer_prefix old now text p in
     let few : given ≤ longest_beginning = omega (arith, c.open.ensures.asks.named.given, c.read_beginning.ensures.short) in
@@ -172,7 +172,7 @@ returns-then-beginning-clause-answered g c = λ before after.
     let asks = asks_read (i.state c.args.inputs.now) (i.state c.open.new.inputs) (i.state c.read_beginning.new.inputs) stream stream_limit c.open.ensures.asks c.read_beginning.ensures.gives_few in
     record {
       ends = list_seen stream first later c.put_short.result ok err near;
-      stops = written_stops _ _ (Listing c.args.stream_name.now) (g.I.Inputs.state c.args.inputs.now) (g.I.Inputs.state c.read_beginning.new.inputs) c.put_short.result c.put_short.ensures.refused;
+      stops = written_stops _ _ (form.List c.args.stream_name.now) (g.I.Inputs.state c.args.inputs.now) (g.I.Inputs.state c.read_beginning.new.inputs) c.put_short.result c.put_short.ensures.refused;
       judges = tt;
       asks = asks.once;
       stays = asks.stays;
@@ -195,7 +195,7 @@ returns-in_err-turn-clause-answered g c = rw (handed_on c.from_residual-in_err-t
           v.inputs c.next_turn.ensures.gives_few.stays v.known.1.0 v.known.1.3 v.known.1.1 v.known.1.2 c.in_err-turn.ensures.refused.unread c.next_turn.ensures.gives_few.asked)
           (stays_near event stream old new (unread_near new.inputs.contents stream new.inputs.rest old.out.written new.out.written (i.state c.loop-lister.inputs) new.inputs stream v.known.0 c.loop-lister.lister c.loop-lister.left event refl refl c.next_turn.ensures.gives_few.stays v.known.1.0 t
           (omega (arith, v.known.1.3.given, c.next_turn.ensures.gives_a_turn.given, v.piece)) (λ e. omega (arith, c.in_err-turn.ensures.refused.over e, v.piece)) (same_now (o.state c.loop-lister.out)) c.in_err-turn.ensures.refused.unread));
-      stops = let v = c.loop-lister.invariant in first_stops (Listing c.args.stream_name.now) (limited stream_limit c.args.stream_name.now) [] (g.I.Inputs.state c.args.inputs.now)
+      stops = let v = c.loop-lister.invariant in first_stops (form.List c.args.stream_name.now) (limited stream_limit c.args.stream_name.now) [] (g.I.Inputs.state c.args.inputs.now)
           (g.I.Inputs.state c.next_turn.new.inputs) (event_of c.in_err-turn.field-0.0) refl
           asks.last asks.once
           (unread_about c.args.stream_name.now (event_of c.in_err-turn.field-0.0)
@@ -250,7 +250,7 @@ returns-in_err-put_turn-clause-answered g c = rw (handed_on c.from_residual-in_e
           (record after { inputs = i.state c.next_turn.new.inputs; out = o.state c.put_turn.new.out }) (Err r) (end c.in_err-put_turn.ensures.refused)
           (stays_near r stream (record before { inputs = i.state c.args.inputs.now; out = o.state c.args.out.now }) (record after { inputs = i.state c.next_turn.new.inputs; out = o.state c.put_turn.new.out })
           (unwritten_near contents stream rest old now _ given r gives near (why_weaker c.in_err-put_turn.ensures.refused)));
-      stops = put_stops (Listing c.args.stream_name.now) (g.I.Inputs.state c.args.inputs.now) (g.I.Inputs.state c.next_turn.new.inputs) (event_of c.in_err-put_turn.field-0.0) c.in_err-put_turn.ensures.refused;
+      stops = put_stops (form.List c.args.stream_name.now) (g.I.Inputs.state c.args.inputs.now) (g.I.Inputs.state c.next_turn.new.inputs) (event_of c.in_err-put_turn.field-0.0) c.in_err-put_turn.ensures.refused;
       judges = tt;
       asks = asks.once;
       stays = asks.stays;
@@ -316,7 +316,7 @@ returns-then-turn-clause-answered g c = λ before after.
     let asks = asks_turn (i.state c.args.inputs.now) (i.state c.loop-lister.inputs) (i.state c.next_turn.new.inputs) stream v.known.0 stream_limit c.loop-lister.left v.known.1.3 v.known.1.2 v.once v.inputs c.next_turn.ensures.gives_few in
     record {
       ends = list_seen stream (record before { inputs = i.state c.args.inputs.now; out = o.state c.args.out.now }) (record after { inputs = i.state c.next_turn.new.inputs; out = o.state c.put_end.new.out }) c.put_end.result ok err close;
-      stops = written_stops _ _ (Listing c.args.stream_name.now) (g.I.Inputs.state c.args.inputs.now) (g.I.Inputs.state c.next_turn.new.inputs) c.put_end.result c.put_end.ensures.refused;
+      stops = written_stops _ _ (form.List c.args.stream_name.now) (g.I.Inputs.state c.args.inputs.now) (g.I.Inputs.state c.next_turn.new.inputs) c.put_end.result c.put_end.ensures.refused;
       judges = tt;
       asks = asks.once;
       stays = asks.stays;

@@ -1,7 +1,7 @@
 use Rattle.std.proofs.Common.{sym, refl, []}
 use Rattle.x7_forms.specs.Event.{event_of}
 use Rattle.x7_forms.specs.ReadingStops.{limited}
-use Rattle.x7_forms.specs.Form.{FromMcs}
+use Rattle.x7_forms.specs.AskedForm as form
 use Rattle.x7_forms.proofs.AskedLemmas.{about_by, unread_about}
 use Rattle.x7_outcome.specs.Outcome.{mcs_event}
 use Rattle.x7_stream_forms.proofs.McsLemmas.{mcs_faulted, mcs_given, mcs_unread}
@@ -18,7 +18,7 @@ returns-in_err-read g c = rw (handed_on c.from_residual.result c.in_err-read.fie
     let event = event_of c.in_err-read.field-0.0 in
     record {
       caused = mcs_unread old new name event c.in_err-read.ensures.refused;
-      stops = first_stops (FromMcs name) (limited text_limit name) [] old new event refl c.feed_whole.ensures.asks.last c.feed_whole.ensures.asks.once (unread_about name event c.in_err-read.ensures.named);
+      stops = first_stops (form.Unmcs name) (limited text_limit name) [] old new event refl c.feed_whole.ensures.asks.last c.feed_whole.ensures.asks.once (unread_about name event c.in_err-read.ensures.named);
       asks = c.feed_whole.ensures.asks.once;
       stays = c.feed_whole.ensures.asks.stays;
     })
@@ -44,7 +44,7 @@ returns-in-Err g c =
     let t = c.in_ok-read.ensures.read in
     record {
       caused = mcs_faulted (λ v. v.items) old new name t.0 c.in_ok-read.read t.1 t.2 c.in-Err.fault event c.in-Err.is (sym c.refusal_of.ensures);
-      stops = first_stops (FromMcs name) (limited text_limit name) [] old new event refl c.feed_whole.ensures.asks.last c.feed_whole.ensures.asks.once (about_by name event (mcs_event name c.in-Err.fault) c.refusal_of.ensures (mcs_about name c.in-Err.fault));
+      stops = first_stops (form.Unmcs name) (limited text_limit name) [] old new event refl c.feed_whole.ensures.asks.last c.feed_whole.ensures.asks.once (about_by name event (mcs_event name c.in-Err.fault) c.refusal_of.ensures (mcs_about name c.in-Err.fault));
       asks = c.feed_whole.ensures.asks.once;
       stays = c.feed_whole.ensures.asks.stays;
     }

@@ -1,6 +1,6 @@
 use Rattle.std.proofs.Common.{refl, ◌∷◌, []}
 use Rattle.x7_part.specs.Part.{PartData}
-use Rattle.x7_forms.specs.Form.{PlanningRead}
+use Rattle.x7_forms.specs.AskedForm as form
 use Rattle.x7_forms.specs.Known.{Answer, part_limit, part_known}
 use Rattle.x7_forms.specs.Event.{event_of}
 use Rattle.x7_forms.specs.ReadingStops.{limited}
@@ -21,7 +21,7 @@ returns-in_err-part g c = rw (handed_on c.from_residual.result c.in_err-part.fie
     let event = event_of c.in_err-part.field-0.0 in
     record {
       caused = answers_kept PartData Answer (name ∷ []) old new (λ t. part_known t name) (PlannedRead name c.args.far c.args.slot_count) event (λ x. refl) c.in_err-part.ensures.caused;
-      stops = first_stops (PlanningRead name c.args.far c.args.slot_count) (limited part_limit name) [] old new event refl c.read_part.ensures.asks.last c.read_part.ensures.asks.once (no_part_about name event c.in_err-part.ensures.named);
+      stops = first_stops (form.PlanRead name c.args.far c.args.slot_count) (limited part_limit name) [] old new event refl c.read_part.ensures.asks.last c.read_part.ensures.asks.once (no_part_about name event c.in_err-part.ensures.named);
       asks = c.read_part.ensures.asks.once;
       stays = c.read_part.ensures.asks.stays;
     })
@@ -36,8 +36,8 @@ returns g c =
     record {
       caused = answers_by PartData Answer (name ∷ []) old new (λ t. part_known t name) part (PlannedRead name c.args.far c.args.slot_count) (result_by bytes_answer made) c.in_ok-part.ensures.caused
           (read_due name part c.args.far c.args.slot_count made c.readback_text.ensures.text c.readback_text.ensures.refused);
-      stops = result_stops bytes_answer (PlanningRead name c.args.far c.args.slot_count) old new made
-          (err_weaker made (λ r a. first_stops (PlanningRead name c.args.far c.args.slot_count) (limited part_limit name) [] old new
+      stops = result_stops bytes_answer (form.PlanRead name c.args.far c.args.slot_count) old new made
+          (err_weaker made (λ r a. first_stops (form.PlanRead name c.args.far c.args.slot_count) (limited part_limit name) [] old new
           (event_of r) refl c.read_part.ensures.asks.last c.read_part.ensures.asks.once a) c.readback_text.ensures.named);
       asks = c.read_part.ensures.asks.once;
       stays = c.read_part.ensures.asks.stays;
