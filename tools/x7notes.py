@@ -6,6 +6,7 @@ from typing import List, Optional
 
 import x7formats as x7
 from x7cause import DAMAGED, Cause
+from x7codes import codes_of
 from x7parts import DEVICE_BITS, SSI, bare, family_of, idcode_of_name, name_of_idcode
 from x7subject import Source, Subject
 from x7times import has_long_address, lines_of, opcode_of
@@ -56,7 +57,20 @@ def notes_of_source(source: Source, subject: Subject) -> List[str]:
             "writes the "
             f"IDCODE {idcode.word:08X}{named(idcode.word)}: the header is another stream's, or the word is damaged",
         )
-    return notes + notes_of_width(source, subject) + notes_of_copies(source, subject)
+    return notes + notes_of_width(source, subject) + notes_of_copies(source, subject) + notes_of_codes(source, subject)
+
+
+def notes_of_codes(source: Source, subject: Subject) -> List[str]:
+    """Where a few frames of a whole stream have another error correction code than their words, and most have not."""
+    codes = codes_of(source.data) if source.has_frames and source.is_whole else None
+    if codes is None or not codes.wrong or 2 * len(codes.wrong) > codes.held:
+        return []
+    return [
+        f"the error correction code of {len(codes.wrong)} of {codes.held} frames{of_name(source, subject)} isn't that "
+        f"of their words, first at byte {codes.wrong[0]}: frames that were changed, as by hand or after a readback. A "
+        f"device takes them, and its own readback check (POST_CRC, SEM) tells of errors: {x7.CALLED}frames mend makes "
+        "it anew",
+    ]
 
 
 def notes_of_copies(source: Source, subject: Subject) -> List[str]:

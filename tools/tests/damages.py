@@ -11,146 +11,15 @@ import io
 import lzma
 import random
 import re
-import struct
 import tarfile
 import zipfile
-from typing import Callable, Dict, Iterator, List, NamedTuple, Optional
+from typing import Callable, Iterator, List
 
 from casefiles import header  # (casefiles puts the tools on the path)
+from damaged import LOOSE, Damage, Good, cut_out, each_byte, exchanged_bits, exchanged_places, flip, put, put_in, row
+from damaged import with_codes
 import x7formats as x7
 import x7kinds
-from x7ecc import ecc_of, ecc_tables, with_ecc
-
-Files = List[bytes]
-
-
-class Damage(NamedTuple):
-    """A kind of damage."""
-
-    name: str  # what happened
-    files: Files  # what `why` is given, one after the other
-    right: str  # a pattern of what is right to say
-    status: int  # what `why` ends with
-    part: str  # a pattern of what is true and says less
-
-
-class Good:
-    """A whole stream with a header, and the places in its data."""
-
-    def __init__(self, raw: bytes) -> None:
-        stream = x7.stream_of(raw)
-        self.raw = raw  # the file
-        self.data = bytes(stream.data)  # without the header
-        self.head = raw[: len(raw) - len(self.data)]  # the header
-        writes = [it for it in x7.steps(self.data) if it.kind == "write" and it.present]
-        self.writes = writes  # the packets that write
-        frames = [it for it in writes if it.register == x7.FDRI]
-        self.frames = max(frames, key=lambda it: it.present)  # the longest packet of frame data
-        self.middle = self.frames.first + 4 * (self.frames.present // 2)  # a place of frame data
-        self.checks = [it.first for it in writes if it.register == x7.CRC]  # the words for CRC
-        self.sync = self.data.index(x7.SYNC)  # the sync word
-        self.desync = self.command("DESYNC")  # the word DESYNC
-        self.start = self.command("START")  # the word START
-
-    def command(self, name: str) -> int:
-        """The place of the last word of CMD that calls for a command."""
-        code = x7.CODES[name]
-        return max(it.first for it in self.writes if it.register == x7.CMD and x7.word_at(self.data, it.first) == code)
-
-    def word_of(self, register: int, number: int = 0) -> int:
-        """The place of a register's word, by the number of its write."""
-        return [it.first for it in self.writes if it.register == register][number]
-
-    def bit(self, data: bytes) -> bytes:
-        """Other data behind the header as it is."""
-        return self.head + data
-
-    def mended(self, data: bytes, places: Optional[List[int]] = None) -> bytes:
-        """The file of data whose checks are made anew."""
-        return self.head + x7.with_checks(data, self.checks if places is None else places)
-
-    def with_word(self, register: int, word: int, number: int = 0) -> bytes:
-        """The file with another word of a register, and its checks made anew."""
-        return self.mended(put(self.data, self.word_of(register, number), word))
-
-    def ctl0(self, word: int, is_last: bool = False) -> bytes:
-        """The file in which each write of CTL0 has another word, or that after the frames alone, its MASK all bits, and
-        its checks made anew."""
-        data = self.data
-        for it in self.writes:
-            if is_last and it.place < self.frames.place:
-                continue
-            data = put(data, it.first, word) if it.register == x7.CTL0 else data
-            data = put(data, it.first, 0xFFFFFFFF) if it.register == x7.MASK else data
-        return self.mended(data)
-
-    def last(self, register: int, word: int) -> bytes:
-        """The file in which a register has another word: in its own last write, or in one more."""
-        count = sum(it.register == register for it in self.writes)
-        return self.with_word(register, word, count - 1) if count else self.setting(register, word)
-
-    def setting(self, register: int, word: int) -> bytes:
-        """The file with one more write of a register before its first RCRC, the header's length made anew."""
-        at = self.sync + 8
-        data = self.data[:at] + x7.write_packet(register, [word]) + self.data[at:]
-        data = x7.with_checks(data, [it + 8 for it in self.checks])
-        return self.head[:-4] + len(data).to_bytes(4, "big") + data
-
-
-def coded(raw: bytes) -> Good:
-    """A stream with the error correction code in each of its frames, as the vendor's have it, and its checks anew."""
-    good = Good(raw)
-    data = good.data
-    for it in good.writes:
-        if it.register == x7.FDRI:
-            data = data[: it.first] + with_codes(data[it.first : it.end]) + data[it.end :]
-    return Good(good.mended(data))
-
-
-def put(data: bytes, place: int, word: int) -> bytes:
-    """The data with another word at a place."""
-    return data[:place] + word.to_bytes(4, "big") + data[place + 4 :]
-
-
-def flip(data: bytes, place: int, bit: int = 1) -> bytes:
-    """The data with one bit other in the byte at a place."""
-    return data[:place] + bytes([data[place] ^ bit]) + data[place + 1 :]
-
-
-def cut_out(data: bytes, place: int, count: int) -> bytes:
-    """The data without some bytes."""
-    return data[:place] + data[place + count :]
-
-
-def put_in(data: bytes, place: int, more: bytes) -> bytes:
-    """The data with more bytes at a place."""
-    return data[:place] + more + data[place:]
-
-
-def each_byte(data: bytes, change: Callable[[int], int]) -> bytes:
-    """The data with each byte changed."""
-    return data.translate(bytes(change(it) & 255 for it in range(256)))
-
-
-def exchanged_bits(byte: int, pairs: Dict[int, int]) -> int:
-    """A byte whose bits go to other places."""
-    return sum((byte >> bit & 1) << pairs.get(bit, bit) for bit in range(8))
-
-
-def row(name: str, files: Files, right: str, status: int = 1, part: str = "") -> Damage:
-    """A kind of damage of which it is said that something is wrong."""
-    return Damage(name, files, right, status, part)
-
-
-# What is true of lost and added words, and says less than their number.
-LOOSE = (
-    "words were lost or added|MFW was lost|asks for more words than there|a check fails|bytes were "
-    "(lost|added)|stands where a packet"
-)
-# What is said of bytes FF within a stream, of halves that were exchanged, and of streams of two devices.
-FF_WITHIN = r"bytes .*(are|is) (all )?FF|FF .*page|page.*FF"
-EXCHANGED = "exchanged|other order|wrong order|begins at byte"
-TWO_DEVICES = "two devices|different devices|second (header|stream)"
 
 
 def cuts(g: Good) -> List[Damage]:
@@ -264,7 +133,7 @@ def doubled_ff(g: Good) -> Damage:
 def bits(g: Good) -> List[Damage]:
     """A word, or a bit of one, is another one."""
     idcode, far = g.word_of(x7.IDCODE), g.word_of(x7.FAR)
-    rows = [
+    return [
         row("a bit of a frame", [g.bit(flip(g.data, g.middle))], "a check fails"),
         row("a bit of a frame, no header", [flip(g.data, g.middle)], "a check fails"),
         row("a bit of the check", [g.bit(flip(g.data, g.checks[0]))], "a check fails"),
@@ -279,7 +148,7 @@ def bits(g: Good) -> List[Damage]:
         row("a large bit of FDRI's count", [g.bit(flip(g.data, g.frames.place + 2, 2))], "its count|cut off|words "
                                                                                          "were lost or added|count "
                                                                                          "is damaged"),
-        row("a word of 00 in the frames", [g.bit(put(g.data, g.middle // 4 * 4, 0x5A5A5A5A))], "a check fails"),
+        row("a word of the frames", [g.bit(put(g.data, g.middle // 4 * 4, 0x5A5A5A5A))], "a check fails"),
         row(
             "the check 0000DEFC",
             [g.bit(put(put(g.data, g.checks[0], 0xDEFC), g.checks[-1], 0xDEFC))],
@@ -300,7 +169,6 @@ def bits(g: Good) -> List[Damage]:
         row("a false sync word in front", [g.bit(b"\x12" + x7.SYNC + b"\x55" * 6 + g.data)], "isn't the stream's own"),
         row("a false sync word in front, no header", [x7.SYNC + b"\x30\x01" + g.data], "isn't the stream's own"),
     ]
-    return rows
 
 
 def turned(g: Good) -> List[Damage]:
@@ -395,16 +263,6 @@ def address_lines(g: Good) -> List[Damage]:
             right = f"bits {one} and {other} of each byte's address are exchanged"
             found.append(row(f"address lines {one} and {other} exchanged", [moved], right))
     return found
-
-
-def exchanged_places(data: bytes, one: int, other: int) -> bytes:
-    """The data with two bits of each byte's place exchanged."""
-    both, moved = 1 << one | 1 << other, bytearray(data)
-    step = 1 << one
-    for place in range(0, len(data), step):
-        if (place >> one ^ place >> other) & 1:
-            moved[place : place + step] = data[place ^ both : (place ^ both) + step]
-    return bytes(moved)
 
 
 def flashes(g: Good, other: Good) -> List[Damage]:
@@ -503,13 +361,6 @@ def readbacks(g: Good) -> List[Damage]:
     ]
 
 
-def with_codes(frames: bytes) -> bytes:
-    """Frames with the error correction code of each."""
-    tables = ecc_tables()
-    parts = (frames[at : at + 404] for at in range(0, len(frames), 404))
-    return b"".join(with_ecc(it, ecc_of(it, tables)) if any(it) and len(it) == 404 else it for it in parts)
-
-
 def packed(g: Good) -> List[Damage]:
     """Files that hold a stream in another form, and files of other kinds."""
     return [*compressed(g), *as_text(g), *of_others(g)]
@@ -530,8 +381,8 @@ def compressed(g: Good) -> List[Damage]:
         row("xz", [lzma.compress(g.raw)], "xz"),
         row("lzma", [lzma.compress(g.raw, lzma.FORMAT_ALONE)], "lzma"),
         row("bzip2", [bz2.compress(g.raw)], "bzip2"),
-        row("zip", [zip_of(g.raw)], "zip"),
-        row("tar", [tar_of(g.raw)], r"\btar\b"),
+        row("zip", [zipped.getvalue()], "zip"),
+        row("tar", [tarred.getvalue()], r"\btar\b"),
         row("7z", [b"7z\xbc\xaf\x27\x1c" + gzip.compress(g.raw)], "7z"),
         row("zstd", [b"\x28\xb5\x2f\xfd" + gzip.compress(g.raw)], "zstd"),
         row("lz4", [b"\x04\x22\x4d\x18" + gzip.compress(g.raw)], "lz4"),
@@ -578,43 +429,6 @@ def of_others(g: Good) -> List[Damage]:
     ]
 
 
-def zip_of(raw: bytes) -> bytes:
-    """A zip file of one file."""
-    zipped = io.BytesIO()
-    with zipfile.ZipFile(zipped, "w") as file:
-        file.writestr("design.bit", raw)
-    return zipped.getvalue()
-
-
-def tar_of(raw: bytes) -> bytes:
-    """A tar file of one file."""
-    tarred = io.BytesIO()
-    with tarfile.open(fileobj=tarred, mode="w") as tar:
-        info = tarfile.TarInfo("design.bit")
-        info.size = len(raw)
-        tar.addfile(info, io.BytesIO(raw))
-    return tarred.getvalue()
-
-
-def rbt_of(data: bytes) -> bytes:
-    """The first bytes of data as a .rbt file, whose line `Bits:` tells of all."""
-    lines = (f"{it:032b}\n" for it in x7.words_of(data[:4096]))
-    return f"Xilinx ASCII Bitstream\nBits: {8 * len(data)}\n{''.join(lines)}".encode()
-
-
-def uuencode_of(raw: bytes) -> bytes:
-    """The first bytes of a file as uuencode writes them."""
-    lines = (binascii.b2a_uu(raw[at : at + 45]) for at in range(0, 4500, 45))
-    return b"begin 644 design.bit\n" + b"".join(lines)
-
-
-def c_array_of(raw: bytes) -> bytes:
-    """The first bytes of a file as an array in C."""
-    rows = (", ".join(f"0x{it:02x}" for it in raw[at : at + 12]) for at in range(0, 1200, 12))
-    body = ",\n".join(f"  {it}" for it in rows)
-    return f"const unsigned char design[] = {{\n{body}}};\n".encode()
-
-
 def intel_hex(data: bytes) -> bytes:
     """The first bytes of data as Intel HEX."""
     lines = [":020000040000FA"]
@@ -656,21 +470,6 @@ def dump_rows(data: bytes, width: int = 16) -> List[bytes]:
 def ascii_of(part: bytes) -> str:
     """Bytes as a dump shows them."""
     return "".join(chr(it) if 32 <= it < 127 else "." for it in part)
-
-
-def dump(data: bytes, form: Callable[[int, bytes], str], width: int = 16) -> bytes:
-    """The first bytes of data in rows, each written by its place and its bytes."""
-    return "".join(f"{form(width * at, part)}\n" for at, part in enumerate(dump_rows(data, width))).encode()
-
-
-def halves(part: bytes, order: str, form: str) -> str:
-    """The halfwords of a row with blanks between, in the order `>` or `<` of their bytes."""
-    return " ".join(format(it, form) for it in struct.unpack(f"{order}8H", part))
-
-
-def words(part: bytes, order: str, form: str) -> str:
-    """The words of a row with blanks between, in the order `>` or `<` of their bytes."""
-    return " ".join(format(it, form) for it in struct.unpack(f"{order}4I", part))
 
 
 def dumps(g: Good) -> List[Damage]:
@@ -789,6 +588,10 @@ def settings(g: Good) -> List[Damage]:
         row("BSPI of four lines", [g.last(31, 0x26B)], "BSPI 0000026B.: all 4 data lines", 0),
         row("no check", [no_checks(g)], "no write to CRC", 0),
     ]
+    frames = [at for at in range(g.frames.first, g.frames.end, 404) if any(g.data[at : at + 404])]
+    if len(frames) > 2:
+        edited = g.mended(flip(g.data, frames[1] + 40))
+        found.append(row("a frame edited, its code kept", [edited], "note: the error correction code of 1 of", 0))
     if width >= 0:
         found.append(row(
             "no bus width pattern",

@@ -11,6 +11,7 @@ from typing import List, Optional, Tuple
 
 from calls import called
 from casefiles import Tally, put_file
+import damaged
 import damages
 import streams as s
 import x7address
@@ -21,8 +22,8 @@ import x7pins
 from x7damage import plays
 
 TALLY = Tally()
-GOOD = damages.coded(s.bit(s.full()))
-SMALL = damages.coded(s.bit(s.compressed()))
+GOOD = damaged.coded(s.bit(s.full()))
+SMALL = damaged.coded(s.bit(s.compressed()))
 
 
 def said(folder: str, raw: bytes, *words: str) -> Tuple[int, str]:
@@ -54,8 +55,8 @@ def quick_ways() -> None:
         wanted = x7.fold(check, x7.FDRI, x7.words_of(data[first:end]))
         TALLY.same("a long write", x7.fold_many(check, x7.FDRI, data, first, end), wanted)
     for good in (GOOD, SMALL):
-        damaged = damages.flip(good.data, good.middle)
-        for data in (good.data, damaged, good.data[: good.middle + 3], b"\1\2\3" + good.data, b"\xff" * 999):
+        other = damaged.flip(good.data, good.middle)
+        for data in (good.data, other, good.data[: good.middle + 3], b"\1\2\3" + good.data, b"\xff" * 999):
             stream = x7.Stream(x7.header_of(good.raw), data)
             for place in [*range(1, 90), *(take.randrange(len(data)) for _ in range(60)), len(data), len(data) + 9]:
                 TALLY.same(f"the line at {place}", x7.line_at(stream, place), plain_line(stream, place))
@@ -66,7 +67,7 @@ def orders() -> None:
     take = random.Random(5)
     every = list(itertools.permutations(range(8)))
     for order in [(3, 1, 2, 7, 4, 5, 6, 0), *take.sample(every, 60)]:
-        moved = damages.each_byte(SMALL.data, lambda it: damages.exchanged_bits(it, dict(enumerate(order))))
+        moved = damaged.each_byte(SMALL.data, lambda it: damaged.exchanged_bits(it, dict(enumerate(order))))
         back = x7pins.order_table(list(order))
         TALLY.check(f"order {order} is put back", moved.translate(back) == SMALL.data)
         found = x7pins.exchanged(moved, plays)
@@ -75,8 +76,8 @@ def orders() -> None:
     TALLY.same("the sync word has 16 orders", len(x7pins.sync_orders(x7.SYNC)), 16)
     TALLY.same("other bytes have none", x7pins.sync_orders(b"\x01\x02\x03\x04"), [])
     TALLY.same("a good stream", x7pins.exchanged(SMALL.data, plays), None)
-    broken = damages.flip(SMALL.data, SMALL.middle)
-    moved = damages.each_byte(broken, lambda it: damages.exchanged_bits(it, {0: 3, 3: 0, 4: 6, 6: 4}))
+    broken = damaged.flip(SMALL.data, SMALL.middle)
+    moved = damaged.each_byte(broken, lambda it: damaged.exchanged_bits(it, {0: 3, 3: 0, 4: 6, 6: 4}))
     wires = x7pins.exchanged(moved, plays)
     text = wires.text if wires else ""
     TALLY.check("damaged besides", "which is unknown" in text or "0 comes as bit 3" in text, text)
@@ -86,13 +87,13 @@ def addresses() -> None:
     """Each pair of address lines, exchanged, is put back by exchanging it, and told."""
     data = random.Random(9).randbytes(4096)
     for one, other in itertools.combinations(range(12), 2):
-        wanted = damages.exchanged_places(data, one, other)
+        wanted = damaged.exchanged_places(data, one, other)
         TALLY.same(f"lines {one} and {other}", x7address.exchanged_places(data, one, other), wanted)
         prefix = x7address.exchanged_prefix(data, one, other)
         TALLY.same(f"the prefix of {one} and {other}", prefix, wanted[: x7address.PREFIX])
     TALLY.same("no whole flash", x7address.exchanged_lines(GOOD.data, plays), None)
     flash = GOOD.data.ljust(1 << 14, b"\xff")
-    TALLY.same("none is exchanged", x7address.exchanged_lines(damages.flip(flash, GOOD.middle), plays), None)
+    TALLY.same("none is exchanged", x7address.exchanged_lines(damaged.flip(flash, GOOD.middle), plays), None)
 
 
 def line_ends(folder: str) -> None:
@@ -102,7 +103,7 @@ def line_ends(folder: str) -> None:
         TALLY.check(f"{name} has 0D 0A", plays(ended) and ended.count(b"\r\n") == 3)
         TALLY.same(name, x7lineends.with_line_ends(ended.replace(b"\r\n", b"\n"), plays), ended)
         TALLY.same(f"{name} as it is", x7lineends.with_line_ends(ended, plays), None)
-        lost = damages.cut_out(good.data, good.middle, 1)
+        lost = damaged.cut_out(good.data, good.middle, 1)
         TALLY.same(f"{name}, another byte lost", x7lineends.with_line_ends(lost, plays), None)
         status, text = said(folder, good.bit(lost))
         TALLY.check(f"{name}, what is said of it", status == 1 and "0D 0A" not in text, text)
@@ -112,16 +113,16 @@ def codes(folder: str) -> None:
     """The codes of frames name the frame that is damaged, also two; and say nothing where there are none."""
     held = x7codes.frames_of(GOOD.data)
     TALLY.check("every frame is right", held and all(it.is_right and it.has_code for it in held))
-    damaged = damages.flip(damages.flip(GOOD.data, held[2].place + 40), held[5].place + 7)
-    found = x7codes.codes_of(damaged)
+    broken = damaged.flip(damaged.flip(GOOD.data, held[2].place + 40), held[5].place + 7)
+    found = x7codes.codes_of(broken)
     TALLY.same("two are wrong", found and found.wrong, [held[2].place, held[5].place])
-    status, text = said(folder, GOOD.bit(damaged))
+    status, text = said(folder, GOOD.bit(broken))
     where = ", ".join(f"{it.place} to {it.place + 403}" for it in (held[2], held[5]))
     TALLY.check("two are named", status == 1 and f"2 of {len(held)} frames, at bytes {where}" in text, text)
-    status, text = said(folder, GOOD.bit(damages.flip(GOOD.data, GOOD.checks[0])))
+    status, text = said(folder, GOOD.bit(damaged.flip(GOOD.data, GOOD.checks[0])))
     TALLY.check("a damaged check", f"before it that hold something: {len(held)}, each with the" in text, text)
     without = s.bit(s.full())
-    status, text = said(folder, damages.flip(without, len(without) // 2))
+    status, text = said(folder, damaged.flip(without, len(without) // 2))
     TALLY.check("frames without codes", "none with the" in text and "which is unknown" in text, text)
     zeros = s.data_of([*s.HEAD, *s.order("RCRC")])
     TALLY.same("no frames", x7codes.codes_of(zeros), None)
@@ -130,7 +131,7 @@ def codes(folder: str) -> None:
 def readbacks() -> None:
     """Frames alone are known by their codes, and random bytes are not."""
     take = random.Random(1)
-    frames = damages.with_codes(bytes(404) + take.randbytes(404 * 9) + bytes(808))
+    frames = damaged.with_codes(bytes(404) + take.randbytes(404 * 9) + bytes(808))
     TALLY.same("a readback", x7codes.frames_alone(frames), x7codes.Alone(0, 9, None))
     changed = frames[:900] + b"\x5a" + frames[901:]
     TALLY.same("one frame has changed", x7codes.frames_alone(changed), x7codes.Alone(0, 8, None))

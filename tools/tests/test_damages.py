@@ -19,7 +19,8 @@ from typing import Dict, List
 
 from casefiles import Tally, put_file
 from calls import called
-from damages import Damage, Good, all_of, coded, judged
+from damaged import Damage, Good, coded
+from damages import all_of, judged
 import streams as s
 
 # The kinds of which `why` knows less: that something is wrong, and that what happened is unknown.

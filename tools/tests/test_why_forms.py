@@ -9,7 +9,7 @@ import tempfile
 from typing import List
 
 from calls import called, program
-from damages import Good
+from damaged import Good
 import streams as s
 import x7formats as x7
 from x7asked import unarmed
