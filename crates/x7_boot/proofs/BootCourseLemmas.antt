@@ -17,7 +17,7 @@ use Rattle.x7_engine.specs.declared.fault.Fault.TheVariants as fault
 use Rattle.x7_engine.specs.declared.kept.Kept.{Kept}
 use Rattle.x7_engine.specs.declared.stop.StopCause.{StopCause}
 use Rattle.x7_engine.specs.declared.stop.StopCause.TheVariants as stop
-use Rattle.x7_boot.specs.Attempt.{IsFlashAttempt, NoneBefore, AttemptCourse, ending_at, ending_by, failed_by}
+use Rattle.x7_boot.specs.Attempt.{IsFlashAttempt, NoneBefore, BootAttempt, ending_at, ending_by, failed_by}
 use Rattle.x7_regs.specs.Control.{forbids_fallback}
 use Rattle.x7_boot.specs.Boot.{BootedState, IsBoot, LeadsToEnd, end_state, next_by, tried}
 use Rattle.x7_boot.specs.BootCourse.{BootCourse, IsCourse, course_along, course_of}
@@ -36,15 +36,15 @@ pub boot_course : (part : PartData) (flash : List ℕ) (b : BootedState) → (bo
 boot_course part flash b boot = record { older = boot.older; leads = boot.leads; attempts_are = boot.attempts }
 
 -- where attempts lead to an end, a course is along these
-pub along : (part : PartData) (flash : List ℕ) (c : BootCourse) (last : AttemptCourse) (older : List AttemptCourse) (end : BootEnd) → IsCourse part flash c → LeadsToEnd part flash (last ∷ older) end → c ≡ course_along last older end
+pub along : (part : PartData) (flash : List ℕ) (c : BootCourse) (last : BootAttempt) (older : List BootAttempt) (end : BootEnd) → IsCourse part flash c → LeadsToEnd part flash (last ∷ older) end → c ≡ course_along last older end
 along part flash c last older end course leads =
     let same : (c.last ∷ course.older ≡ last ∷ older) × (c.end ≡ end) = one_chain part flash (c.last ∷ course.older) (last ∷ older) c.end end course.leads leads in
-    ap (λ (l : List Tried). record { attempts = l; end = c.end; last = c.last }) (course.attempts_are ∙ ap (λ (l : List AttemptCourse). reverse (map tried l)) same.0)
+    ap (λ (l : List Tried). record { attempts = l; end = c.end; last = c.last }) (course.attempts_are ∙ ap (λ (l : List BootAttempt). reverse (map tried l)) same.0)
     ∙ ap (λ (e : BootEnd). record { attempts = reverse (map tried (last ∷ older)); end = e; last = c.last }) same.1
-    ∙ ap (λ (t : AttemptCourse). record { attempts = reverse (map tried (last ∷ older)); end = end; last = t }) (first_is c.last last course.older older same.0)
+    ∙ ap (λ (t : BootAttempt). record { attempts = reverse (map tried (last ∷ older)); end = end; last = t }) (first_is c.last last course.older older same.0)
 
 -- how an attempt is reported
-pub tried_is : (t : AttemptCourse) (kind : Kind) (address : ℕ) (e : Ending) → t.kept.kind ≡ kind → t.address ≡ address → t.ending ≡ e → tried t ≡ record { kind = kind; address = address; ending = e }
+pub tried_is : (t : BootAttempt) (kind : Kind) (address : ℕ) (e : Ending) → t.kept.kind ≡ kind → t.address ≡ address → t.ending ≡ e → tried t ≡ record { kind = kind; address = address; ending = e }
 tried_is t kind address e k a ends =
     ap (λ (x : Kind). record { kind = x; address = t.address; ending = t.ending }) k
     ∙ ap (λ (x : ℕ). record { kind = kind; address = x; ending = t.ending }) a
@@ -93,7 +93,7 @@ never_ends part kept from n none = elim (cases_lt n (suc (length from))) [
       ap (ending_at part kept) same ∙ none (length from) (omega arith))
 ]
 
-pub cause_is : (part : PartData) (flash : List ℕ) (t : AttemptCourse) (cause : Cause) → IsFlashAttempt part flash t → t.ending ≡ ending.Failed cause → failure_of (fault_of_stop (why_stopped (first_stop_of_bytes part t.kept t.bytes))) t.wrapped ≡ Some cause
+pub cause_is : (part : PartData) (flash : List ℕ) (t : BootAttempt) (cause : Cause) → IsFlashAttempt part flash t → t.ending ≡ ending.Failed cause → failure_of (fault_of_stop (why_stopped (first_stop_of_bytes part t.kept t.bytes))) t.wrapped ≡ Some cause
 cause_is part flash t cause (inl first) e =
     let why : Option StopCause = why_stopped (first_stop_of_bytes part t.kept t.bytes) in
     let ends : ending_by why ≡ Some (ending.Failed cause) = not_started ((state_of part t.kept false t.bytes).phase == 7) (ending_by why) cause (first.ends ∙ ap Some e) in
@@ -106,11 +106,11 @@ cause_is part flash t cause (inr out) e =
     ap (failure_of (fault_of_stop why)) out.past_end ∙ wrapped_by (fault_of_stop why) (no_cause why not_ended) ∙ some_failed Wrap cause (sym out.failed ∙ e)
 
 -- a fallback follows an attempt that failed, where that is none itself and CTL0 allows it; else the boot stops
-pub fallback_next : (part : PartData) (number : ℕ) (t : AttemptCourse) (cause : Cause) → is_fallback t.kept.kind ≡ false → forbids_fallback (end_state part t).ctl0 ≡ false
+pub fallback_next : (part : PartData) (number : ℕ) (t : BootAttempt) (cause : Cause) → is_fallback t.kept.kind ≡ false → forbids_fallback (end_state part t).ctl0 ≡ false
     → next_by part number t (ending.Failed cause) ≡ Again (kept_after part t.kept t.wrapped t.bytes Fallback) 0
 fallback_next part number t cause first allowed =
     ap (λ (b : Bool). if b then Ends boot_end.Stopped else Again (kept_after part t.kept t.wrapped t.bytes Fallback) 0) (or_from (is_fallback t.kept.kind) (forbids_fallback (end_state part t).ctl0) first allowed)
 
-pub stops_next : (part : PartData) (number : ℕ) (t : AttemptCourse) (cause : Cause) → forbids_fallback (end_state part t).ctl0 ≡ true → next_by part number t (ending.Failed cause) ≡ Ends boot_end.Stopped
+pub stops_next : (part : PartData) (number : ℕ) (t : BootAttempt) (cause : Cause) → forbids_fallback (end_state part t).ctl0 ≡ true → next_by part number t (ending.Failed cause) ≡ Ends boot_end.Stopped
 stops_next part number t cause forbidden =
     ap (λ (b : Bool). if b then Ends boot_end.Stopped else Again (kept_after part t.kept t.wrapped t.bytes Fallback) 0) (or_right (is_fallback t.kept.kind) (forbids_fallback (end_state part t).ctl0) forbidden)

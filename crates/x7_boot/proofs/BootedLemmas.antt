@@ -9,7 +9,7 @@ use Rattle.x7_regs.specs.declared.boot_status.Kind.{Kind}
 use Rattle.x7_engine.specs.Kept.{is_fallback}
 use Rattle.x7_engine.specs.Standing.{DeviceState}
 use Rattle.x7_engine.specs.declared.kept.Kept.{Kept}
-use Rattle.x7_boot.specs.Attempt.{IsDeviceOf, AttemptCourse, AttemptEnds, AttemptStart, TakesByte, attempt_at}
+use Rattle.x7_boot.specs.Attempt.{IsDeviceOf, BootAttempt, AttemptEnds, AttemptStart, TakesByte, attempt_at}
 use Rattle.x7_boot.specs.Boot.{BootedState, BootsTo, IsBoot, HasLedTo, IsTakenFrom, BootTakesByte, LeadsTo, ReadsInAttempt, ReadsInAttempts, ReadsInBoot, most_iprogs, next_by, tried}
 use Rattle.x7_boot.specs.Reads.{FlashAnswers, HasCalled, IfAgrees, IsSince, answers_since}
 use Rattle.x7_boot.specs.declared.attempt.Ending.{Ending}
@@ -20,24 +20,24 @@ use Rattle.x7_boot.specs.declared.next.Next.{Next}
 use Rattle.x7_boot.specs.declared.next.Next.TheVariants.{Again, Ends}
 use Rattle.x7_boot.proofs.ReadLemmas.{IsLater, attempts_later, called_on, called_with, known_agrees, later_on, pages_with}
 
-one_more : (older : List AttemptCourse) (t : AttemptCourse) (attempts : List Tried) (next : Tried) → attempts ≡ reverse (map tried older) → next ≡ tried t → attempts ++ next ∷ [] ≡ reverse (map tried (t ∷ older))
+one_more : (older : List BootAttempt) (t : BootAttempt) (attempts : List Tried) (next : Tried) → attempts ≡ reverse (map tried older) → next ≡ tried t → attempts ++ next ∷ [] ≡ reverse (map tried (t ∷ older))
 one_more older t attempts next e f =
     ap (λ (a : List Tried). a ++ next ∷ []) e ∙ ap (λ (x : Tried). reverse (map tried older) ++ x ∷ []) f ∙ sym (reverse-append (tried t ∷ []) (map tried older))
 
-tried_is : (part : PartData) (kept : Kept) (address : ℕ) (all : List ℕ) (d : DeviceState) (ending : Ending) (tries : AttemptEnds (attempt_at part kept address) all d ending) → record { kind = kept.kind; address = address; ending = ending } ≡ tried tries.course
+tried_is : (part : PartData) (kept : Kept) (address : ℕ) (all : List ℕ) (d : DeviceState) (ending : Ending) (tries : AttemptEnds (attempt_at part kept address) all d ending) → record { kind = kept.kind; address = address; ending = ending } ≡ tried tries.attempt
 tried_is part kept address all d ending tries =
-    let e : tries.course.kept ≡ kept = tries.kept_is in
-    let f : tries.course.address ≡ address = tries.address_is in
-    let g : tries.course.ending ≡ ending = tries.ending_is in
-    sym (ap (λ (k : Kept). record { kind = k.kind; address = tries.course.address; ending = tries.course.ending }) e
-    ∙ ap (λ (n : ℕ). record { kind = kept.kind; address = n; ending = tries.course.ending }) f
+    let e : tries.attempt.kept ≡ kept = tries.kept_is in
+    let f : tries.attempt.address ≡ address = tries.address_is in
+    let g : tries.attempt.ending ≡ ending = tries.ending_is in
+    sym (ap (λ (k : Kept). record { kind = k.kind; address = tries.attempt.address; ending = tries.attempt.ending }) e
+    ∙ ap (λ (n : ℕ). record { kind = kept.kind; address = n; ending = tries.attempt.ending }) f
     ∙ ap (λ (n : Ending). record { kind = kept.kind; address = address; ending = n }) g)
 
 -- the attempts with one more, by the table
 leads_on : (part : PartData) (kept : Kept) (address : ℕ) (all : List ℕ) (d : DeviceState) (ending : Ending) (attempts : List Tried) (number : ℕ) (next : Next) (led : HasLedTo (attempt_at part kept address) all attempts number) (tries : AttemptEnds (attempt_at part kept address) all d ending)
-    → ((t : AttemptCourse) → IsDeviceOf part d t → t.kept.kind ≡ kept.kind → next ≡ next_by part (number + 1) t ending) → LeadsTo part all (tries.course ∷ led.older) next
+    → ((t : BootAttempt) → IsDeviceOf part d t → t.kept.kind ≡ kept.kind → next ≡ next_by part (number + 1) t ending) → LeadsTo part all (tries.attempt ∷ led.older) next
 leads_on part kept address all d ending attempts number next led tries table =
-    let t : AttemptCourse = tries.course in
+    let t : BootAttempt = tries.attempt in
     let e : t.kept ≡ kept = tries.kept_is in
     let f : t.address ≡ address = tries.address_is in
     let g : t.ending ≡ ending = tries.ending_is in
@@ -50,23 +50,23 @@ leads_on part kept address all d ending attempts number next led tries table =
 
 pub led_on : (part : PartData) (kept kept_now : Kept) (address address_now : ℕ) (all : List ℕ) (d : DeviceState) (ending : Ending) (attempts : List Tried) (number : ℕ) (next : Next)
     → HasLedTo (attempt_at part kept address) all attempts number → AttemptEnds (attempt_at part kept address) all d ending
-    → ((t : AttemptCourse) → IsDeviceOf part d t → t.kept.kind ≡ kept.kind → next ≡ next_by part (number + 1) t ending) → next ≡ Again kept_now address_now
+    → ((t : BootAttempt) → IsDeviceOf part d t → t.kept.kind ≡ kept.kind → next ≡ next_by part (number + 1) t ending) → next ≡ Again kept_now address_now
     → HasLedTo (attempt_at part kept_now address_now) all (attempts ++ record { kind = kept.kind; address = address; ending = ending } ∷ []) (number + 1)
 led_on part kept kept_now address address_now all d ending attempts number next led tries table is = record {
-  older = tries.course ∷ led.older;
-  leads = subst (λ (n : Next). LeadsTo part all (tries.course ∷ led.older) n) is (leads_on part kept address all d ending attempts number next led tries table);
-  tried_are = one_more led.older tries.course attempts _ led.tried_are (tried_is part kept address all d ending tries);
+  older = tries.attempt ∷ led.older;
+  leads = subst (λ (n : Next). LeadsTo part all (tries.attempt ∷ led.older) n) is (leads_on part kept address all d ending attempts number next led tries table);
+  tried_are = one_more led.older tries.attempt attempts _ led.tried_are (tried_is part kept address all d ending tries);
   count = let c : length led.older ≡ number = led.count in omega (arith, c);
 }
 
 pub led_ends : (part : PartData) (kept : Kept) (address : ℕ) (all : List ℕ) (d : DeviceState) (ending : Ending) (attempts : List Tried) (number : ℕ) (next : Next) (end : BootEnd) → HasLedTo (attempt_at part kept address) all attempts number → AttemptEnds (attempt_at part kept address) all d ending
-    → ((t : AttemptCourse) → IsDeviceOf part d t → t.kept.kind ≡ kept.kind → next ≡ next_by part (number + 1) t ending) → next ≡ Ends end
+    → ((t : BootAttempt) → IsDeviceOf part d t → t.kept.kind ≡ kept.kind → next ≡ next_by part (number + 1) t ending) → next ≡ Ends end
     → IsBoot part all (record { attempts = attempts ++ record { kind = kept.kind; address = address; ending = ending } ∷ []; end = end; device = d })
 led_ends part kept address all d ending attempts number next end led tries table is = record {
-  last = tries.course;
+  last = tries.attempt;
   older = led.older;
-  leads = subst (λ (n : Next). LeadsTo part all (tries.course ∷ led.older) n) is (leads_on part kept address all d ending attempts number next led tries table);
-  attempts = one_more led.older tries.course attempts _ led.tried_are (tried_is part kept address all d ending tries);
+  leads = subst (λ (n : Next). LeadsTo part all (tries.attempt ∷ led.older) n) is (leads_on part kept address all d ending attempts number next led tries table);
+  attempts = one_more led.older tries.attempt attempts _ led.tried_are (tried_is part kept address all d ending tries);
   device = tries.device;
 }
 
@@ -74,7 +74,7 @@ led_ends part kept address all d ending attempts number next end led tries table
 
 -- what the table says of the attempt that left this device
 abbrev pub ByTable : DeviceState → Kept → ℕ → Ending → Next → Type 0
-ByTable d kept number ending next = (part : PartData) (t : AttemptCourse) → IsDeviceOf part d t → t.kept.kind ≡ kept.kind → next ≡ next_by part number t ending
+ByTable d kept number ending next = (part : PartData) (t : BootAttempt) → IsDeviceOf part d t → t.kept.kind ≡ kept.kind → next ≡ next_by part number t ending
 
 -- an attempt as it is reported
 abbrev pub known_as : Kept → ℕ → Ending → Tried

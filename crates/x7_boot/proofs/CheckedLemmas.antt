@@ -13,7 +13,7 @@ use Rattle.x7_engine.specs.declared.stop.StopCause.{StopCause}
 use Rattle.x7_engine.specs.declared.stop.StopCause.TheVariants as stop
 use Rattle.x7_engine.proofs.CheckedLemmas.{check_equals, idcode_matches, none_before, phase_started}
 use Rattle.x7_regs.specs.declared.boot_status.Cause.{Cause}
-use Rattle.x7_boot.specs.Attempt.{IsFlashAttempt, AttemptCourse, ending_at, ending_by, failed_by}
+use Rattle.x7_boot.specs.Attempt.{IsFlashAttempt, BootAttempt, ending_at, ending_by, failed_by}
 use Rattle.x7_regs.specs.Control.{forbids_fallback}
 use Rattle.x7_boot.specs.Boot.{LeadsToEnd, end_state, next_by}
 use Rattle.x7_boot.specs.Checked.{HasChecked}
@@ -49,7 +49,7 @@ checked part kept wrapped bytes fits late = record {
 }
 
 -- the bytes of an attempt are those of the flash
-attempt_fits : (part : PartData) (flash : List ℕ) (t : AttemptCourse) → AreBytes flash → IsFlashAttempt part flash t → AreBytes t.bytes
+attempt_fits : (part : PartData) (flash : List ℕ) (t : BootAttempt) → AreBytes flash → IsFlashAttempt part flash t → AreBytes t.bytes
 attempt_fits part flash t fits is = by is
   where
     after : AreBytes (drop t.address flash)
@@ -59,10 +59,10 @@ attempt_fits part flash t fits is = by is
     by (inl first) = all_prefix (λ b. b < 256) t.bytes first.rest (subst AreBytes first.taken after)
     by (inr out) = subst AreBytes (sym out.taken) (all_take (λ b. b < 256) (taken_of part t.kept (drop t.address flash)) (drop t.address flash) after)
 
-pub attempt_checked : (part : PartData) (flash : List ℕ) (t : AttemptCourse) → AreBytes flash → IsFlashAttempt part flash t → 0 < (end_state part t).phase → HasChecked part t.kept t.bytes
+pub attempt_checked : (part : PartData) (flash : List ℕ) (t : BootAttempt) → AreBytes flash → IsFlashAttempt part flash t → 0 < (end_state part t).phase → HasChecked part t.kept t.bytes
 attempt_checked part flash t fits is late = checked part t.kept t.wrapped t.bytes (attempt_fits part flash t fits is) late
 
-pub start_checked : (part : PartData) (flash : List ℕ) (t : AttemptCourse) → AreBytes flash → IsFlashAttempt part flash t → t.ending ≡ ending.Started → HasChecked part t.kept t.bytes
+pub start_checked : (part : PartData) (flash : List ℕ) (t : BootAttempt) → AreBytes flash → IsFlashAttempt part flash t → t.ending ≡ ending.Started → HasChecked part t.kept t.bytes
 start_checked part flash t fits (inl first) is =
     checked part t.kept false t.bytes (attempt_fits part flash t fits (inl first)) (started_late part t.kept t.bytes (first.ends ∙ ap Some is))
 start_checked part flash t fits (inr out) is = let failed : t.ending ≡ ending.Failed _ = out.failed in absurd (cc)
@@ -77,11 +77,11 @@ failed_ends : (b : Bool) (kept : Kept) (address : ℕ) → Ends boot_end.Started
 failed_ends true kept address e = absurd (cc)
 failed_ends false kept address e = absurd (cc)
 
-started_by : (part : PartData) (number : ℕ) (t : AttemptCourse) (e : Ending) → Ends boot_end.Started ≡ next_by part number t e → e ≡ ending.Started
+started_by : (part : PartData) (number : ℕ) (t : BootAttempt) (e : Ending) → Ends boot_end.Started ≡ next_by part number t e → e ≡ ending.Started
 started_by part number t ending.Started h = refl
 started_by part number t ending.Iprog h = absurd (iprog_ends (nat_le 16 number) _ _ h)
 started_by part number t (ending.Failed cause) h = absurd (failed_ends (is_fallback t.kept.kind || forbids_fallback (end_state part t).ctl0) _ _ h)
 
-pub last_checked : (part : PartData) (flash : List ℕ) (last : AttemptCourse) (older : List AttemptCourse) (end : BootEnd) → AreBytes flash → LeadsToEnd part flash (last ∷ older) end → end ≡ boot_end.Started → HasChecked part last.kept last.bytes
+pub last_checked : (part : PartData) (flash : List ℕ) (last : BootAttempt) (older : List BootAttempt) (end : BootEnd) → AreBytes flash → LeadsToEnd part flash (last ∷ older) end → end ≡ boot_end.Started → HasChecked part last.kept last.bytes
 last_checked part flash last older end fits leads is =
     start_checked part flash last fits leads.1 (started_by part (length older + 1) last last.ending (sym (ap Ends is) ∙ leads.2))

@@ -9,7 +9,7 @@ use Rattle.x7_regs.specs.declared.boot_status.Cause.TheVariants.{Wrap}
 use Rattle.x7_engine.specs.Kept.{is_fallback}
 use Rattle.x7_engine.specs.State.{taken_of}
 use Rattle.x7_engine.specs.declared.kept.Kept.{Kept}
-use Rattle.x7_boot.specs.Attempt.{IsFlashAttempt, AttemptCourse, ending_at}
+use Rattle.x7_boot.specs.Attempt.{IsFlashAttempt, BootAttempt, ending_at}
 use Rattle.x7_regs.specs.Control.{forbids_fallback}
 use Rattle.x7_boot.specs.Boot.{HasBoot, LeadsTo, at_power, end_state, next_by}
 use Rattle.x7_boot.specs.declared.attempt.Ending.{Ending}
@@ -36,10 +36,10 @@ some_has (Some x) e = (x, refl)
 
 -- an attempt with this kept at this address
 record Attempts (part : PartData) (flash : List ℕ) (kept : Kept) (address : ℕ) : Type 0 where
-  course : AttemptCourse
-  is : IsFlashAttempt part flash course
-  kept_is : course.kept ≡ kept
-  address_is : course.address ≡ address
+  attempt : BootAttempt
+  is : IsFlashAttempt part flash attempt
+  kept_is : attempt.kept ≡ kept
+  address_is : attempt.address ≡ address
 
 attempts : (part : PartData) (flash : List ℕ) (kept : Kept) (address : ℕ) → Attempts part flash kept address
 attempts part flash kept address = by (search_to ends_at (suc (length from)))
@@ -52,7 +52,7 @@ attempts part flash kept address = by (search_to ends_at (suc (length from)))
 
     by : ((k : ℕ) → k < suc (length from) → ends_at k ≡ false) ⊎ IsLeast ends_at (suc (length from)) → Attempts part flash kept address
     by (inl none) = record {
-      course = record { kept = kept; address = address; bytes = take (taken_of part kept from) from; wrapped = true; ending = ending.Failed Wrap };
+      attempt = record { kept = kept; address = address; bytes = take (taken_of part kept from) from; wrapped = true; ending = ending.Failed Wrap };
       is = inr (record { none = λ k l. none_has (ending_at part kept (take k from)) (none k l); taken = refl; failed = refl; past_end = refl });
       kept_is = refl;
       address_is = refl;
@@ -60,7 +60,7 @@ attempts part flash kept address = by (search_to ends_at (suc (length from)))
     by (inr l) =
         let here : (e : Ending) × (ending_at part kept (take l.least from) ≡ Some e) = some_has (ending_at part kept (take l.least from)) l.here in
         record {
-          course = record { kept = kept; address = address; bytes = take l.least from; wrapped = false; ending = here.0 };
+          attempt = record { kept = kept; address = address; bytes = take l.least from; wrapped = false; ending = here.0 };
           is = inl (record {
             rest = drop l.least from;
             taken = sym (take-append-drop l.least from);
@@ -75,40 +75,40 @@ attempts part flash kept address = by (search_to ends_at (suc (length from)))
 -- ---- attempt after attempt
 
 -- fewer than 16 attempts lead to one with this kept, or it is a fallback after at most 16
-abbrev IsEarly : List AttemptCourse → Kept → Type 0
+abbrev IsEarly : List BootAttempt → Kept → Type 0
 IsEarly older kept = (length older < 16) ⊎ ((is_fallback kept.kind ≡ true) × (length older < 17))
 
-early_is_short : (older : List AttemptCourse) (kept : Kept) → IsEarly older kept → length older < 17
+early_is_short : (older : List BootAttempt) (kept : Kept) → IsEarly older kept → length older < 17
 early_is_short older kept (inl l) = omega (arith, l)
 early_is_short older kept (inr l) = l.1
 
 -- after this attempt comes an end, or an attempt that is early
-abbrev Comes : List AttemptCourse → AttemptCourse → Next → Type 0
+abbrev Comes : List BootAttempt → BootAttempt → Next → Type 0
 Comes older t next = ((e : BootEnd) × (next ≡ Ends e)) ⊎ ((kept : Kept) × (address : ℕ) × IsEarly (t ∷ older) kept × (next ≡ Again kept address))
 
-after_iprog : (older : List AttemptCourse) (t : AttemptCourse) (kept : Kept) (address : ℕ) (b : Bool) → nat_le 16 (length older + 1) ≡ b → Comes older t (if b then Ends boot_end.Loop else Again kept address)
+after_iprog : (older : List BootAttempt) (t : BootAttempt) (kept : Kept) (address : ℕ) (b : Bool) → nat_le 16 (length older + 1) ≡ b → Comes older t (if b then Ends boot_end.Loop else Again kept address)
 after_iprog older t kept address true e = inl (boot_end.Loop, refl)
 after_iprog older t kept address false e = inr (kept, address, inl (grind (arith, nat_tests, e)), refl)
 
-short_after : (older : List AttemptCourse) (t : AttemptCourse) → is_fallback t.kept.kind ≡ false → IsEarly older t.kept → length older + 1 < 17
+short_after : (older : List BootAttempt) (t : BootAttempt) → is_fallback t.kept.kind ≡ false → IsEarly older t.kept → length older + 1 < 17
 short_after older t isnt (inl l) = omega (arith, l)
 short_after older t isnt (inr l) = let both : true ≡ false = sym l.0 ∙ isnt in absurd (cc)
 
-after_failure : (older : List AttemptCourse) (t : AttemptCourse) (kept : Kept) (f g : Bool) → is_fallback t.kept.kind ≡ f → is_fallback kept.kind ≡ true → IsEarly older t.kept → Comes older t (if f || g then Ends boot_end.Stopped else Again kept 0)
+after_failure : (older : List BootAttempt) (t : BootAttempt) (kept : Kept) (f g : Bool) → is_fallback t.kept.kind ≡ f → is_fallback kept.kind ≡ true → IsEarly older t.kept → Comes older t (if f || g then Ends boot_end.Stopped else Again kept 0)
 after_failure older t kept true g e falls early = inl (boot_end.Stopped, refl)
 after_failure older t kept false true e falls early = inl (boot_end.Stopped, refl)
 after_failure older t kept false false e falls early = inr (kept, 0, inr (falls, omega (arith, short_after older t e early)), refl)
 
-comes : (part : PartData) (older : List AttemptCourse) (t : AttemptCourse) (e : Ending) → IsEarly older t.kept → Comes older t (next_by part (length older + 1) t e)
+comes : (part : PartData) (older : List BootAttempt) (t : BootAttempt) (e : Ending) → IsEarly older t.kept → Comes older t (next_by part (length older + 1) t e)
 comes part older t ending.Started early = inl (boot_end.Started, refl)
 comes part older t ending.Iprog early = after_iprog older t _ _ (nat_le 16 (length older + 1)) refl
 comes part older t (ending.Failed cause) early = after_failure older t _ (is_fallback t.kept.kind) (forbids_fallback (end_state part t).ctl0) refl refl early
 
-chain : (part : PartData) (flash : List ℕ) (n : ℕ) (older : List AttemptCourse) (kept : Kept) (address : ℕ) → length older + n ≡ 17 → IsEarly older kept → LeadsTo part flash older (Again kept address) → HasBoot part flash
+chain : (part : PartData) (flash : List ℕ) (n : ℕ) (older : List BootAttempt) (kept : Kept) (address : ℕ) → length older + n ≡ 17 → IsEarly older kept → LeadsTo part flash older (Again kept address) → HasBoot part flash
 chain part flash zero older kept address count early leads = absurd (omega (arith, count, early_is_short older kept early))
 chain part flash (suc n) older kept address count early leads =
     let a : Attempts part flash kept address = attempts part flash kept address in
-    let t : AttemptCourse = a.course in
+    let t : BootAttempt = a.attempt in
     let here : LeadsTo part flash older (Again t.kept t.address) = subst (λ (x : Next). LeadsTo part flash older x) (ap (λ (k : Kept). Again k address) (sym a.kept_is) ∙ ap (Again t.kept) (sym a.address_is)) leads in
     elim (comes part older t t.ending (subst (IsEarly older) (sym a.kept_is) early)) [
       | inl e ↦ record { last = t; older = older; end = e.0; leads = (here, a.is, sym e.1) }

@@ -20,7 +20,7 @@ use Rattle.x7_engine.specs.Stop.{Stopped, fault_of_stop, stop_at_place}
 use Rattle.x7_engine.specs.Value.{failure_of}
 use Rattle.x7_engine.proofs.BootLemmas.{may_wrap, none_due_at_first}
 use Rattle.x7_engine.proofs.StateLemmas.{stop_is_final_state, stop_is_final_stop}
-use Rattle.x7_boot.specs.Attempt.{IsUnderWay, CanTakePage, TakesByte, NoneBefore, StepsTo, TookPiece, AttemptCourse, AttemptEnds, AttemptStart, attempt_at, ending_at, ending_by, failed_by, past_in_flash}
+use Rattle.x7_boot.specs.Attempt.{IsUnderWay, CanTakePage, TakesByte, NoneBefore, StepsTo, TookPiece, BootAttempt, AttemptEnds, AttemptStart, attempt_at, ending_at, ending_by, failed_by, past_in_flash}
 use Rattle.x7_boot.specs.declared.attempt.Ending.{Ending}
 use Rattle.x7_boot.specs.declared.attempt.Ending.TheVariants.{Started, Iprog, Failed}
 use Rattle.x7_boot.specs.declared.attempt.AttemptStep.{AttemptStep}
@@ -170,9 +170,9 @@ tries_ended part kept address flash all d new page at end step e agrees order f 
     let rest : List ℕ = drop t.count page ++ drop (end - address) (drop address all) in
     let from : drop address all ≡ bytes ++ rest = flash_from all f.bytes page address at end t.count (omega (arith, count)) order t.within (f.read all agrees) knows in
     let ends : ending_at part kept bytes ≡ Some e = subst (λ (s : AttemptStep). StepsTo part kept bytes s) is t.steps in
-    let course : AttemptCourse = record { kept = kept; address = address; bytes = bytes; wrapped = false; ending = e } in
+    let attempt : BootAttempt = record { kept = kept; address = address; bytes = bytes; wrapped = false; ending = e } in
     record {
-      course = course;
+      attempt = attempt;
       is = inl (record { rest = rest; taken = from; ends = ends; first = none_of part kept (drop address all) bytes rest from (none_joined part kept f.bytes page t.count t.within f.none t.none); in_flash = refl });
       kept_is = refl;
       address_is = refl;
@@ -234,7 +234,7 @@ tries_stopped part kept address flash all d new wrapped page at end step e agree
     let stopped : StepsTo part kept bytes Stops = subst (λ (s : AttemptStep). StepsTo part kept bytes s) is t.steps in
     let fits' : AreBytes (bytes ++ rest) = subst AreBytes from (all_back (λ b. b < 256) (take address all) (drop address all) (subst AreBytes (sym (take-append-drop address all)) fits)) in
     record {
-      course = record { kept = kept; address = address; bytes = bytes; wrapped = true; ending = Failed Wrap };
+      attempt = record { kept = kept; address = address; bytes = bytes; wrapped = true; ending = Failed Wrap };
       is = inr (record {
         none = none_stopped part kept (drop address all) bytes rest from fits' stopped.0 stopped.1 (none_joined part kept f.bytes page t.count t.within f.none t.none);
         taken = taken_stopped part kept new (drop address all) bytes rest from fits' t.stands stopped.0;
@@ -259,7 +259,7 @@ tries_out part kept address flash all d wrapped at e agrees f past w failed =
     let going : first_stop_of_bytes part kept from ≡ None = ap (first_stop_of_bytes part kept) (sym whole) ∙ f.going in
     let taken : taken_of part kept from ≡ length from = ap (λ (o : Option Stopped). taken_by o (length from)) going in
     record {
-      course = record { kept = kept; address = address; bytes = f.bytes; wrapped = true; ending = Failed Wrap };
+      attempt = record { kept = kept; address = address; bytes = f.bytes; wrapped = true; ending = Failed Wrap };
       is = inr (record {
         none = λ k l. elim (cases_lt k (length f.bytes)) [
           | inl early ↦ subst (λ (b : List ℕ). ending_at part kept (take k b) ≡ None) whole (f.none k early)

@@ -14,25 +14,25 @@ use Rattle.x7_engine.specs.declared.kept.Kept.{Kept}
 use Rattle.x7_engine.specs.declared.snapshot.Snapshot.{Snapshot}
 use Rattle.x7_engine.proofs.AlikeLemmas.{alike_state, alike_stop}
 use Rattle.x7_engine.proofs.FallbackLemmas.{kept_stop}
-use Rattle.x7_boot.specs.Attempt.{EndsFirst, IsFlashAttempt, AttemptCourse, ending_at, ending_by}
+use Rattle.x7_boot.specs.Attempt.{EndsFirst, IsFlashAttempt, BootAttempt, ending_at, ending_by}
 use Rattle.x7_boot.specs.declared.attempt.Ending.TheVariants.{Started, Failed}
 
 -- the attempt `u` takes as many bytes of `other` as `t` took of `from`, and each prefix of `other` up to there ends `u`
 -- as the prefix of `from` of the same length ends `t`
-pub record EndsAlike (part : PartData) (from other : List ℕ) (t u : AttemptCourse) : Type 0 where
+pub record EndsAlike (part : PartData) (from other : List ℕ) (t u : BootAttempt) : Type 0 where
   pub bytes : u.bytes ≡ take (length t.bytes) other
   pub long : length t.bytes ≤ length other
   pub ending : u.ending ≡ t.ending
   pub in_flash : u.wrapped ≡ false
   pub prefixes : (k : ℕ) → k ≤ length t.bytes → ending_at part u.kept (take k other) ≡ ending_at part t.kept (take k from)
 
-pub taken_is : (part : PartData) (from : List ℕ) (t : AttemptCourse) → EndsFirst part from t → take (length t.bytes) from ≡ t.bytes
+pub taken_is : (part : PartData) (from : List ℕ) (t : BootAttempt) → EndsFirst part from t → take (length t.bytes) from ≡ t.bytes
 taken_is part from t x = ap (take (length t.bytes)) x.taken ∙ take-append_seam t.bytes x.rest
 
-taken_long : (part : PartData) (from : List ℕ) (t : AttemptCourse) → EndsFirst part from t → length t.bytes ≤ length from
+taken_long : (part : PartData) (from : List ℕ) (t : BootAttempt) → EndsFirst part from t → length t.bytes ≤ length from
 taken_long part from t x = omega (arith, ap length x.taken, length-append t.bytes x.rest)
 
-pub ends_alike : (part : PartData) (from other : List ℕ) (t u : AttemptCourse) → EndsFirst part from t → EndsAlike part from other t u → EndsFirst part other u
+pub ends_alike : (part : PartData) (from other : List ℕ) (t u : BootAttempt) → EndsFirst part from t → EndsAlike part from other t u → EndsFirst part other u
 ends_alike part from other t u x a =
     let n : ℕ = length t.bytes in
     let count : length u.bytes ≡ n = ap length a.bytes ∙ length-take-le n other a.long in
@@ -45,13 +45,13 @@ ends_alike part from other t u x a =
     }
 
 -- an attempt that started ended in the flash
-pub started_first : (part : PartData) (flash : List ℕ) (t : AttemptCourse) → IsFlashAttempt part flash t → t.ending ≡ Started → EndsFirst part (drop t.address flash) t
+pub started_first : (part : PartData) (flash : List ℕ) (t : BootAttempt) → IsFlashAttempt part flash t → t.ending ≡ Started → EndsFirst part (drop t.address flash) t
 started_first part flash t (inl x) started = x
 started_first part flash t (inr x) started = let no : Failed _ ≡ Started = sym x.failed ∙ started in absurd (cc)
 
 -- ---- over the same bytes
 
-pub attempt_over : (part : PartData) (flash other : List ℕ) (t : AttemptCourse) → IsFlashAttempt part flash t → t.wrapped ≡ false → take (t.address + length t.bytes) other ≡ take (t.address + length t.bytes) flash → IsFlashAttempt part other t
+pub attempt_over : (part : PartData) (flash other : List ℕ) (t : BootAttempt) → IsFlashAttempt part flash t → t.wrapped ≡ false → take (t.address + length t.bytes) other ≡ take (t.address + length t.bytes) flash → IsFlashAttempt part other t
 attempt_over part flash other t (inl x) in_flash e =
     let n : ℕ = length t.bytes in
     let here : List ℕ = drop t.address flash in
@@ -74,10 +74,10 @@ alike_ending part kept one other a =
     ap (λ (r : Snapshot). if r.phase == 7 then Some Started else ending_by (why_stopped (first_stop_of_bytes part kept one))) (alike_state part kept one other a false)
     ∙ ap (λ (o : Option Stopped). if (state_of part kept false other).phase == 7 then Some Started else ending_by (why_stopped o)) (alike_stop part kept one other a)
 
-abbrev pub alike_attempt : AttemptCourse → List ℕ → AttemptCourse
+abbrev pub alike_attempt : BootAttempt → List ℕ → BootAttempt
 alike_attempt t other = record { kept = t.kept; address = t.address; bytes = take (length t.bytes) other; wrapped = false; ending = t.ending }
 
-pub alike_ends : (part : PartData) (from other : List ℕ) (t : AttemptCourse) → EndsFirst part from t → length t.bytes ≤ length other → ((k : ℕ) → k ≤ length t.bytes → AreAlike (take k from) (take k other)) → EndsFirst part other (alike_attempt t other)
+pub alike_ends : (part : PartData) (from other : List ℕ) (t : BootAttempt) → EndsFirst part from t → length t.bytes ≤ length other → ((k : ℕ) → k ≤ length t.bytes → AreAlike (take k from) (take k other)) → EndsFirst part other (alike_attempt t other)
 alike_ends part from other t x long alike =
     ends_alike part from other t (alike_attempt t other) x (record { bytes = refl; long = long; ending = refl; in_flash = refl; prefixes = λ k l. sym (alike_ending part t.kept (take k from) (take k other) (alike k l)) })
 
@@ -87,10 +87,10 @@ kept_ending : (part : PartData) (one other : Kept) (bytes : List ℕ) → AreFal
 kept_ending part one other bytes f =
     ap (λ (o : Option Stopped). if phase_by part (startup_progress (history_by o (history_of bytes)) (taken_by o (length bytes))) == 7 then Some Started else ending_by (why_stopped o)) (kept_stop part one other bytes f)
 
-abbrev pub with_kept : AttemptCourse → Kept → AttemptCourse
+abbrev pub with_kept : BootAttempt → Kept → BootAttempt
 with_kept t kept = record { kept = kept; address = t.address; bytes = t.bytes; wrapped = t.wrapped; ending = t.ending }
 
-pub kept_ends : (part : PartData) (from : List ℕ) (t : AttemptCourse) (kept : Kept) → AreFallbacks kept t.kept → EndsFirst part from t → EndsFirst part from (with_kept t kept)
+pub kept_ends : (part : PartData) (from : List ℕ) (t : BootAttempt) (kept : Kept) → AreFallbacks kept t.kept → EndsFirst part from t → EndsFirst part from (with_kept t kept)
 kept_ends part from t kept f x =
     ends_alike part from from t (with_kept t kept) x (record {
       bytes = sym (taken_is part from t x);

@@ -39,7 +39,7 @@ ending_at part kept bytes =
 
 -- an attempt: what its device kept over the reset, its address in the flash, in bytes, the bytes that the device took,
 -- whether the flash ended before anything ended the attempt, and how the attempt ended
-pub record AttemptCourse : Type 0 where
+pub record BootAttempt : Type 0 where
   pub kept : Kept
   pub address : ℕ
   pub bytes : List ℕ
@@ -47,7 +47,7 @@ pub record AttemptCourse : Type 0 where
   pub ending : Ending
 
 -- the place of the flash after the last byte that an attempt took
-abbrev pub attempt_end : AttemptCourse → ℕ
+abbrev pub attempt_end : BootAttempt → ℕ
 attempt_end t = t.address + length t.bytes
 
 -- nothing ends an attempt at fewer than `n` bytes of `from`, which is the flash from the attempt's address on
@@ -55,7 +55,7 @@ abbrev pub NoneBefore : PartData → Kept → List ℕ → ℕ → Type 0
 NoneBefore part kept from n = (k : ℕ) → k < n → ending_at part kept (take k from) ≡ None
 
 -- the attempt ended at the least number of bytes at which something ends it
-pub record EndsFirst (part : PartData) (from : List ℕ) (t : AttemptCourse) : Type 0 where
+pub record EndsFirst (part : PartData) (from : List ℕ) (t : BootAttempt) : Type 0 where
   pub rest : List ℕ
   pub taken : from ≡ t.bytes ++ rest
   pub ends : ending_at part t.kept t.bytes ≡ Some t.ending
@@ -64,18 +64,18 @@ pub record EndsFirst (part : PartData) (from : List ℕ) (t : AttemptCourse) : T
 
 -- nothing ended the attempt up to the flash's end, so it failed by the wrap; the device took all bytes, or those up to
 -- a stop that ends no attempt
-pub record RunsOut (part : PartData) (from : List ℕ) (t : AttemptCourse) : Type 0 where
+pub record RunsOut (part : PartData) (from : List ℕ) (t : BootAttempt) : Type 0 where
   pub none : NoneBefore part t.kept from (suc (length from))
   pub taken : t.bytes ≡ take (taken_of part t.kept from) from
   pub failed : t.ending ≡ Failed Wrap
   pub past_end : t.wrapped ≡ true
 
 -- an attempt over a flash of these bytes; at the flash's end or past it there are no bytes to take
-abbrev pub IsFlashAttempt : PartData → List ℕ → AttemptCourse → Type 0
+abbrev pub IsFlashAttempt : PartData → List ℕ → BootAttempt → Type 0
 IsFlashAttempt part flash t = EndsFirst part (drop t.address flash) t ⊎ RunsOut part (drop t.address flash) t
 
 -- a device is as the attempt left it
-abbrev pub IsDeviceOf : PartData → DeviceState → AttemptCourse → Type 0
+abbrev pub IsDeviceOf : PartData → DeviceState → BootAttempt → Type 0
 IsDeviceOf part d t = DeviceStandsFor part t.kept t.wrapped d t.bytes
 
 -- what a feed with this answer does to an attempt in which startup hasn't ended, where the device then has this cause
@@ -138,12 +138,12 @@ attempt_at part kept address = record { part = part; kept = kept; address = addr
 
 -- an attempt that began as `a` says, over a flash of these bytes, ended by `ending` and left the device `d`
 pub record AttemptEnds (a : AttemptStart) (flash : List ℕ) (d : DeviceState) (ending : Ending) : Type 0 where
-  pub course : AttemptCourse
-  pub is : IsFlashAttempt a.part flash course
-  pub kept_is : course.kept ≡ a.kept
-  pub address_is : course.address ≡ a.address
-  pub ending_is : course.ending ≡ ending
-  pub device : IsDeviceOf a.part d course
+  pub attempt : BootAttempt
+  pub is : IsFlashAttempt a.part flash attempt
+  pub kept_is : attempt.kept ≡ a.kept
+  pub address_is : attempt.address ≡ a.address
+  pub ending_is : attempt.ending ≡ ending
+  pub device : IsDeviceOf a.part d attempt
 
 -- an attempt that nothing has ended took the bytes of a flash from its address up to a place, and left the device `d`,
 -- without a stop and with no word due

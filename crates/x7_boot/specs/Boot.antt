@@ -18,7 +18,7 @@ use Rattle.x7_engine.specs.Standing.{DeviceState, NoWordDue}
 use Rattle.x7_engine.specs.State.{kept_after, state_of}
 use Rattle.x7_engine.specs.declared.kept.Kept.{Kept}
 use Rattle.x7_engine.specs.declared.snapshot.Snapshot.{Snapshot}
-use Rattle.x7_boot.specs.Attempt.{AttemptStart, IsDeviceOf, IsFlashAttempt, AttemptCourse, TakesByte, attempt_at}
+use Rattle.x7_boot.specs.Attempt.{AttemptStart, IsDeviceOf, IsFlashAttempt, BootAttempt, TakesByte, attempt_at}
 use Rattle.x7_boot.specs.Pages.{ReadsPages, page_size}
 use Rattle.x7_boot.specs.Reads.{FlashAnswers, IfAgrees}
 use Rattle.x7_boot.specs.declared.attempt.Ending.{Ending}
@@ -44,7 +44,7 @@ abbrev pub start_address : ℕ → ℕ → ℕ
 start_address unit wbstar = if unit == large_start_unit then large_start_unit * field_of 0 large_start_address_bits wbstar else field_of 0 start_address_bits wbstar
 
 -- the state of a device at the end of an attempt
-abbrev pub end_state : PartData → AttemptCourse → Snapshot
+abbrev pub end_state : PartData → BootAttempt → Snapshot
 end_state part t = state_of part t.kept t.wrapped t.bytes
 
 -- the most attempts of a boot that may end by IPROG; the fallback may be one attempt more
@@ -52,7 +52,7 @@ abbrev pub most_iprogs : ℕ
 most_iprogs = 16
 
 -- the table: what comes after attempt `number`, from 1, by its ending
-abbrev pub next_by : PartData → ℕ → AttemptCourse → Ending → Next
+abbrev pub next_by : PartData → ℕ → BootAttempt → Ending → Next
 next_by part number t ending.Started = Ends boot_end.Started
 next_by part number t ending.Iprog =
     if nat_le most_iprogs number then Ends boot_end.Loop else Again (kept_after part t.kept t.wrapped t.bytes Iprog) (start_address part.start_unit (end_state part t).wbstar)
@@ -64,23 +64,23 @@ abbrev pub at_power : Kept
 at_power = record { wbstar = 0; timer = 0; bspi = 0; kind = Power; before = None }
 
 -- a flash leads a device through these attempts, the newest first, to what comes next
-abbrev pub LeadsTo : PartData → List ℕ → List AttemptCourse → Next → Type 0
+abbrev pub LeadsTo : PartData → List ℕ → List BootAttempt → Next → Type 0
 LeadsTo part flash [] next = next ≡ Again at_power 0
 LeadsTo part flash (t ∷ older) next = LeadsTo part flash older (Again t.kept t.address) × IsFlashAttempt part flash t × (next ≡ next_by part (length older + 1) t t.ending)
 
 -- a flash leads a device through these attempts, the newest first, to this end
-abbrev pub LeadsToEnd : PartData → List ℕ → List AttemptCourse → BootEnd → Type 0
-LeadsToEnd part flash courses end = LeadsTo part flash courses (Ends end)
+abbrev pub LeadsToEnd : PartData → List ℕ → List BootAttempt → BootEnd → Type 0
+LeadsToEnd part flash attempts end = LeadsTo part flash attempts (Ends end)
 
 -- a flash leads a device through attempts, one at least, to an end
 pub record HasBoot (part : PartData) (flash : List ℕ) : Type 0 where
-  pub last : AttemptCourse
-  pub older : List AttemptCourse
+  pub last : BootAttempt
+  pub older : List BootAttempt
   pub end : BootEnd
   pub leads : LeadsToEnd part flash (last ∷ older) end
 
 -- what is reported of an attempt: its kind, its address in bytes and its ending
-abbrev pub tried : AttemptCourse → Tried
+abbrev pub tried : BootAttempt → Tried
 tried t = record { kind = t.kept.kind; address = t.address; ending = t.ending }
 
 -- what a boot comes to: its attempts in order, its end, and the device as the last one left it
@@ -91,8 +91,8 @@ pub record BootedState : Type 0 where
 
 -- `b` is what a boot of the part from a flash of these bytes comes to
 pub record IsBoot (part : PartData) (flash : List ℕ) (b : BootedState) : Type 0 where
-  pub last : AttemptCourse
-  pub older : List AttemptCourse
+  pub last : BootAttempt
+  pub older : List BootAttempt
   pub leads : LeadsToEnd part flash (last ∷ older) b.end
   pub attempts : b.attempts ≡ reverse (map tried (last ∷ older))
   pub device : IsDeviceOf part b.device last
@@ -107,7 +107,7 @@ pub record BootsTo (part : PartData) (flash : FlashAnswers) (b : BootedState) : 
 -- a flash has led a device through `number` attempts, which are reported as `attempts`, to the one that begins as `a`
 -- says
 pub record HasLedTo (a : AttemptStart) (flash : List ℕ) (attempts : List Tried) (number : ℕ) : Type 0 where
-  pub older : List AttemptCourse
+  pub older : List BootAttempt
   pub leads : LeadsTo a.part flash older (Again a.kept a.address)
   pub tried_are : attempts ≡ reverse (map tried older)
   pub count : length older ≡ number
@@ -116,7 +116,7 @@ pub record HasLedTo (a : AttemptStart) (flash : List ℕ) (attempts : List Tried
 pub record BootTakesByte (part : PartData) (number : ℕ) (flash : List ℕ) (place : ℕ) : Type 0 where
   pub kept : Kept
   pub address : ℕ
-  pub older : List AttemptCourse
+  pub older : List BootAttempt
   pub leads : LeadsTo part flash older (Again kept address)
   pub count : length older ≡ number
   pub takes : TakesByte (attempt_at part kept address) flash place

@@ -4,7 +4,7 @@ ghost use Rattle.x7_words.specs.Word.{AreBytes};
 ghost use Rattle.x7_part.specs.Part.{PartData};
 ghost use Rattle.x7_engine.specs.State.{state_of};
 ghost use Rattle.x7_engine.specs.declared.kept.Kept.{Kept};
-ghost use Rattle.x7_boot.specs.Attempt.{IsFlashAttempt, AttemptCourse, attempt_end};
+ghost use Rattle.x7_boot.specs.Attempt.{IsFlashAttempt, BootAttempt, attempt_end};
 ghost use Rattle.x7_boot.specs.Boot.{BootedState, HasBoot, IsBoot, end_state};
 ghost use Rattle.x7_boot.specs.Checked.{HasChecked};
 ghost use Rattle.x7_boot.specs.BootCourse.{BootCourse, IsCourse, LeadsOnlyAlong, course_of};
@@ -15,7 +15,7 @@ ghost use Rattle.x7_boot.specs.declared.boots.BootEnd.TheVariants as boot_end;
 /// IDCODE was written, and DESYNC after START, and no check and no idcode before the last byte taken was wrong. The
 /// last attempt of a boot that started passed them too.
 pub fn starts_are_checked()
-    ensures attempt { (part : PartData) (flash : List ℕ) (t : AttemptCourse) → AreBytes flash → IsFlashAttempt part flash t → t.ending ≡ ending.Started
+    ensures attempt { (part : PartData) (flash : List ℕ) (t : BootAttempt) → AreBytes flash → IsFlashAttempt part flash t → t.ending ≡ ending.Started
         → HasChecked part t.kept t.bytes }
     ensures boot { (part : PartData) (flash : List ℕ) (b : BootedState) → AreBytes flash → (is : IsBoot part flash b) → b.end ≡ boot_end.Started
         → HasChecked part is.last.kept is.last.bytes }
@@ -27,7 +27,7 @@ pub fn starts_are_checked()
 pub fn startup_is_checked()
     ensures state { (part : PartData) (kept : Kept) (wrapped : Bool) (bytes : List ℕ) → AreBytes bytes → 0 < (state_of part kept wrapped bytes).phase
         → HasChecked part kept bytes }
-    ensures attempt { (part : PartData) (flash : List ℕ) (t : AttemptCourse) → AreBytes flash → IsFlashAttempt part flash t → 0 < (end_state part t).phase
+    ensures attempt { (part : PartData) (flash : List ℕ) (t : BootAttempt) → AreBytes flash → IsFlashAttempt part flash t → 0 < (end_state part t).phase
         → HasChecked part t.kept t.bytes }
     ensures boot { (part : PartData) (flash : List ℕ) (b : BootedState) → AreBytes flash → (is : IsBoot part flash b) → 0 < (end_state part is.last).phase
         → HasChecked part is.last.kept is.last.bytes }
@@ -40,7 +40,7 @@ pub fn every_flash_boots()
 
 /// An attempt that ended in the flash is one over each flash with the same bytes up to the attempt's end.
 pub fn only_taken_bytes_count()
-    ensures { (part : PartData) (flash other : List ℕ) (t : AttemptCourse) → IsFlashAttempt part flash t → t.wrapped ≡ false
+    ensures { (part : PartData) (flash other : List ℕ) (t : BootAttempt) → IsFlashAttempt part flash t → t.wrapped ≡ false
         → take (attempt_end t) other ≡ take (attempt_end t) flash → IsFlashAttempt part other t }
 {}
 
@@ -55,7 +55,7 @@ pub fn one_course()
 /// at the same address, are the same. Two boots from it have the same attempts, the same end and the same course of the
 /// last attempt.
 pub fn one_boot()
-    ensures attempt { (part : PartData) (flash : List ℕ) (s t : AttemptCourse) → IsFlashAttempt part flash s → IsFlashAttempt part flash t
+    ensures attempt { (part : PartData) (flash : List ℕ) (s t : BootAttempt) → IsFlashAttempt part flash s → IsFlashAttempt part flash t
         → s.kept ≡ t.kept → s.address ≡ t.address → s ≡ t }
     ensures attempts { (part : PartData) (flash : List ℕ) (a b : BootedState) → IsBoot part flash a → IsBoot part flash b → a.attempts ≡ b.attempts }
     ensures end { (part : PartData) (flash : List ℕ) (a b : BootedState) → IsBoot part flash a → IsBoot part flash b → a.end ≡ b.end }

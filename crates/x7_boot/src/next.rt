@@ -5,7 +5,7 @@ ghost use Rattle.x7_regs.specs.declared.boot_status.Kind.TheVariants.{Bench};
 ghost use Rattle.x7_engine.specs.Kept.{is_fallback};
 ghost use Rattle.x7_engine.specs.State.{kept_after};
 ghost use Rattle.x7_engine.specs.declared.kept.Kept.{Kept as KeptData};
-ghost use Rattle.x7_boot.specs.Attempt.{IsDeviceOf, AttemptCourse};
+ghost use Rattle.x7_boot.specs.Attempt.{IsDeviceOf, BootAttempt};
 ghost use Rattle.x7_regs.specs.Control.{forbids_fallback};
 ghost use Rattle.x7_boot.specs.Boot.{most_iprogs, next_by, start_address};
 ghost use Rattle.x7_boot.specs.declared.next.Next.TheVariants as next;
@@ -53,7 +53,7 @@ fn start_address(unit: u32, wbstar: u32) -> u32
 
 /// What comes after attempt `number`, from 1, by its kind, its ending and the device that it left.
 pub(crate) fn next_by(device: &Device, kind: Kind, number: u32, ending: Ending) -> Next
-    ensures table { (part : PartData) (t : AttemptCourse) → IsDeviceOf part device.now t → t.kept.kind ≡ kind → result ≡ next_by part number t ending }
+    ensures table { (part : PartData) (t : BootAttempt) → IsDeviceOf part device.now t → t.kept.kind ≡ kind → result ≡ next_by part number t ending }
     ensures not_on_bench { (kept : KeptData) (address : ℕ) → result ≡ next.Again kept address → kept.kind ≡ Bench → ⊥ }
     ensures no_second_fallback { (kept : KeptData) (address : ℕ) → result ≡ next.Again kept address → is_fallback kept.kind ≡ true → is_fallback kind ≡ false }
     ensures most { (kept : KeptData) (address : ℕ) → result ≡ next.Again kept address → is_fallback kept.kind ≡ false → number < most_iprogs }
@@ -85,7 +85,7 @@ pub(crate) fn next_by(device: &Device, kind: Kind, number: u32, ending: Ending) 
 /// What an attempt of this kind keeps over the reset of `device`, which is as the attempt before left it.
 fn kept_after(device: &Device, kind: Kind) -> Kept
     ensures kind { result.kind ≡ kind }
-    ensures kept { (part : PartData) (t : AttemptCourse) → IsDeviceOf part device.now t → result ≡ kept_after part t.kept t.wrapped t.bytes kind }
+    ensures kept { (part : PartData) (t : BootAttempt) → IsDeviceOf part device.now t → result ≡ kept_after part t.kept t.wrapped t.bytes kind }
 {
     Kept {
         // The contract of `Device::kept` says the kind only where the device has a past.

@@ -14,7 +14,7 @@ use Rattle.x7_words.proofs.CountLemmas.{risen_from}
 use Rattle.x7_part.specs.Part.{PartData}
 use Rattle.x7_engine.specs.Standing.{NoWordDue}
 use Rattle.x7_engine.specs.State.{memory_of_bytes, state_of}
-use Rattle.x7_boot.specs.Attempt.{AttemptCourse}
+use Rattle.x7_boot.specs.Attempt.{BootAttempt}
 use Rattle.x7_boot.specs.Boot.{BootedState, IsBoot, ReadsInBoot}
 use Rattle.x7_boot.proofs.ReadLemmas.{IsPageRead, boot_read}
 use Rattle.x7_boot.specs.Reads.{Agrees, FlashAnswers, HasCalled, IfAgrees, answers_since}
@@ -55,7 +55,7 @@ head_is part attempts a end e name head start none begun named tried ends =
     begun ∙ ap (λ (t : List ℕ). t ++ boot_lines name a e) none ∙ ap (λ (n : List ℕ). boot_lines n a e) named ∙ ap (λ (x : List Tried). boot_lines part.name x e) tried ∙ ap (λ (x : BootEnd). boot_lines part.name attempts x) ends
 
 -- the text of a boot, made whole, by its head and the report of its device
-pub text_is : (part : PartData) (last : AttemptCourse) (attempts a : List Tried) (end e : BootEnd) (name head start report bytes text : List ℕ)
+pub text_is : (part : PartData) (last : BootAttempt) (attempts a : List Tried) (end e : BootEnd) (name head start report bytes text : List ℕ)
     → start ≡ [] → head ≡ start ++ boot_lines name a e → name ≡ part.name → a ≡ attempts → e ≡ end → report ≡ report_text part (state_of part last.kept last.wrapped last.bytes) [] (memory_of_bytes part last.kept last.bytes) → bytes ≡ report → text ≡ head ++ bytes
     → text ≡ boot_text part attempts end last
 unfolding boot_text
@@ -65,7 +65,7 @@ text_is part last attempts a end e name head start report bytes text none begun 
     ∙ ap (λ (t : List ℕ). t ++ report_text part (state_of part last.kept last.wrapped last.bytes) [] (memory_of_bytes part last.kept last.bytes)) (head_is part attempts a end e name head start none begun named tried ends)
 
 -- the text of a boot by its head and the report of its device
-pub ready_is : (part : PartData) (last : AttemptCourse) (attempts a : List Tried) (end e f : BootEnd) (name head start : List ℕ) (stopped : Bool) (text : PlayTextState)
+pub ready_is : (part : PartData) (last : BootAttempt) (attempts a : List Tried) (end e f : BootEnd) (name head start : List ℕ) (stopped : Bool) (text : PlayTextState)
     → start ≡ [] → head ≡ start ++ boot_lines name a e → name ≡ part.name → a ≡ attempts → e ≡ end → stopped ≡ has_failed f → f ≡ end
     → text ≡ record { stopped = stopped; text = head ++ report_text part (state_of part last.kept last.wrapped last.bytes) [] (memory_of_bytes part last.kept last.bytes) } → text ≡ record { stopped = has_failed end; text = boot_text part attempts end last }
 unfolding boot_text

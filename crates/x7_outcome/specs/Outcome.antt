@@ -18,7 +18,7 @@ use Rattle.x7_listing.specs.declared.assembler.AsmFault.TheVariants as asm
 use Rattle.x7_part.specs.Part.{PartData}
 use Rattle.x7_words.specs.Flash.{IfKnown}
 use Rattle.x7_words.specs.Word.{AreBytes}
-use Rattle.x7_boot.specs.Attempt.{AttemptCourse}
+use Rattle.x7_boot.specs.Attempt.{BootAttempt}
 use Rattle.x7_boot.specs.Boot.{LeadsToEnd, tried}
 use Rattle.x7_boot.specs.Image.{flash_limit, image_of, image_size}
 use Rattle.x7_boot.specs.declared.boots.BootEnd.{BootEnd}
@@ -257,8 +257,8 @@ has_failed boot_end.Loop = true
 -- The text is that of the boot of a part from a flash of these bytes: `last` is its last attempt, `older` those before
 -- it, the newest first.
 pub record IsBootText (part : PartData) (flash : List ℕ) (answer : Answer) : Type 0 where
-  pub last : AttemptCourse
-  pub older : List AttemptCourse
+  pub last : BootAttempt
+  pub older : List BootAttempt
   pub end : BootEnd
   pub leads : LeadsToEnd part flash (last ∷ older) end
   pub stopped : answer.stopped ≡ has_failed end

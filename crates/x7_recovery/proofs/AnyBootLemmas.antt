@@ -6,7 +6,7 @@ use Rattle.x7_regs.specs.declared.boot_status.Kind.TheVariants.{Fallback}
 use Rattle.x7_memory.specs.Plan.{PlanData}
 use Rattle.x7_planner.specs.FullStream.{full_stream}
 use Rattle.x7_engine.specs.declared.kept.Kept.{Kept}
-use Rattle.x7_boot.specs.Attempt.{AttemptCourse}
+use Rattle.x7_boot.specs.Attempt.{BootAttempt}
 use Rattle.x7_boot.specs.Image.{image_of, place_after_golden}
 use Rattle.x7_recovery.specs.OpenBoot.{BootsOpen, EachBootsOpen, EachFallsBackClean, HasImageOf, HasStreams, StartsAsFallback, UpdateFallsBack}
 use Rattle.x7_recovery.specs.OpenSlot.{BeginsAsImage, IsOpenFlash, OpenFlash, image_of_flash, slot_of_flash}
@@ -48,7 +48,7 @@ abbrev some_kept : Kept
 some_kept = record { wbstar = 0; timer = 0; bspi = 0; kind = Fallback; before = None }
 
 -- over an image whose golden stream is the full stream of a plan a fallback starts
-pub some_fallback_starts : (part : PartData) (golden : PlanData) (update after : List ℕ) → HasImage part golden update → (f : AttemptCourse) × StartsAsFallback (flash_of_image part golden update after) f
+pub some_fallback_starts : (part : PartData) (golden : PlanData) (update after : List ℕ) → HasImage part golden update → (f : BootAttempt) × StartsAsFallback (flash_of_image part golden update after) f
 some_fallback_starts part golden update after image =
     let streams : HasStreams part (full_stream part golden) update (golden_image part golden update ++ after) = image_boots part (full_stream part golden) update after (record { is_part = image.is_part; fits = image.fits }) in
     fallback_starts (flash_of_image part golden update after) (image_is_opened part (golden_image part golden update ++ after) (place_after part golden) image.is_part streams.begins) some_kept golden
@@ -63,7 +63,7 @@ updated_is_opened u is =
 pub updated_boots : (u : UpdatedFlash) → (is : IsUpdated u) → EachBootsOpen (opened_by is)
 updated_boots u is = boots_open (opened_by is) (updated_is_opened u is)
 
-pub updated_falls_back : (u : UpdatedFlash) (t : AttemptCourse) (cause : Cause) → (is : IsUpdated u) → UpdateFallsBack (opened_by is) t cause → EachFallsBackClean (opened_by is) cause u.golden
+pub updated_falls_back : (u : UpdatedFlash) (t : BootAttempt) (cause : Cause) → (is : IsUpdated u) → UpdateFallsBack (opened_by is) t cause → EachFallsBackClean (opened_by is) cause u.golden
 updated_falls_back u t cause is fails c course =
     let boots : BootsOpen (opened_by is) c = updated_boots u is c course in
     boots.falls_clean t cause u.golden (clean_later u.part u.flash u.found u.golden (one_more is.before u.found is.stream is.updates is.last.updatable is.last.after) is.starts.ends is.clean) fails

@@ -29,7 +29,7 @@ use Rattle.x7_engine.specs.declared.kept.Kept.{Kept}
 use Rattle.x7_regs.specs.BootStatus.{boot_status_of}
 use Rattle.x7_regs.specs.declared.boot_status.Attempt.{Attempt}
 use Rattle.x7_regs.specs.declared.boot_status.Cause.{Cause}
-use Rattle.x7_boot.specs.Attempt.{EndsFirst, IsFlashAttempt, AttemptCourse, ending_at}
+use Rattle.x7_boot.specs.Attempt.{EndsFirst, IsFlashAttempt, BootAttempt, ending_at}
 use Rattle.x7_boot.specs.Boot.{at_power, end_state}
 use Rattle.x7_boot.specs.Image.{open_slot}
 use Rattle.x7_boot.specs.declared.attempt.Ending.TheVariants.{Started}
@@ -123,7 +123,7 @@ module _ (flash : List ℕ) (number start : ℕ) (o : HasOpenSlot flash number s
 
 -- ---- the fallback
 
-module _ (o : OpenFlash) (is : IsOpenFlash o) (t : AttemptCourse) (c : StartsClean o.part o.flash t) where
+module _ (o : OpenFlash) (is : IsOpenFlash o) (t : BootAttempt) (c : StartsClean o.part o.flash t) where
   abbrev s : List ℕ
   s = drop sector_size t.bytes
 
@@ -235,7 +235,7 @@ module _ (o : OpenFlash) (is : IsOpenFlash o) (t : AttemptCourse) (c : StartsCle
     all_of : take (length s) s ≡ s
     all_of = take-length s
 
-    abbrev fallen : AttemptCourse
+    abbrev fallen : BootAttempt
     fallen = record { kept = kept; address = 0; bytes = prefix' ++ s; wrapped = false; ending = Started }
 
     fallen_alike : (k : ℕ) → k ≤ length t.bytes → ending_at o.part kept (take k o.flash) ≡ ending_at o.part t.kept (take k one)
@@ -282,17 +282,17 @@ module _ (o : OpenFlash) (is : IsOpenFlash o) (t : AttemptCourse) (c : StartsCle
     fallen_wrote : wrote_iprog (history_of (prefix' ++ s)) ≡ true
     fallen_wrote = iprog_later prefix' s (all_append (λ b. b < 256) prefix' s is.has.fits s_fits) (sector_wrote o.flash o.slot o.start is.has is.small)
 
-  pub falls_clean : (a : BootCourse) (u : AttemptCourse) (cause : Cause) → IsCourse o.part o.flash a → UpdateFallsBack o u cause → FallsBackClean o cause t a
+  pub falls_clean : (a : BootCourse) (u : BootAttempt) (cause : Cause) → IsCourse o.part o.flash a → UpdateFallsBack o u cause → FallsBackClean o cause t a
   falls_clean a u cause course fails =
       let kept : Kept = kept_then o is u in
-      let l : AttemptCourse = fallen kept refl in
+      let l : BootAttempt = fallen kept refl in
       let f : Falls o is a l cause = falls o is a u l cause course fails (fallen_is kept refl) refl refl refl in
       record {
         attempts_are = f.attempts_are;
         started = f.started;
-        taken = ap (λ (v : AttemptCourse). length v.bytes) f.last_is ∙ omega (arith, length-append prefix' s, prefix_long, length-drop sector_size t.bytes, long);
-        memory = ap (λ (v : AttemptCourse). memory_of_bytes o.part v.kept v.bytes) f.last_is ∙ fallen_memory kept refl;
-        bootsts = ap (λ (v : AttemptCourse). (end_state o.part v).bootsts) f.last_is
+        taken = ap (λ (v : BootAttempt). length v.bytes) f.last_is ∙ omega (arith, length-append prefix' s, prefix_long, length-drop sector_size t.bytes, long);
+        memory = ap (λ (v : BootAttempt). memory_of_bytes o.part v.kept v.bytes) f.last_is ∙ fallen_memory kept refl;
+        bootsts = ap (λ (v : BootAttempt). (end_state o.part v).bootsts) f.last_is
             ∙ bootsts_is o.part kept (prefix' ++ s) true (fallen_going kept refl) (fallen_wrote kept refl)
             ∙ ap (λ (a : Attempt). boot_status_of (record { kind = Fallback; cause = None; ignored = true }) (Some a)) (failed_attempt o is u cause fails);
       }

@@ -4,7 +4,7 @@ use Rattle.std.proofs.Common.{List, ℕ, ap, sym, subst, ◌∙◌}
 use Rattle.x7_memory.specs.FrameMap.{HaveSameFrames, FrameMap}
 use Rattle.x7_memory.specs.Plan.{total}
 use Rattle.x7_engine.specs.declared.snapshot.Snapshot.{Snapshot}
-use Rattle.x7_boot.specs.Attempt.{AttemptCourse}
+use Rattle.x7_boot.specs.Attempt.{BootAttempt}
 use Rattle.x7_boot.specs.Boot.{BootedState, IsBoot}
 use Rattle.x7_update.specs.After.{MayBeLeft}
 use Rattle.x7_recovery.specs.Golden as any
@@ -13,7 +13,7 @@ use Rattle.x7_boot.specs.BootCourse.{BootCourse}
 use Rattle.x7_recovery.specs.Recovery.{BootsAs, IsPrepared, StartsGolden, Updating, as_after, as_before, golden}
 use Rattle.x7_recovery.proofs.GoldenLemmas.{found_alike, full_golden}
 
-planned_starts : (u : Updating) (t : AttemptCourse) (c : BootCourse) → StartsAsPlanned u t → StartsAlike u.part t c → StartsGolden u.part u.golden c
+planned_starts : (u : Updating) (t : BootAttempt) (c : BootCourse) → StartsAsPlanned u t → StartsAlike u.part t c → StartsGolden u.part u.golden c
 planned_starts u t c p s = record {
   attempts_are = s.attempts_are;
   started = s.started;
@@ -23,11 +23,11 @@ planned_starts u t c p s = record {
 
 pub found_boots : (u : Updating) (found : List ℕ) (b : BootedState) → IsPrepared u → MayBeLeft u.stream u.flash found → IsBoot u.part found b → BootsAs u found b
 found_boots u found b p left boot =
-    let g : (t : AttemptCourse) × StartsAsPlanned u t = full_golden u p in
+    let g : (t : BootAttempt) × StartsAsPlanned u t = full_golden u p in
     let v : UpdatingByAttempt = record { part = u.part; flash = u.flash; stream = u.stream; golden = g.0 } in
     by g (found_alike v found b (record { updatable = p.updatable; golden = g.1.golden }) left boot)
   where
-    by : (g : (t : AttemptCourse) × StartsAsPlanned u t) → BootsAlike (record { part = u.part; flash = u.flash; stream = u.stream; golden = g.0 }) found b → BootsAs u found b
+    by : (g : (t : BootAttempt) × StartsAsPlanned u t) → BootsAlike (record { part = u.part; flash = u.flash; stream = u.stream; golden = g.0 }) found b → BootsAs u found b
     by g (any.as_before before) = as_before before
     by g (any.golden boot s) = golden boot (planned_starts u g.0 _ g.1 s)
     by g (any.as_after done boot) = as_after done boot

@@ -39,7 +39,7 @@ use Rattle.x7_effects.proofs.PlannerLemmas.{full_same}
 use Rattle.x7_effects.proofs.RestingLemmas.{stream_history}
 use Rattle.x7_effects.proofs.StreamLemmas.{bytes_fit}
 use Rattle.x7_effects.proofs.Streams as items
-use Rattle.x7_boot.specs.Attempt.{IsFlashAttempt, NoneBefore, AttemptCourse, ending_at}
+use Rattle.x7_boot.specs.Attempt.{IsFlashAttempt, NoneBefore, BootAttempt, ending_at}
 use Rattle.x7_boot.specs.Boot.{end_state}
 use Rattle.x7_boot.specs.declared.attempt.Ending.TheVariants.{Started}
 use Rattle.x7_boot.proofs.LeastLemmas.{IsLeast, least_of}
@@ -103,13 +103,13 @@ seven_whole part kept bytes stream k fits d seven =
 -- the attempt with this kept at this address starts, with the memory of a plan;
 -- the attempt has ignored an IPROG, or not
 pub record StartsWith (part : PartData) (kept : Kept) (address : ℕ) (flash : List ℕ) (plan : PlanData) (ignored : Bool) : Type 0 where
-  pub course : AttemptCourse
-  pub is : IsFlashAttempt part flash course
-  pub kept_is : course.kept ≡ kept
-  pub address_is : course.address ≡ address
-  pub ending_is : course.ending ≡ Started
-  pub memory : HaveSameFrames (memory_of_bytes part course.kept course.bytes) (total part plan)
-  pub bootsts : (end_state part course).bootsts ≡ boot_status_of (record { kind = kept.kind; cause = None; ignored = ignored }) kept.before
+  pub attempt : BootAttempt
+  pub is : IsFlashAttempt part flash attempt
+  pub kept_is : attempt.kept ≡ kept
+  pub address_is : attempt.address ≡ address
+  pub ending_is : attempt.ending ≡ Started
+  pub memory : HaveSameFrames (memory_of_bytes part attempt.kept attempt.bytes) (total part plan)
+  pub bootsts : (end_state part attempt).bootsts ≡ boot_status_of (record { kind = kept.kind; cause = None; ignored = ignored }) kept.before
 
 pub bootsts_is : (part : PartData) (kept : Kept) (bytes : List ℕ) (ignored : Bool) → first_stop_of_bytes part kept bytes ≡ None → (is_fallback kept.kind && wrote_iprog (history_of bytes)) ≡ ignored
     → (state_of part kept false bytes).bootsts ≡ boot_status_of (record { kind = kept.kind; cause = None; ignored = ignored }) kept.before
@@ -138,7 +138,7 @@ full_starts part kept bytes plan address flash more ignored fits rest never is f
     let within : k ≤ length all = omega (arith, less, l.within) in
     ap (ending_at part kept) (take-append-le k all more within) ∙ goes_on part kept (take k all) (l.none_before k less) (prefix_goes part kept k all all_fit none) in
     record {
-      course = record { kept = kept; address = address; bytes = taken; wrapped = false; ending = Started };
+      attempt = record { kept = kept; address = address; bytes = taken; wrapped = false; ending = Started };
       is = inl (record {
         rest = drop l.least all ++ more;
         taken = split ∙ ap (λ (b : List ℕ). b ++ more) (sym (take-append-drop l.least all)) ∙ append_assoc taken (drop l.least all) more;

@@ -30,7 +30,7 @@ use Rattle.x7_effects.proofs.PartialLemmas.{have_words}
 use Rattle.x7_effects.proofs.PlannerLemmas.{full_same}
 use Rattle.x7_effects.proofs.RestingLemmas.{stream_history}
 use Rattle.x7_effects.proofs.Streams as items
-use Rattle.x7_boot.specs.Attempt.{EndsFirst, AttemptCourse}
+use Rattle.x7_boot.specs.Attempt.{EndsFirst, BootAttempt}
 use Rattle.x7_boot.specs.Boot.{at_power}
 use Rattle.x7_boot.proofs.CheckedLemmas.{starts_by}
 use Rattle.x7_boot.proofs.StartLemmas.{prefix_goes}
@@ -61,7 +61,7 @@ stream_clean part plan is for =
 
 -- ---- the attempt
 
-module _ (u : Updating) (p : IsPrepared u) (t : AttemptCourse) (s : StartsAsPlanned u t) where
+module _ (u : Updating) (p : IsPrepared u) (t : BootAttempt) (s : StartsAsPlanned u t) where
   abbrev stream : List ℕ
   stream = full_stream u.part u.golden
 

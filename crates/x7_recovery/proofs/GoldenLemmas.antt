@@ -23,7 +23,7 @@ use Rattle.x7_engine.specs.State.{memory_of_bytes, state_of}
 use Rattle.x7_engine.proofs.AlikeLemmas.{alike_memory, alike_state}
 use Rattle.x7_engine.proofs.RestLemmas.{history_on, rest_on}
 use Rattle.x7_engine.specs.declared.kept.Kept.{Kept}
-use Rattle.x7_boot.specs.Attempt.{EndsFirst, IsFlashAttempt, AttemptCourse}
+use Rattle.x7_boot.specs.Attempt.{EndsFirst, IsFlashAttempt, BootAttempt}
 use Rattle.x7_boot.specs.Boot.{BootedState, IsBoot, LeadsToEnd, at_power, end_state, next_by}
 use Rattle.x7_boot.specs.BootCourse.{BootCourse, course_along, course_of}
 use Rattle.x7_boot.specs.declared.attempt.Ending.TheVariants as ending
@@ -62,12 +62,12 @@ none_before flash gap s rest nowhere e l = none_before_prefix gap s rest (leads_
 
 -- ---- an attempt over the other flash
 
-pub ended : (part : PartData) (flash : List ℕ) (t : AttemptCourse) → StartsAtPower part flash t → EndsFirst part flash t
+pub ended : (part : PartData) (flash : List ℕ) (t : BootAttempt) → StartsAtPower part flash t → EndsFirst part flash t
 ended part flash t s = subst (λ (n : ℕ). EndsFirst part (drop n flash) t) s.address (started_first part flash t s.is s.started)
 
 -- an attempt at power that starts over a gap and bytes starts alike over another gap and the same bytes, where it took
 -- no more than these
-pub starts_after : (part : PartData) (g h s f r : List ℕ) (t : AttemptCourse) → AreGaps g h s → StartsAtPower part ((g ++ s) ++ f) t → length t.bytes ≤ length (g ++ s)
+pub starts_after : (part : PartData) (g h s f r : List ℕ) (t : BootAttempt) → AreGaps g h s → StartsAtPower part ((g ++ s) ++ f) t → length t.bytes ≤ length (g ++ s)
     → StartsAtPower part ((h ++ s) ++ r) (alike_attempt t ((h ++ s) ++ r)) × AreAlike t.bytes (alike_attempt t ((h ++ s) ++ r)).bytes
 starts_after part g h s f r t gaps starts within =
     let one : List ℕ = (g ++ s) ++ f in
@@ -89,30 +89,30 @@ starts_after part g h s f r t gaps starts within =
 
 -- ---- one attempt that starts is the whole boot
 
-alone : (part : PartData) (flash : List ℕ) (u : AttemptCourse) (b : BootedState) → StartsAtPower part flash u → (boot : IsBoot part flash b) → course_of b boot.last ≡ course_along u [] boot_end.Started
+alone : (part : PartData) (flash : List ℕ) (u : BootAttempt) (b : BootedState) → StartsAtPower part flash u → (boot : IsBoot part flash b) → course_of b boot.last ≡ course_along u [] boot_end.Started
 alone part flash u b s boot =
     let kept_is : u.kept ≡ at_power = s.kept in
     let address_is : u.address ≡ 0 = s.address in
     let led : LeadsToEnd part flash (u ∷ []) boot_end.Started = (cc, s.is, sym (ap (next_by part 1 u) s.started)) in
     along part flash (course_of b boot.last) u [] boot_end.Started (boot_course part flash b boot) led
 
-alike_alone : (part : PartData) (flash : List ℕ) (t u : AttemptCourse) (b : BootedState) → StartsAtPower part flash u → u.kept ≡ t.kept → u.wrapped ≡ t.wrapped → AreAlike t.bytes u.bytes → (boot : IsBoot part flash b) → StartsAlike part t (course_of b boot.last)
+alike_alone : (part : PartData) (flash : List ℕ) (t u : BootAttempt) (b : BootedState) → StartsAtPower part flash u → u.kept ≡ t.kept → u.wrapped ≡ t.wrapped → AreAlike t.bytes u.bytes → (boot : IsBoot part flash b) → StartsAlike part t (course_of b boot.last)
 alike_alone part flash t u b s kept wrapped a boot =
     let c : course_of b boot.last ≡ course_along u [] boot_end.Started = alone part flash u b s boot in
     let last : boot.last ≡ u = ap (λ (x : BootCourse). x.last) c in
     record {
       attempts_are = ap (λ (x : BootCourse). x.attempts) c ∙ ap (λ (x : Tried). x ∷ []) (tried_is u Power 0 ending.Started (ap (λ (k : Kept). k.kind) s.kept) s.address s.started);
       started = ap (λ (x : BootCourse). x.end) c;
-      memory = ap (λ (v : AttemptCourse). memory_of_bytes part v.kept v.bytes) last ∙ ap (λ (k : Kept). memory_of_bytes part k u.bytes) kept ∙ sym (alike_memory part t.kept t.bytes u.bytes a);
+      memory = ap (λ (v : BootAttempt). memory_of_bytes part v.kept v.bytes) last ∙ ap (λ (k : Kept). memory_of_bytes part k u.bytes) kept ∙ sym (alike_memory part t.kept t.bytes u.bytes a);
       registers = ap (end_state part) last ∙ ap (λ (k : Kept). state_of part k u.wrapped u.bytes) kept ∙ ap (λ (w : Bool). state_of part t.kept w u.bytes) wrapped ∙ sym (alike_state part t.kept t.bytes u.bytes a t.wrapped);
     }
 
-pub in_flash : (part : PartData) (flash : List ℕ) (t : AttemptCourse) → StartsAtPower part flash t → t.wrapped ≡ false
+pub in_flash : (part : PartData) (flash : List ℕ) (t : BootAttempt) → StartsAtPower part flash t → t.wrapped ≡ false
 in_flash part flash t s = (ended part flash t s).in_flash
 
 -- ---- two flashes whose first sector leads nowhere
 
-module _ (part : PartData) (one other : List ℕ) (t : AttemptCourse) (nowhere : LeadsNowhere one) (other_nowhere : LeadsNowhere other) (fits : AreBytes (take sector_size one)) (other_fits : AreBytes other)
+module _ (part : PartData) (one other : List ℕ) (t : BootAttempt) (nowhere : LeadsNowhere one) (other_nowhere : LeadsNowhere other) (fits : AreBytes (take sector_size one)) (other_fits : AreBytes other)
     (least : sector_size ≤ length one) (other_least : sector_size ≤ length other) (starts : StartsAtPower part one t) (same : slice_range other sector_size (length t.bytes) ≡ slice_range one sector_size (length t.bytes)) where
   abbrev g : List ℕ
   g = take sector_size one
@@ -151,7 +151,7 @@ module _ (part : PartData) (one other : List ℕ) (t : AttemptCourse) (nowhere :
   other_sum : AreBytes (h ++ s)
   other_sum = all_prefix (λ x. x < 256) (h ++ s) r (subst AreBytes other_is other_fits)
 
-  abbrev there : AttemptCourse
+  abbrev there : BootAttempt
   there = alike_attempt t ((h ++ s) ++ r)
 
   both : StartsAtPower part ((h ++ s) ++ r) there × AreAlike t.bytes there.bytes
@@ -165,7 +165,7 @@ module _ (part : PartData) (one other : List ℕ) (t : AttemptCourse) (nowhere :
   pub leading_nowhere_alike : (b : BootedState) → (boot : IsBoot part other b) → StartsAlike part t (course_of b boot.last)
   leading_nowhere_alike b boot = alike_alone part other t there b (subst (λ (x : List ℕ). StartsAtPower part x there) (sym other_is) both.0) refl (sym (in_flash part one t starts)) both.1 boot
 
-pub same_golden_alike : (part : PartData) (one other : List ℕ) (t : AttemptCourse) (b : BootedState) → HaveSameGolden part one other t → (boot : IsBoot part other b) → StartsAlike part t (course_of b boot.last)
+pub same_golden_alike : (part : PartData) (one other : List ℕ) (t : BootAttempt) (b : BootedState) → HaveSameGolden part one other t → (boot : IsBoot part other b) → StartsAlike part t (course_of b boot.last)
 same_golden_alike part one other t b s boot = leading_nowhere_alike part one other t s.one_is.leads_nowhere s.other_is.leads_nowhere (all_take (λ x. x < 256) sector_size one s.one_is.fits) s.other_is.fits s.one_is.least s.other_is.least s.starts s.same b boot
 
 -- ---- the first sector erased
@@ -214,7 +214,7 @@ golden_stands flash found n l b most = ext_get_or 0 (take (n - sector_size) (dro
         ∙ sym (get_or-drop sector_size flash i 0)
         ∙ sym (get_or-take (n - sector_size) (drop sector_size flash) i 0 short)
 
-pub between_alike : (part : PartData) (flash found : List ℕ) (t : AttemptCourse) (b : BootedState) → IsUpdatable flash → IsBetweenSlots flash found → GoldenStarts part flash t → AreBytes found → (boot : IsBoot part found b) → StartsAlike part t (course_of b boot.last)
+pub between_alike : (part : PartData) (flash found : List ℕ) (t : BootAttempt) (b : BootedState) → IsUpdatable flash → IsBetweenSlots flash found → GoldenStarts part flash t → AreBytes found → (boot : IsBoot part found b) → StartsAlike part t (course_of b boot.last)
 between_alike part flash found t b l left starts fits boot =
     leading_nowhere_alike part (with_first_sector_erased flash) found t (erased_leads_nowhere (drop sector_size flash)) (no_sync flash found l left) (subst AreBytes (sym (erased_take (drop sector_size flash))) bytes_erased_sector) fits
     (omega (arith, length-append erased_sector (drop sector_size flash), length_erased_sector)) (omega (arith, left.size, l.size.least)) starts.starts
@@ -238,13 +238,13 @@ rest_erased part =
 pub never_erased : NoDesyncAfterStart (history_of erased_sector)
 never_erased = subst NoDesyncAfterStart (sym (history_on [] erased_sector bytes_erased_sector goes)) tt
 
-pub full_golden : (u : Updating) → IsPrepared u → (t : AttemptCourse) × StartsAsPlanned u t
+pub full_golden : (u : Updating) → IsPrepared u → (t : BootAttempt) × StartsAsPlanned u t
 full_golden u p =
     let stream : List ℕ = full_stream u.part u.golden in
     let short : List ℕ = erased_sector ++ stream in
     let s : StartsWith u.part at_power 0 short u.golden false =
     full_starts u.part at_power erased_sector u.golden 0 short [] false bytes_erased_sector (rest_erased u.part) never_erased p.is_part p.plan (sym (append-nil short)) refl in
-    let t : AttemptCourse = s.course in
+    let t : BootAttempt = s.attempt in
     let x : EndsFirst u.part short t = subst (λ (n : ℕ). EndsFirst u.part (drop n short) t) s.address_is (started_first u.part short t s.is s.ending_is) in
     let most : length t.bytes ≤ length short = omega (arith, ap length x.taken, length-append t.bytes x.rest) in
     let whole : with_first_sector_erased u.flash ≡ short ++ p.golden.rest = ap (λ (x : List ℕ). erased_sector ++ x) p.golden.stands ∙ sym (append_assoc erased_sector stream p.golden.rest) in

@@ -37,7 +37,7 @@ use Rattle.x7_effects.proofs.CalmLemmas.{IsCalm, IsOff, calm_access, calm_bytes}
 use Rattle.x7_effects.proofs.GoingLemmas.{IsGoing, going_access, going_bytes, going_desync, why_none}
 use Rattle.x7_effects.proofs.RestingLemmas.{rests}
 use Rattle.x7_effects.proofs.StillLemmas.{never_armed}
-use Rattle.x7_boot.specs.Attempt.{IsFlashAttempt, NoneBefore, AttemptCourse, ending_at, ending_by}
+use Rattle.x7_boot.specs.Attempt.{IsFlashAttempt, NoneBefore, BootAttempt, ending_at, ending_by}
 use Rattle.x7_boot.specs.Boot.{LeadsTo, at_power, end_state, start_address}
 use Rattle.x7_boot.specs.Image.{open_slot, slot}
 use Rattle.x7_boot.specs.declared.attempt.Ending.TheVariants as ending
@@ -161,7 +161,7 @@ module _ (flash : List ℕ) (number start : ℕ) (o : HasOpenSlot flash number s
       no_stop_before part at_power (take k taken) (drop k taken) (record { place = flash_slot_size * number + 24; why = stop.Iprog }) (subst AreBytes (sym whole) taken_fits) (ap (first_stop_of_bytes part at_power) whole ∙ taken_stop part) (omega (arith, count, few, taken_long)) in
       ap (λ (x : List ℕ). ending_at part at_power (take k x)) taken_split ∙ ap (ending_at part at_power) (take-append-le k taken left within) ∙ prefix_open part at_power k taken taken_fits taken_never none
 
-  abbrev pub power : AttemptCourse
+  abbrev pub power : BootAttempt
   power = record { kept = at_power; address = 0; bytes = taken; wrapped = false; ending = ending.Iprog }
 
   power_tries : (part : PartData) → IsFlashAttempt part flash power

@@ -16,7 +16,7 @@ use Rattle.std.proofs.lemmas.List.Elements.{All-nil, All-cons}
 use Rattle.x7_part.specs.Address.{IsRow, row, no_row}
 use Rattle.x7_part.specs.AddressOrder.{addresses, addresses_in}
 use Rattle.x7_memory.specs.Plan.{IsPlanRow, PlanRow}
-use Rattle.x7_boot.specs.Attempt.{RunsOut, AttemptCourse, ending_at}
+use Rattle.x7_boot.specs.Attempt.{RunsOut, BootAttempt, ending_at}
 use Rattle.x7_part.specs.Slot.{slots, slots_in}
 use Rattle.x7_effects.proofs.FormLemmas.{full_length}
 use Rattle.x7_effects.proofs.PlannerLemmas.{full_same}
@@ -34,7 +34,7 @@ use Rattle.x7_recovery.specs.PlannedImage.{HasImage, golden_image, place_after}
 use Rattle.x7_boot.specs.declared.attempt.Ending.TheVariants as ending
 
 -- the attempt at an update of no bytes: it has none, and fails by the flash's end
-abbrev pub empty_attempt : PartData → PlanData → AttemptCourse
+abbrev pub empty_attempt : PartData → PlanData → BootAttempt
 empty_attempt part golden = record { kept = kept_at_update (place_after part golden / part.start_unit); address = place_after part golden; bytes = []; wrapped = true; ending = ending.Failed Wrap }
 
 nothing_ends : (part : PartData) (start k : ℕ) → ending_at part (kept_at_update start) (take k []) ≡ None
@@ -44,7 +44,7 @@ nothing_ends part start (suc k) = refl
 pub empty_fails : (part : PartData) (golden : PlanData) → drop (place_after part golden) (golden_image part golden []) ≡ [] → UpdateFails (image_of_flash part (golden_image part golden []) (place_after part golden)) (empty_attempt part golden) Wrap false
 empty_fails part golden none =
     let start : ℕ = place_after part golden / part.start_unit in
-    let t : AttemptCourse = empty_attempt part golden in
+    let t : BootAttempt = empty_attempt part golden in
     let out : RunsOut part [] t = record { none = λ k l. nothing_ends part start k; taken = refl; failed = refl; past_end = refl } in
     record {
       ended = record {

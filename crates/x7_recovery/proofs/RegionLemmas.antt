@@ -7,7 +7,7 @@ use Rattle.x7_words.specs.Word.{AreBytes}
 use Rattle.x7_words.proofs.FlashLemmas.{length_erased_sector, bytes_erased_sector}
 use Rattle.x7_words.proofs.ListLemmas.{all_append}
 use Rattle.x7_part.specs.Part.{PartData}
-use Rattle.x7_boot.specs.Attempt.{AttemptCourse, attempt_end}
+use Rattle.x7_boot.specs.Attempt.{BootAttempt, attempt_end}
 use Rattle.x7_boot.specs.Boot.{BootedState, IsBoot, LeadsTo}
 use Rattle.x7_boot.specs.BootCourse.{course_of}
 use Rattle.x7_boot.specs.declared.next.Next.{Next}
@@ -26,7 +26,7 @@ four_before region more place h =
     rw (at place (omega (arith, h)), at (place + 1) (omega (arith, h)), at (place + 2) (omega (arith, h)), at (place + 3) (omega (arith, h))) refl
 
 -- the golden stream of a region that was left between slots
-region_alike : (part : PartData) (flash found more : List ℕ) (t : AttemptCourse) (b : BootedState) → IsUpdatable flash → IsBetweenSlots flash found → GoldenStarts part flash t → AreBytes found → AreBytes more
+region_alike : (part : PartData) (flash found more : List ℕ) (t : BootAttempt) (b : BootedState) → IsUpdatable flash → IsBetweenSlots flash found → GoldenStarts part flash t → AreBytes found → AreBytes more
     → (boot : IsBoot part (found ++ more) b) → StartsAlike part t (course_of b boot.last)
 region_alike part flash found more t b l left starts fits others boot =
     let n = length t.bytes - sector_size in
@@ -46,7 +46,7 @@ region_boots u more found b p others (after l done) boot = as_after done boot
 
 -- ---- attempts that end within a region
 
-leads_more : (part : PartData) (region more : List ℕ) (attempts : List AttemptCourse) (next : Next) → EndWithin region attempts → LeadsTo part region attempts next → LeadsTo part (region ++ more) attempts next
+leads_more : (part : PartData) (region more : List ℕ) (attempts : List BootAttempt) (next : Next) → EndWithin region attempts → LeadsTo part region attempts next → LeadsTo part (region ++ more) attempts next
 leads_more part region more [] next ends leads = leads
 leads_more part region more (t ∷ older) next ends leads =
     (leads_more part region more older _ ends.2 leads.0, attempt_over part region (region ++ more) t leads.1 ends.0 (take-append-le (attempt_end t) region more ends.1), leads.2)

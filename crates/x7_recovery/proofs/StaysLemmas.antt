@@ -7,7 +7,7 @@ use Rattle.std.proofs.lemmas.Bool.{cases_lt}
 use Rattle.std.proofs.lemmas.List.{take-append-le}
 use Rattle.std.proofs.Math.Seq.{take-append-add}
 use Rattle.x7_part.specs.Part.{PartData}
-use Rattle.x7_boot.specs.Attempt.{AttemptCourse}
+use Rattle.x7_boot.specs.Attempt.{BootAttempt}
 use Rattle.x7_update.specs.After.{IsAfterUpdate}
 use Rattle.x7_update.specs.Layout.{IsUpdatable, update_place}
 use Rattle.x7_recovery.specs.Clean.{StartsClean}
@@ -24,7 +24,7 @@ same_prefixes e xs ys m same = elim (cases_lt m (length e)) [
       ap (λ (n : ℕ). take n (e ++ xs)) (sym sum) ∙ take-append-add e xs (m - length e) ∙ ap (λ (x : List ℕ). e ++ x) same ∙ sym (take-append-add e ys (m - length e)) ∙ ap (λ (n : ℕ). take n (e ++ ys)) sum)
 ]
 
-power_moves : (part : PartData) (flash other : List ℕ) (t : AttemptCourse) → StartsAtPower part (with_first_sector_erased flash) t → take (length t.bytes - sector_size) (drop sector_size other) ≡ take (length t.bytes - sector_size) (drop sector_size flash) → StartsAtPower part (with_first_sector_erased other) t
+power_moves : (part : PartData) (flash other : List ℕ) (t : BootAttempt) → StartsAtPower part (with_first_sector_erased flash) t → take (length t.bytes - sector_size) (drop sector_size other) ≡ take (length t.bytes - sector_size) (drop sector_size flash) → StartsAtPower part (with_first_sector_erased other) t
 power_moves part flash other t s same =
     let at : t.address + length t.bytes ≡ length t.bytes = omega (arith, s.address) in
     let prefixes : take (length t.bytes) (with_first_sector_erased other) ≡ take (length t.bytes) (with_first_sector_erased flash) =
@@ -37,13 +37,13 @@ power_moves part flash other t s same =
       started = s.started;
     }
 
-pub golden_stays : (part : PartData) (stream flash found : List ℕ) (t : AttemptCourse) → IsUpdatable flash → IsAfterUpdate stream flash found → GoldenStarts part flash t → GoldenStarts part found t
+pub golden_stays : (part : PartData) (stream flash found : List ℕ) (t : BootAttempt) → IsUpdatable flash → IsAfterUpdate stream flash found → GoldenStarts part flash t → GoldenStarts part found t
 golden_stays part stream flash found t l a g = record {
   starts = power_moves part flash found t g.starts (after_golden_same stream flash found l a (length t.bytes) g.ends);
   ends = omega (arith, g.ends, after_place stream flash found l a);
 }
 
-pub clean_stays : (part : PartData) (stream flash found : List ℕ) (t : AttemptCourse) → IsUpdatable flash → IsAfterUpdate stream flash found → length t.bytes ≤ update_place flash → StartsClean part flash t → StartsClean part found t
+pub clean_stays : (part : PartData) (stream flash found : List ℕ) (t : BootAttempt) → IsUpdatable flash → IsAfterUpdate stream flash found → length t.bytes ≤ update_place flash → StartsClean part flash t → StartsClean part found t
 clean_stays part stream flash found t l a ends c = record {
   starts = power_moves part flash found t c.starts (after_golden_same stream flash found l a (length t.bytes) ends);
   going = c.going;
@@ -57,10 +57,10 @@ pub place_later : (flash found : List ℕ) → AfterUpdates flash found → upda
 place_later flash _ none = refl
 place_later flash _ (one_more before found stream u l a) = after_place stream before found l a ∙ place_later flash before u
 
-pub golden_later : (part : PartData) (flash found : List ℕ) (t : AttemptCourse) → AfterUpdates flash found → GoldenStarts part flash t → GoldenStarts part found t
+pub golden_later : (part : PartData) (flash found : List ℕ) (t : BootAttempt) → AfterUpdates flash found → GoldenStarts part flash t → GoldenStarts part found t
 golden_later part flash _ t none g = g
 golden_later part flash _ t (one_more before found stream u l a) g = golden_stays part stream before found t l a (golden_later part flash before t u g)
 
-pub clean_later : (part : PartData) (flash found : List ℕ) (t : AttemptCourse) → AfterUpdates flash found → length t.bytes ≤ update_place flash → StartsClean part flash t → StartsClean part found t
+pub clean_later : (part : PartData) (flash found : List ℕ) (t : BootAttempt) → AfterUpdates flash found → length t.bytes ≤ update_place flash → StartsClean part flash t → StartsClean part found t
 clean_later part flash _ t none ends c = c
 clean_later part flash _ t (one_more before found stream u l a) ends c = clean_stays part stream before found t l a (omega (arith, ends, place_later flash before u)) (clean_later part flash before t u ends c)

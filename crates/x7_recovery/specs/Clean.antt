@@ -11,7 +11,7 @@ use Rattle.x7_regs.specs.Register.{number_of}
 use Rattle.x7_regs.specs.declared.command.Command.TheVariants as command
 use Rattle.x7_regs.specs.declared.register.Reg.TheVariants as reg
 use Rattle.x7_engine.specs.State.{first_stop_of_bytes}
-use Rattle.x7_boot.specs.Attempt.{AttemptCourse}
+use Rattle.x7_boot.specs.Attempt.{BootAttempt}
 use Rattle.x7_recovery.specs.Golden.{StartsAtPower, with_first_sector_erased}
 
 -- an access that may stand before RCRC: a word for WBSTAR, TIMER or BSPI, or the command NULL, BSPI_READ or SHUTDOWN
@@ -35,7 +35,7 @@ pub data BeginsClean : History → Type 0 where
 
 -- With the first sector of the flash erased the attempt at power starts, and nothing has stopped the device by then.
 -- What the attempt took is bytes, and those after the first sector begin clean.
-pub record StartsClean (part : PartData) (flash : List ℕ) (t : AttemptCourse) : Type 0 where
+pub record StartsClean (part : PartData) (flash : List ℕ) (t : BootAttempt) : Type 0 where
   pub starts : StartsAtPower part (with_first_sector_erased flash) t
   pub going : first_stop_of_bytes part t.kept t.bytes ≡ None
   pub clean : BeginsClean (history_of (drop sector_size t.bytes))

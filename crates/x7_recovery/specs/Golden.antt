@@ -9,7 +9,7 @@ use Rattle.x7_memory.specs.FrameMap.{HaveSameFrames}
 use Rattle.x7_memory.specs.Plan.{total}
 use Rattle.x7_planner.specs.FullStream.{full_stream}
 use Rattle.x7_engine.specs.State.{memory_of_bytes}
-use Rattle.x7_boot.specs.Attempt.{IsFlashAttempt, AttemptCourse}
+use Rattle.x7_boot.specs.Attempt.{IsFlashAttempt, BootAttempt}
 use Rattle.x7_boot.specs.Boot.{BootedState, IsBoot, at_power, end_state}
 use Rattle.x7_boot.specs.declared.attempt.Ending.TheVariants as ending
 use Rattle.x7_boot.specs.declared.boots.BootEnd.TheVariants as boot_end
@@ -34,7 +34,7 @@ abbrev pub with_first_sector_erased : List ℕ → List ℕ
 with_first_sector_erased flash = erased_sector ++ drop sector_size flash
 
 -- the attempt over the flash is that at power, at address 0, and starts
-pub record StartsAtPower (part : PartData) (flash : List ℕ) (t : AttemptCourse) : Type 0 where
+pub record StartsAtPower (part : PartData) (flash : List ℕ) (t : BootAttempt) : Type 0 where
   pub is : IsFlashAttempt part flash t
   pub kept : t.kept ≡ at_power
   pub address : t.address ≡ 0
@@ -42,7 +42,7 @@ pub record StartsAtPower (part : PartData) (flash : List ℕ) (t : AttemptCourse
 
 -- Two closed flashes have the same bytes after the first sector, up to where an attempt at power that starts over the
 -- first of them ended.
-pub record HaveSameGolden (part : PartData) (one other : List ℕ) (t : AttemptCourse) : Type 0 where
+pub record HaveSameGolden (part : PartData) (one other : List ℕ) (t : BootAttempt) : Type 0 where
   pub one_is : IsClosedFlash one
   pub other_is : IsClosedFlash other
   pub starts : StartsAtPower part one t
@@ -50,12 +50,12 @@ pub record HaveSameGolden (part : PartData) (one other : List ℕ) (t : AttemptC
 
 -- The golden stream starts: with the first sector erased the attempt at power starts, and ends at the update's place or
 -- before it.
-pub record GoldenStarts (part : PartData) (flash : List ℕ) (t : AttemptCourse) : Type 0 where
+pub record GoldenStarts (part : PartData) (flash : List ℕ) (t : BootAttempt) : Type 0 where
   pub starts : StartsAtPower part (with_first_sector_erased flash) t
   pub ends : length t.bytes ≤ update_place flash
 
 -- The boot starts at its one attempt, at power, with the memory and the registers that another attempt ended with.
-pub record StartsAlike (part : PartData) (t : AttemptCourse) (c : BootCourse) : Type 0 where
+pub record StartsAlike (part : PartData) (t : BootAttempt) (c : BootCourse) : Type 0 where
   pub attempts_are : c.attempts ≡ started_at_power
   pub started : c.end ≡ boot_end.Started
   pub memory : memory_of_bytes part c.last.kept c.last.bytes ≡ memory_of_bytes part t.kept t.bytes
@@ -63,7 +63,7 @@ pub record StartsAlike (part : PartData) (t : AttemptCourse) (c : BootCourse) : 
 
 -- The golden stream starts as `GoldenStarts` says, with no more bytes than the first sector and the full stream of the
 -- plan have: with the memory of the plan over zeros, and BOOTSTS shows no other attempt.
-pub record StartsAsPlanned (u : Updating) (t : AttemptCourse) : Type 0 where
+pub record StartsAsPlanned (u : Updating) (t : BootAttempt) : Type 0 where
   pub golden : GoldenStarts u.part u.flash t
   pub within : length t.bytes ≤ sector_size + length (full_stream u.part u.golden)
   pub memory : HaveSameFrames (memory_of_bytes u.part t.kept t.bytes) (total u.part u.golden)
@@ -75,7 +75,7 @@ pub record UpdatingByAttempt : Type 0 where
   pub part : PartData
   pub flash : List ℕ
   pub stream : List ℕ
-  pub golden : AttemptCourse
+  pub golden : BootAttempt
 
 -- an update is prepared: the flash can be updated, and has a golden stream of any kind that starts by this attempt
 pub record IsPreparedByAttempt (u : UpdatingByAttempt) : Type 0 where

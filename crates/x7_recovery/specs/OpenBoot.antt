@@ -14,7 +14,7 @@ use Rattle.x7_planner.specs.FullStream.{full_stream}
 use Rattle.x7_engine.specs.State.{attempt_of_bytes, memory_of_bytes}
 use Rattle.x7_engine.specs.declared.kept.Kept.{Kept}
 use Rattle.x7_engine.specs.Kept.{without_kept}
-use Rattle.x7_boot.specs.Attempt.{IsFlashAttempt, AttemptCourse}
+use Rattle.x7_boot.specs.Attempt.{IsFlashAttempt, BootAttempt}
 use Rattle.x7_regs.specs.Control.{forbids_fallback}
 use Rattle.x7_boot.specs.Boot.{end_state}
 use Rattle.x7_boot.specs.BootCourse.{BootCourse, IsCourse}
@@ -41,34 +41,34 @@ abbrev pub through_update : ℕ → Ending → List Tried → List Tried
 through_update place e more = record { kind = Power; address = 0; ending = ending.Iprog } ∷ record { kind = Iprog; address = place; ending = e } ∷ more
 
 -- an attempt by IPROG, after that at power, at the place to which the open slot leads, ended by `e`
-pub record UpdateEnds (o : OpenFlash) (t : AttemptCourse) (e : Ending) : Type 0 where
+pub record UpdateEnds (o : OpenFlash) (t : BootAttempt) (e : Ending) : Type 0 where
   pub is : IsFlashAttempt o.part o.flash t
   pub kept : t.kept ≡ kept_at_update o.start
   pub address : t.address ≡ o.place
   pub ends : t.ending ≡ e
 
 -- the attempt at the update failed by this cause; `forbidden` is whether CTL0 forbids a fallback at its end
-pub record UpdateFails (o : OpenFlash) (t : AttemptCourse) (cause : Cause) (forbidden : Bool) : Type 0 where
+pub record UpdateFails (o : OpenFlash) (t : BootAttempt) (cause : Cause) (forbidden : Bool) : Type 0 where
   pub ended : UpdateEnds o t (ending.Failed cause)
   pub forbids : forbids_fallback (end_state o.part t).ctl0 ≡ forbidden
 
 -- the attempt at the update failed by this cause, and CTL0 forbids a fallback at its end
-abbrev pub UpdateStops : OpenFlash → AttemptCourse → Cause → Type 0
+abbrev pub UpdateStops : OpenFlash → BootAttempt → Cause → Type 0
 UpdateStops o t cause = UpdateFails o t cause true
 
 -- the attempt at the update failed by this cause, and CTL0 allows a fallback at its end
-abbrev pub UpdateFallsBack : OpenFlash → AttemptCourse → Cause → Type 0
+abbrev pub UpdateFallsBack : OpenFlash → BootAttempt → Cause → Type 0
 UpdateFallsBack o t cause = UpdateFails o t cause false
 
 -- the second attempt of a boot is that at the update
 pub record TriesUpdate (o : OpenFlash) (attempts : List Tried) : Type 0 where
-  pub course : AttemptCourse
-  pub ended : UpdateEnds o course course.ending
+  pub attempt : BootAttempt
+  pub ended : UpdateEnds o attempt attempt.ending
   pub more : List Tried
-  pub attempts_are : attempts ≡ through_update o.place course.ending more
+  pub attempts_are : attempts ≡ through_update o.place attempt.ending more
 
 -- the attempt at the update is the last one, and the boot ends by `by_end`
-pub record EndsAtUpdate (o : OpenFlash) (t : AttemptCourse) (by_end : BootEnd) (c : BootCourse) : Type 0 where
+pub record EndsAtUpdate (o : OpenFlash) (t : BootAttempt) (by_end : BootEnd) (c : BootCourse) : Type 0 where
   pub attempts_are : c.attempts ≡ through_update o.place t.ending []
   pub end_is : c.end ≡ by_end
   pub last_is : c.last ≡ t
@@ -125,7 +125,7 @@ pub record FallsBack (o : OpenFlash) (cause : Cause) (golden : PlanData) (c : Bo
 
 -- The boot falls back and starts as another attempt did: at the same byte, with the same memory, and BOOTSTS shows the
 -- fallback and the update's cause.
-pub record FallsBackClean (o : OpenFlash) (cause : Cause) (t : AttemptCourse) (c : BootCourse) : Type 0 where
+pub record FallsBackClean (o : OpenFlash) (cause : Cause) (t : BootAttempt) (c : BootCourse) : Type 0 where
   pub attempts_are : c.attempts ≡ fell_back o.place cause
   pub started : c.end ≡ boot_end.Started
   pub taken : length c.last.bytes ≡ length t.bytes
@@ -133,7 +133,7 @@ pub record FallsBackClean (o : OpenFlash) (cause : Cause) (t : AttemptCourse) (c
   pub bootsts : (end_state o.part c.last).bootsts ≡ fallback_status cause
 
 -- the attempt is a fallback over the flash, at address 0, and starts; what else its device kept over the reset is free
-pub record StartsAsFallback (o : OpenFlash) (f : AttemptCourse) : Type 0 where
+pub record StartsAsFallback (o : OpenFlash) (f : BootAttempt) : Type 0 where
   pub is : IsFlashAttempt o.part o.flash f
   pub kind : f.kept.kind ≡ Fallback
   pub address : f.address ≡ 0
@@ -142,7 +142,7 @@ pub record StartsAsFallback (o : OpenFlash) (f : AttemptCourse) : Type 0 where
 -- The boot falls back and starts as another fallback does: with the same bytes and memory, and the same state but for
 -- the end, WBSTAR, TIMER, BSPI and BOOTSTS, which may show what was kept over the reset. BOOTSTS shows that fallback,
 -- and the update's cause.
-pub record FallsBackAlike (o : OpenFlash) (cause : Cause) (f : AttemptCourse) (c : BootCourse) : Type 0 where
+pub record FallsBackAlike (o : OpenFlash) (cause : Cause) (f : BootAttempt) (c : BootCourse) : Type 0 where
   pub attempts_are : c.attempts ≡ fell_back o.place cause
   pub started : c.end ≡ boot_end.Started
   pub taken : c.last.bytes ≡ f.bytes
@@ -158,26 +158,26 @@ pub record BootsOpen (o : OpenFlash) (c : BootCourse) : Type 0 where
   -- the second attempt is that at the update
   pub tries : TriesUpdate o c.attempts
   -- where the attempt at the update starts, the boot has started with the update
-  pub starts : (t : AttemptCourse) → UpdateEnds o t ending.Started → EndsAtUpdate o t boot_end.Started c
+  pub starts : (t : BootAttempt) → UpdateEnds o t ending.Started → EndsAtUpdate o t boot_end.Started c
   -- an update that is the full stream of a plan starts, with the memory of the plan
   pub full : (update : PlanData) → HasFullUpdate o update → StartsUpdate o update c
   -- where the update fails and CTL0 forbids a fallback, the boot stops
-  pub stops : (t : AttemptCourse) (cause : Cause) → UpdateStops o t cause → EndsAtUpdate o t boot_end.Stopped c
+  pub stops : (t : BootAttempt) (cause : Cause) → UpdateStops o t cause → EndsAtUpdate o t boot_end.Stopped c
   -- where the update fails and CTL0 allows a fallback, a golden stream that is the full stream of a plan starts, with
   -- the memory of the plan
-  pub falls_back : (t : AttemptCourse) (cause : Cause) (golden : PlanData) → HasFullGolden o golden → UpdateFallsBack o t cause → FallsBack o cause golden c
+  pub falls_back : (t : BootAttempt) (cause : Cause) (golden : PlanData) → HasFullGolden o golden → UpdateFallsBack o t cause → FallsBack o cause golden c
   -- where the update fails and CTL0 allows a fallback, a golden stream of any kind that starts at power after an erased
   -- first sector and begins clean starts as it did there
-  pub falls_clean : (t : AttemptCourse) (cause : Cause) (golden : AttemptCourse) → StartsClean o.part o.flash golden → UpdateFallsBack o t cause → FallsBackClean o cause golden c
+  pub falls_clean : (t : BootAttempt) (cause : Cause) (golden : BootAttempt) → StartsClean o.part o.flash golden → UpdateFallsBack o t cause → FallsBackClean o cause golden c
   -- where the update fails and CTL0 allows a fallback, the boot starts as any fallback over the flash does that starts
-  pub falls_alike : (t : AttemptCourse) (cause : Cause) (f : AttemptCourse) → StartsAsFallback o f → UpdateFallsBack o t cause → FallsBackAlike o cause f c
+  pub falls_alike : (t : BootAttempt) (cause : Cause) (f : BootAttempt) → StartsAsFallback o f → UpdateFallsBack o t cause → FallsBackAlike o cause f c
 
 -- every boot from the flash comes to what a boot from a flash with an open slot comes to
 abbrev pub EachBootsOpen : OpenFlash → Type 0
 EachBootsOpen o = (c : BootCourse) → IsCourse o.part o.flash c → BootsOpen o c
 
 -- every boot from the flash falls back and starts as this attempt did, as `FallsBackClean` says
-abbrev pub EachFallsBackClean : OpenFlash → Cause → AttemptCourse → Type 0
+abbrev pub EachFallsBackClean : OpenFlash → Cause → BootAttempt → Type 0
 EachFallsBackClean o cause t = (c : BootCourse) → IsCourse o.part o.flash c → FallsBackClean o cause t c
 
 -- the part's numbers are in range, and the image of a golden and an update stream is no larger than a flash may be

@@ -2,14 +2,14 @@
 -- project's choice).
 use Rattle.std.specs.Prelude.{◌≡◌, ◌≤◌, ℕ, List, [], ◌∷◌, ◌++◌, false, length}
 use Rattle.x7_part.specs.Part.{PartData}
-use Rattle.x7_boot.specs.Attempt.{AttemptCourse, attempt_end}
+use Rattle.x7_boot.specs.Attempt.{BootAttempt, attempt_end}
 use Rattle.x7_boot.specs.Boot.{BootedState, IsBoot}
 use Rattle.x7_boot.specs.BootCourse.{course_of}
 use Rattle.x7_update.specs.After.{IsAfterUpdate}
 use Rattle.x7_recovery.specs.Golden.{StartsAlike, UpdatingByAttempt}
 
 -- each of these attempts ended within the region: at its last byte or before it
-abbrev pub EndWithin : List ℕ → List AttemptCourse → Type 0
+abbrev pub EndWithin : List ℕ → List BootAttempt → Type 0
 EndWithin region [] = Unit {0}
 EndWithin region (t ∷ older) = (t.wrapped ≡ false) × (attempt_end t ≤ length region) × EndWithin region older
 

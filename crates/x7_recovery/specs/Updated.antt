@@ -3,7 +3,7 @@ use Rattle.std.specs.Prelude.{◌≡◌, ℕ, List, take}
 use Rattle.x7_words.specs.Word.{AreBytes}
 use Rattle.x7_packets.specs.FlashSlot.{sector_size}
 use Rattle.x7_part.specs.Part.{PartData}
-use Rattle.x7_boot.specs.Attempt.{AttemptCourse}
+use Rattle.x7_boot.specs.Attempt.{BootAttempt}
 use Rattle.x7_recovery.specs.Clean.{StartsClean}
 use Rattle.x7_recovery.specs.Golden.{GoldenStarts}
 use Rattle.x7_recovery.specs.OpenSlot.{OpenFlash, slot_of_flash}
@@ -28,7 +28,7 @@ pub record UpdatedFlash : Type 0 where
   pub part : PartData
   pub flash : List ℕ
   pub found : List ℕ
-  pub golden : AttemptCourse
+  pub golden : BootAttempt
 
 -- A flash was updated any number of times, and then once more with a stream, as `WasUpdated` says; before all updates a
 -- golden stream of any kind started and began clean, as one attempt shows that ended at the update's place or before

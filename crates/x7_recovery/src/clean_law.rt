@@ -3,7 +3,7 @@
 ghost use Rattle.std.specs.Prelude.{◌≡◌, ◌≤◌, List, ℕ, length};
 ghost use Rattle.x7_part.specs.Part.{PartData};
 ghost use Rattle.x7_regs.specs.declared.boot_status.Cause.{Cause};
-ghost use Rattle.x7_boot.specs.Attempt.{AttemptCourse};
+ghost use Rattle.x7_boot.specs.Attempt.{BootAttempt};
 ghost use Rattle.x7_recovery.specs.Clean.{StartsClean};
 ghost use Rattle.x7_recovery.specs.Golden.{GoldenStarts};
 ghost use Rattle.x7_recovery.specs.OpenBoot.{EachBootsOpen, EachFallsBackClean, UpdateFallsBack};
@@ -14,8 +14,8 @@ ghost use Rattle.x7_update.specs.Layout.{update_place};
 /// that, before the first update and with the first sector erased, started with the golden stream and ended at the
 /// update's place or before it does so after them too, and still begins clean where it began clean.
 pub fn updates_keep_golden_streams()
-    ensures starts { (part : PartData) (flash found : List ℕ) (t : AttemptCourse) → AfterUpdates flash found → GoldenStarts part flash t → GoldenStarts part found t }
-    ensures clean { (part : PartData) (flash found : List ℕ) (t : AttemptCourse) → AfterUpdates flash found → length t.bytes ≤ update_place flash
+    ensures starts { (part : PartData) (flash found : List ℕ) (t : BootAttempt) → AfterUpdates flash found → GoldenStarts part flash t → GoldenStarts part found t }
+    ensures clean { (part : PartData) (flash found : List ℕ) (t : BootAttempt) → AfterUpdates flash found → length t.bytes ≤ update_place flash
         → StartsClean part flash t → StartsClean part found t }
     ensures same_place { (flash found : List ℕ) → AfterUpdates flash found → update_place found ≡ update_place flash }
 {}
@@ -28,6 +28,6 @@ pub fn updates_keep_golden_streams()
 /// the update's failure.
 pub fn updated_flashes_fall_back()
     ensures boots { (u : UpdatedFlash) → (is : IsUpdated u) → EachBootsOpen (opened_by is) }
-    ensures falls_back { (u : UpdatedFlash) (t : AttemptCourse) (cause : Cause) → (is : IsUpdated u)
+    ensures falls_back { (u : UpdatedFlash) (t : BootAttempt) (cause : Cause) → (is : IsUpdated u)
         → UpdateFallsBack (opened_by is) t cause → EachFallsBackClean (opened_by is) cause u.golden }
 {}

@@ -2,7 +2,7 @@
 //! their contracts are the laws.
 ghost use Rattle.std.specs.Prelude.{List, ℕ};
 ghost use Rattle.x7_part.specs.Part.{PartData};
-ghost use Rattle.x7_boot.specs.Attempt.{AttemptCourse};
+ghost use Rattle.x7_boot.specs.Attempt.{BootAttempt};
 ghost use Rattle.x7_boot.specs.Boot.{BootedState, IsBoot};
 ghost use Rattle.x7_recovery.specs.Clean.{StartsClean};
 ghost use Rattle.x7_recovery.specs.Golden.{BootsAlike, HaveSameGolden, IsPreparedByAttempt, LeadsNowhere, StartsAlike, StartsAsPlanned, UpdatingByAttempt, with_first_sector_erased};
@@ -16,7 +16,7 @@ ghost use Rattle.x7_update.specs.Layout.{IsUpdatable};
 /// boot from the other starts with its one attempt, at power. It has the memory and registers with which that attempt
 /// ended.
 pub fn flashes_that_lead_nowhere_start_alike()
-    ensures { (part : PartData) (one other : List ℕ) (t : AttemptCourse) (b : BootedState) → HaveSameGolden part one other t
+    ensures { (part : PartData) (one other : List ℕ) (t : BootAttempt) (b : BootedState) → HaveSameGolden part one other t
         → (boot : IsBoot part other b) → StartsAlike part t (course_of b boot.last) }
 {}
 
@@ -40,6 +40,6 @@ pub fn found_flashes_boot_alike()
 /// before it, with the memory of the plan over zeros, and BOOTSTS shows no other attempt. Each attempt that starts so
 /// begins clean.
 pub fn full_streams_start()
-    ensures starts { (u : Updating) → IsPrepared u → (t : AttemptCourse) × StartsAsPlanned u t }
-    ensures clean { (u : Updating) (t : AttemptCourse) → IsPrepared u → StartsAsPlanned u t → StartsClean u.part u.flash t }
+    ensures starts { (u : Updating) → IsPrepared u → (t : BootAttempt) × StartsAsPlanned u t }
+    ensures clean { (u : Updating) (t : BootAttempt) → IsPrepared u → StartsAsPlanned u t → StartsClean u.part u.flash t }
 {}

@@ -5,7 +5,7 @@ ghost use Rattle.x7_part.specs.Part.{PartData};
 ghost use Rattle.x7_part.specs.Ranges.{IsPart};
 ghost use Rattle.x7_regs.specs.declared.boot_status.Cause.TheVariants.{Wrap};
 ghost use Rattle.x7_memory.specs.Plan.{IsPlanFor, PlanData};
-ghost use Rattle.x7_boot.specs.Attempt.{AttemptCourse};
+ghost use Rattle.x7_boot.specs.Attempt.{BootAttempt};
 ghost use Rattle.x7_boot.specs.Image.{image_of};
 ghost use Rattle.x7_recovery.specs.Example.{nothing_planned, tiny};
 ghost use Rattle.x7_recovery.specs.OpenBoot.{HasFullGolden, HasImageOf, HasStreams, StartsAsFallback, UpdateFallsBack};
@@ -36,7 +36,7 @@ pub fn premises_hold()
     ensures prepared { (stream : List ℕ) → IsPrepared (updating_image tiny nothing_planned [] stream) }
     ensures torn { (stream : List ℕ) → (found : List ℕ) × MayBeLeft stream (golden_image tiny nothing_planned []) found × (found ≢ golden_image tiny nothing_planned []) }
     ensures falls_back { (part : PartData) (golden : PlanData) (update more : List ℕ) → HasImage part golden update
-        → (f : AttemptCourse) × StartsAsFallback (flash_of_image part golden update more) f }
+        → (f : BootAttempt) × StartsAsFallback (flash_of_image part golden update more) f }
     ensures fails { (part : PartData) (golden : PlanData)
-        → (t : AttemptCourse) × UpdateFallsBack (image_of_flash part (golden_image part golden []) (place_after part golden)) t Wrap }
+        → (t : BootAttempt) × UpdateFallsBack (image_of_flash part (golden_image part golden []) (place_after part golden)) t Wrap }
 {}
