@@ -128,14 +128,14 @@ shut_down part kept startup h n g =
       pending = refl;
     })
 
--- ---- IDCODE and the settings
+-- ---- IDCODE and the control words
 
 quiet : (h : History) (r w : ℕ) → (r == 1) ≡ false → (r == 4) ≡ false → IsQuiet h (access.Write r w)
 quiet h r w a b = record { start = rw (b, a) refl; shutdown = rw (b, a) refl; desync = rw (b, a) refl }
 
-pub settings_ready : (part : PartData) (kept : Kept) (startup : StartupProgress) (h : History) (n : ℕ) (m : FrameMap) → IsGoing part kept startup h n → HaveSameFrames (memory_of part h) m → forbids_reading (ctl0_held h) ≡ false → has_dec (ctl0_held h) ≡ false
+pub control_words_ready : (part : PartData) (kept : Kept) (startup : StartupProgress) (h : History) (n : ℕ) (m : FrameMap) → IsGoing part kept startup h n → HaveSameFrames (memory_of part h) m → forbids_reading (ctl0_held h) ≡ false → has_dec (ctl0_held h) ≡ false
     → IsReady part kept startup (written n (Put item.Noop ∷ one Idcode part.idcode ∷ one Cor0 0x02003FE5 ∷ one Mask 0x501 ∷ one Ctl0 0x101 ∷ []) h) (n + 4 + 8 + 8 + 8 + 8) m
-settings_ready part kept startup h n m g same s d =
+control_words_ready part kept startup h n m g same s d =
     let a : History = entry (access.Write 12 part.idcode) (n + 4 + 4 + 4) ∷ h in
     let b : History = entry (access.Write 9 0x02003FE5) (n + 4 + 8 + 4 + 4) ∷ a in
     let c : History = entry (access.Write 6 0x501) (n + 4 + 8 + 8 + 4 + 4) ∷ b in
@@ -215,7 +215,7 @@ full_plays part kept bytes plan f r is p e within =
     let shut : IsGoing part kept NotBegun down k = shut_down part kept startup h n going in
     let same : HaveSameFrames (memory_of part down) m = quiet_one part _ (access.Write 4 7) _ m refl (quiet_one part h (access.Write 4 11) _ m refl (λ x. refl)) in
     let set : History = written k (Put item.Noop ∷ one Idcode part.idcode ∷ one Cor0 0x02003FE5 ∷ one Mask 0x501 ∷ one Ctl0 0x101 ∷ []) down in
-    let ready : IsReady part kept NotBegun set (k + 4 + 8 + 8 + 8 + 8) m = settings_ready part kept NotBegun down k m shut same r.sbits (no_dec part kept h (length bytes) r.no_stop) in
+    let ready : IsReady part kept NotBegun set (k + 4 + 8 + 8 + 8 + 8) m = control_words_ready part kept NotBegun down k m shut same r.sbits (no_dec part kept h (length bytes) r.no_stop) in
     let at : ℕ = k + 4 + 8 + 8 + 8 + 8 in
     let load : History = written at (command Wcfg ∷ one Far first ∷ []) set in
     let loaded : IsLoaded part kept NotBegun 1 first load (at + 8 + 8) m = ready_load part kept NotBegun first set at m ready t.0 in

@@ -14,7 +14,7 @@ use Rattle.x7_engine.specs.Kept.{kept_word}
 use Rattle.x7_engine.specs.State.{history_by, history_taken, state_of, first_stop_of_bytes}
 use Rattle.x7_engine.specs.Stop.{Stopped}
 use Rattle.x7_planner.specs.PartialStream.{Copies, Rows, Section, sections_of}
-use Rattle.x7_effects.specs.Played.{KeepsSettings, KeepsUnwritten}
+use Rattle.x7_effects.specs.Played.{KeepsControlWords, KeepsUnwritten}
 use Rattle.x7_effects.proofs.Items as item
 use Rattle.x7_effects.proofs.Items.{item_entered, writes_entered}
 use Rattle.x7_effects.proofs.Checking.{ArePieces, Check, Checking, ClearFirst, Piece, Put, checking_of, piece_item, piece_length, pieces_length}
@@ -145,8 +145,8 @@ module _ (part : PartData) (kept : Kept) (bytes : List ℕ) (pieces : List Piece
         bspi = other 31 (unwritten_is 31 (other_is 31 refl refl refl refl refl refl) refl refl refl);
       }
 
-  pub settings_stay : ((r : ℕ) → IsOther r → AreApart r pieces) → (wrapped : Bool) → KeepsSettings (state_of part kept wrapped bytes) (state_of part kept wrapped (bytes ++ stream_of pieces noops))
-  settings_stay apart wrapped =
+  pub control_words_stay : ((r : ℕ) → IsOther r → AreApart r pieces) → (wrapped : Bool) → KeepsControlWords (state_of part kept wrapped bytes) (state_of part kept wrapped (bytes ++ stream_of pieces noops))
+  control_words_stay apart wrapped =
       let ctl0 : IsOther 5 = other_is 5 refl refl refl refl refl refl in
       let mask : IsOther 6 = other_is 6 refl refl refl refl refl refl in
       let cor0 : IsOther 9 = other_is 9 refl refl refl refl refl refl in

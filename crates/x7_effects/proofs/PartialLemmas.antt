@@ -34,7 +34,7 @@ use Rattle.x7_effects.proofs.FormLemmas.{partial_clears}
 use Rattle.x7_effects.proofs.FrameLemmas.{address_small}
 use Rattle.x7_effects.proofs.GoingLemmas.{IsGoing, going_bytes, written, written_append}
 use Rattle.x7_effects.proofs.GroupLemmas.{plan_put}
-use Rattle.x7_effects.proofs.KeptLemmas.{partial_apart, settings_stay}
+use Rattle.x7_effects.proofs.KeptLemmas.{partial_apart, control_words_stay}
 use Rattle.x7_effects.proofs.PlacedLemmas.{plan_fits, sections_land}
 use Rattle.x7_effects.proofs.PlanLemmas.{sections_stand}
 use Rattle.x7_effects.proofs.RestingLemmas.{going_at_rest, going_closed}
@@ -101,7 +101,7 @@ partial_plays part kept bytes plan f r is p e within =
       memory = λ far. all.memory far ∙ plan_put part rows (memory_of part h) p.order far ∙ ap (λ (x : FrameMap). override x (planned rows) far) (sym (memory_all part kept bytes r.no_stop));
       phase = λ wrapped. all.phase_is wrapped ∙ sym (phase_going part kept wrapped bytes r.no_stop);
       lines = λ wrapped. all.lines_are wrapped ∙ sym (lines_going part kept wrapped bytes r.no_stop);
-      registers = settings_stay part kept bytes (plan_pieces part rows) 4 f r.searching (partial_fits_plan part plan is p e within) (partial_clears part sections) r.no_stop all.rests_again.no_stop (partial_apart part rows);
+      registers = control_words_stay part kept bytes (plan_pieces part rows) 4 f r.searching (partial_fits_plan part plan is p e within) (partial_clears part sections) r.no_stop all.rests_again.no_stop (partial_apart part rows);
       reads = stream_silent part kept bytes (plan_pieces part rows) 4 f r.searching (partial_fits_plan part plan is p e within) (partial_clears part sections)
           (tt, (tt, (tt, (tt, sections_silent part sections (Check ∷ []) (tt, tt))))) r.no_stop all.rests_again.no_stop;
       rests = all.rests_again;

@@ -43,7 +43,7 @@ use Rattle.x7_effects.proofs.FormLemmas.{read_clears, read_fits}
 use Rattle.x7_effects.proofs.FrameLemmas.{address_small}
 use Rattle.x7_effects.proofs.GoingLemmas.{IsGoing, far_passes, going_access, going_bytes, why_none, quiet_far, quiet_rcrc}
 use Rattle.x7_flow.proofs.InsideLemmas.{memory_has}
-use Rattle.x7_effects.proofs.KeptLemmas.{read_apart, settings_stay}
+use Rattle.x7_effects.proofs.KeptLemmas.{read_apart, control_words_stay}
 use Rattle.x7_effects.proofs.PlanLemmas.{target}
 use Rattle.x7_effects.proofs.ReadLemmas as reading
 use Rattle.x7_effects.proofs.RestingLemmas.{going_at_rest, going_closed, stream_history}
@@ -150,7 +150,7 @@ read_plays part kept bytes far n f r is has l =
           ∙ ap (λ x. x ++ words_along part (memory_of part h) far n) (sym (reads_going part kept bytes r.no_stop))
           ∙ ap (λ (m : FrameMap). reads_of part kept bytes ++ words_along part m far n) (sym (memory_all part kept bytes r.no_stop));
       memory = λ x. all.memory x ∙ ap (λ (m : FrameMap). m x) (sym (memory_all part kept bytes r.no_stop));
-      registers = settings_stay part kept bytes pieces 4 f r.searching fits (read_clears part far n) r.no_stop all.rests_again.no_stop (read_apart far count);
+      registers = control_words_stay part kept bytes pieces 4 f r.searching fits (read_clears part far n) r.no_stop all.rests_again.no_stop (read_apart far count);
       phase = λ wrapped. all.phase_is wrapped ∙ sym (phase_going part kept wrapped bytes r.no_stop);
       lines = λ wrapped. all.lines_are wrapped ∙ sym (lines_going part kept wrapped bytes r.no_stop);
       rests = all.rests_again;

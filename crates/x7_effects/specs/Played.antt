@@ -87,9 +87,9 @@ pub record KeepsUnwritten (old new : Snapshot) : Type 0 where
   pub timer : new.timer ≡ old.timer
   pub bspi : new.bspi ≡ old.bspi
 
--- the registers that keep a word and that no planned stream writes, and the settings that a full stream writes (CTL0,
+-- the registers that keep a word and that no planned stream writes, and the words that a full stream writes (CTL0,
 -- MASK and COR0), are as they were; of CRC, FAR, CMD, IDCODE, STAT and BOOTSTS nothing is said
-pub record KeepsSettings (old new : Snapshot) : Type 0 where
+pub record KeepsControlWords (old new : Snapshot) : Type 0 where
   pub ctl0 : new.ctl0 ≡ old.ctl0
   pub mask : new.mask ≡ old.mask
   pub cor0 : new.cor0 ≡ old.cor0
@@ -106,24 +106,24 @@ pub record PlaysFull (d : DeviceAfter) (stream : List ℕ) (plan : PlanData) : T
   pub reads : reads_of d.part d.kept (d.bytes ++ stream) ≡ reads_of d.part d.kept d.bytes
   pub rests : AtRest d.part d.kept (d.bytes ++ stream)
 
--- After a partial stream the memory is that before it, overridden by the plan, and phase, lines and settings stay. It
--- reads nothing out, there is no stop, and the device is at rest again.
+-- After a partial stream the memory is that before it, overridden by the plan, and phase, lines and control words stay.
+-- It reads nothing out, there is no stop, and the device is at rest again.
 pub record PlaysPartial (d : DeviceAfter) (stream : List ℕ) (plan : PlanData) : Type 0 where
   pub memory : HaveSameFrames (memory_of_bytes d.part d.kept (d.bytes ++ stream)) (override (memory_of_bytes d.part d.kept d.bytes) (planned plan.rows))
   pub phase : (wrapped : Bool) → (state_of d.part d.kept wrapped (d.bytes ++ stream)).phase ≡ (state_of d.part d.kept wrapped d.bytes).phase
   pub lines : (wrapped : Bool) → (state_of d.part d.kept wrapped (d.bytes ++ stream)).lines ≡ (state_of d.part d.kept wrapped d.bytes).lines
-  pub registers : (wrapped : Bool) → KeepsSettings (state_of d.part d.kept wrapped d.bytes) (state_of d.part d.kept wrapped (d.bytes ++ stream))
+  pub registers : (wrapped : Bool) → KeepsControlWords (state_of d.part d.kept wrapped d.bytes) (state_of d.part d.kept wrapped (d.bytes ++ stream))
   pub reads : reads_of d.part d.kept (d.bytes ++ stream) ≡ reads_of d.part d.kept d.bytes
   pub rests : AtRest d.part d.kept (d.bytes ++ stream)
 
 -- A read stream reads out a frame of zeros and the words of n slots from an address on; memory, phase, lines and
--- settings stay. There is no stop, and the device is at rest again.
+-- control words stay. There is no stop, and the device is at rest again.
 pub record PlaysRead (d : DeviceAfter) (stream : List ℕ) (far n : ℕ) : Type 0 where
   pub reads : reads_of d.part d.kept (d.bytes ++ stream) ≡ reads_of d.part d.kept d.bytes ++ words_along d.part (memory_of_bytes d.part d.kept d.bytes) far n
   pub memory : HaveSameFrames (memory_of_bytes d.part d.kept (d.bytes ++ stream)) (memory_of_bytes d.part d.kept d.bytes)
   pub phase : (wrapped : Bool) → (state_of d.part d.kept wrapped (d.bytes ++ stream)).phase ≡ (state_of d.part d.kept wrapped d.bytes).phase
   pub lines : (wrapped : Bool) → (state_of d.part d.kept wrapped (d.bytes ++ stream)).lines ≡ (state_of d.part d.kept wrapped d.bytes).lines
-  pub registers : (wrapped : Bool) → KeepsSettings (state_of d.part d.kept wrapped d.bytes) (state_of d.part d.kept wrapped (d.bytes ++ stream))
+  pub registers : (wrapped : Bool) → KeepsControlWords (state_of d.part d.kept wrapped d.bytes) (state_of d.part d.kept wrapped (d.bytes ++ stream))
   pub rests : AtRest d.part d.kept (d.bytes ++ stream)
 
 -- ---- streams one after another

@@ -19,7 +19,7 @@ pub fn full_streams_play()
 {}
 
 /// On a device at rest the partial stream of a plan for the part overrides the memory by just the plan; phase, lines
-/// and settings stay, the stream reads nothing out, there is no stop, and the device is at rest again.
+/// and control words stay, the stream reads nothing out, there is no stop, and the device is at rest again.
 pub fn partial_streams_play()
     ensures { (d : DeviceAfter) (plan : PlanData) → DeviceRests d → IsPlanFor d.part plan → PlaysPartial d (partial_stream d.part plan.rows) plan }
 {}
@@ -34,8 +34,8 @@ pub fn partial_streams_write_once()
 {}
 
 /// On a device at rest the read stream of n slots from an address of the part on, n at least one and no more than there
-/// are, reads out a frame of zeros, and then the frame of each slot, zeros for a pad. Memory, phase, lines and settings
-/// stay, there is no stop, and the device is at rest again.
+/// are, reads out a frame of zeros, and then the frame of each slot, zeros for a pad. Memory, phase, lines and control
+/// words stay, there is no stop, and the device is at rest again.
 pub fn read_streams_play()
     ensures { (d : DeviceAfter) (far n : ℕ) → DeviceRests d → CanRead d.part far n → PlaysRead d (read_stream d.part far n) far n }
 {}

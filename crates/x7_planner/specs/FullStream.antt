@@ -11,7 +11,7 @@ use Rattle.x7_memory.specs.Plan.{PlanData, planned}
 use Rattle.x7_regs.specs.declared.command.Command.TheVariants.{Desync, Lfrm, Rcrc, Shutdown, Start, Wcfg}
 use Rattle.x7_regs.specs.declared.register.Reg.TheVariants.{Cor0, Ctl0, Far, Idcode, Mask}
 use Rattle.x7_packets.specs.PacketWords.{command, frame_data_headers, no_op, write_one}
-use Rattle.x7_planner.specs.Settings.{ctl0_word, ctl0_mask_word, cor0_word}
+use Rattle.x7_planner.specs.ControlWords.{ctl0_word, ctl0_mask_word, cor0_word}
 use Rattle.x7_planner.specs.Writer.{StreamPiece, Words, Check, opening_words, stream_of}
 
 -- a frame of zeros
@@ -34,14 +34,14 @@ words_of_slots part plan places = flat_map (frame_at_slot part plan) places
 
 -- what a full stream writes between its opening words and the frame data: SHUTDOWN, RCRC, a no-op, the IDCODE, COR0,
 -- MASK and CTL0, WCFG, the part's first address, and the headers of the frame data
-abbrev pub full_settings : PartData → List ℕ
-full_settings part =
+abbrev pub full_control_words : PartData → List ℕ
+full_control_words part =
     command Shutdown ++ (command Rcrc ++ (no_op ∷ (write_one Idcode part.idcode ++ (write_one Cor0 cor0_word ++ (write_one Mask ctl0_mask_word ++ (write_one Ctl0 ctl0_word
     ++ (command Wcfg ++ (write_one Far (slice_index (addresses_in part) 0) ++ frame_data_headers (frame_words part * length (slots_in part))))))))))
 
 -- what stands before the frame data of a full stream
 abbrev pub full_opening : PartData → List ℕ
-full_opening part = opening_words ++ full_settings part
+full_opening part = opening_words ++ full_control_words part
 
 -- LFRM, which ends the frame data, and START
 abbrev pub start_words : List ℕ

@@ -81,13 +81,13 @@ piece_slots = 160
 abbrev pub piece_limit : ℕ
 piece_limit = piece_slots * most_frame_size
 
--- how many bytes `full_settings` has: those of nineteen words
-abbrev pub settings_size : ℕ
-settings_size = 4 * 19
+-- how many bytes `full_control_words` has: those of nineteen words
+abbrev pub control_words_size : ℕ
+control_words_size = 4 * 19
 
--- how many bytes stand before the frame data: those of the ten opening words, and of the settings
+-- how many bytes stand before the frame data: those of the ten opening words, and of the control words
 abbrev pub opening_size : ℕ
-opening_size = 4 * 10 + settings_size
+opening_size = 4 * 10 + control_words_size
 
 -- there are at most `most` bytes more; or the call failed: there was no spare room for that many before, and the old
 -- bytes still stand first; in no case does the capacity fall

@@ -6,16 +6,16 @@ ghost use Rattle.x7_part.specs.Limits.{most_frame_words, most_words};
 ghost use Rattle.x7_part.specs.Part.{frame_words};
 ghost use Rattle.x7_part.specs.Ranges.{IsPart};
 ghost use Rattle.x7_part.specs.Slot.{slots_in};
-ghost use Rattle.x7_planner.specs.FullStream.{frame_at_slot, full_opening, full_settings, full_stream, most_slots, words_of_slots};
+ghost use Rattle.x7_planner.specs.FullStream.{frame_at_slot, full_opening, full_control_words, full_stream, most_slots, words_of_slots};
 ghost use Rattle.x7_planner.specs.Fault.{IsFullFault};
 ghost use Rattle.x7_planner.specs.Writer.{bytes_of_words};
-ghost use Rattle.x7_planner.specs.FullStreamPieces.{AppendsWithin, HasGiven, AppendsNext, WritesPiece, most_frame_size, opening_size, piece_limit, puts_left, settings_size};
+ghost use Rattle.x7_planner.specs.FullStreamPieces.{AppendsWithin, HasGiven, AppendsNext, WritesPiece, most_frame_size, opening_size, piece_limit, puts_left, control_words_size};
 ghost use Rattle.x7_planner.specs.declared.fault.PlanFault.{PlanFault};
 ghost use Rattle.x7_planner.specs.declared.full_stream.NextPiece.{NextPiece};
 
 use crate::address::first_foreign;
 use crate::fault::PlanFault;
-use crate::settings::{COR0_WORD, CTL0_MASK_WORD, CTL0_WORD};
+use crate::control_words::{COR0_WORD, CTL0_MASK_WORD, CTL0_WORD};
 use crate::writer::{OPENING_WORDS, put_packets, put_words};
 use std::alloc::Global;
 use std::marker::Model;
@@ -69,9 +69,9 @@ fn slot_count(part: &Part) -> u64
 
 /// Writes what stands between the opening words and the frame data: SHUTDOWN, RCRC, a no-op, the IDCODE, COR0, MASK and
 /// CTL0, WCFG, the part's first address, and the headers of the frame data.
-fn put_settings(out: &mut Vec<u8>, part: &Part) -> Result<(), NoMemory>
-    ensures appends { OnOk result (out.new.items ≡ out.old.items ++ bytes_of_words (full_settings part.now)) }
-    ensures within { AppendsWithin out.old out.new result settings_size }
+fn put_control_words(out: &mut Vec<u8>, part: &Part) -> Result<(), NoMemory>
+    ensures appends { OnOk result (out.new.items ≡ out.old.items ++ bytes_of_words (full_control_words part.now)) }
+    ensures within { AppendsWithin out.old out.new result control_words_size }
 {
     let word_count = part.words() * slot_count(part) as u32;
     put_packets(out, &[command(Command::Shutdown), command(Command::Rcrc)])?;
@@ -96,7 +96,7 @@ fn put_opening(out: &mut Vec<u8>, part: &Part) -> Result<(), NoMemory>
     ensures within { AppendsWithin out.old out.new result opening_size }
 {
     put_words(out, &OPENING_WORDS)?;
-    put_settings(out, part)
+    put_control_words(out, part)
 }
 
 /// The first `count` words.

@@ -9,7 +9,7 @@ mod group;
 mod partial_stream;
 mod read_stream;
 mod run;
-mod settings;
+mod control_words;
 mod writer;
 
 pub use fault::PlanFault;

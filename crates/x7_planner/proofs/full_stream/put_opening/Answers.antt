@@ -1,7 +1,7 @@
 use Rattle.std.proofs.Common.{Err, arith}
 use Rattle.std.proofs.lemmas.Result.{on_ok_weaker}
-use Rattle.x7_planner.specs.FullStream.{full_settings}
-use Rattle.x7_planner.specs.FullStreamPieces.{opening_size, settings_size}
+use Rattle.x7_planner.specs.FullStream.{full_control_words}
+use Rattle.x7_planner.specs.FullStreamPieces.{opening_size, control_words_size}
 use Rattle.x7_planner.specs.Writer.{opening_words}
 use Rattle.x7_planner.proofs.SlotLemmas.{written_on}
 use Rattle.x7_planner.proofs.WithinLemmas.{within_after, within_call, within_handed}
@@ -9,8 +9,8 @@ use Rattle.x7_planner.proofs.full_stream.put_opening.Goals as goal
 
 pub returns-clause-appends : goal.returns-clause-appends
 returns-clause-appends c =
-    on_ok_weaker c.put_settings.result
-    (λ e. written_on c.args.out.now.items c.put_words.new.out.items c.put_settings.new.out.items opening_words (full_settings c.args.part.now) c.in_ok-put_words.ensures.appends e) c.put_settings.ensures.appends
+    on_ok_weaker c.put_control_words.result
+    (λ e. written_on c.args.out.now.items c.put_words.new.out.items c.put_control_words.new.out.items opening_words (full_control_words c.args.part.now) c.in_ok-put_words.ensures.appends e) c.put_control_words.ensures.appends
 
 pub returns-in_err-put_words-clause-within : goal.returns-in_err-put_words-clause-within
 returns-in_err-put_words-clause-within c = within_handed c.args.out.now c.put_words.new.out c.from_residual.result opening_size c.from_residual.ensures.0 (λ e.
@@ -18,5 +18,5 @@ returns-in_err-put_words-clause-within c = within_handed c.args.out.now c.put_wo
 
 pub returns-clause-within : goal.returns-clause-within
 returns-clause-within c =
-    within_after c.args.out.now c.put_words.new.out c.put_settings.new.out c.put_settings.result _ 40 settings_size opening_size c.in_ok-put_words.ensures.appends (omega (arith, c.in_ok-put_words.ensures.length)) c.put_words.ensures.room
-    c.put_settings.ensures.within (omega arith)
+    within_after c.args.out.now c.put_words.new.out c.put_control_words.new.out c.put_control_words.result _ 40 control_words_size opening_size c.in_ok-put_words.ensures.appends (omega (arith, c.in_ok-put_words.ensures.length)) c.put_words.ensures.room
+    c.put_control_words.ensures.within (omega arith)

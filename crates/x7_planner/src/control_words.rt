@@ -1,4 +1,4 @@
-//! The settings of startup that a full stream writes (UG470, configuration options register 0 and control register 0;
+//! The control words that a full stream writes (UG470, configuration options register 0 and control register 0;
 //! their values are this project's choice).
 
 use x7_regs::{
