@@ -14,8 +14,8 @@ use Rattle.x7_memory.proofs.MapLemmas.{override_same}
 use Rattle.x7_pipeline.specs.Runs.{put_over}
 use Rattle.x7_pipeline.proofs.LawLemmas.{put_twice}
 use Rattle.x7_planner.specs.PartialStream.{Section, Copies, Rows}
-use Rattle.x7_planner.specs.PartialStream.{with_content, is_shared, is_first_of_group, groups_led, rows_not_shared, follows, with_row, runs_of, sections_of}
-use Rattle.x7_planner.specs.PartialStream.{joined_runs, IsRunOfRows, AreLongest, pairs_of}
+use Rattle.x7_planner.specs.PartialStream.{with_content, is_shared, is_first_of_group, groups_led, rows_not_shared, follows, with_row, bursts_of, sections_of}
+use Rattle.x7_planner.specs.PartialStream.{joined_bursts, IsBurst, AreLongest, pairs_of}
 use Rattle.x7_effects.proofs.Groups.{put_sections}
 
 -- ---- the address is one of these rows'
@@ -177,30 +177,30 @@ not_shared_agree all (r ∷ qs) a = by_test (is_shared all r) (not_shared_agree 
     by_test false ih = (a.0, ih)
 
 -- the runs are the rows, cut
-abbrev pub run_rows : List (List PlanRow) → List PlanRow
-run_rows = joined_runs
+abbrev pub burst_rows : List (List PlanRow) → List PlanRow
+burst_rows = joined_bursts
 
-row_joined : (part : PartData) (r : PlanRow) (runs : List (List PlanRow)) → run_rows (with_row part r runs) ≡ r ∷ run_rows runs
+row_joined : (part : PartData) (r : PlanRow) (runs : List (List PlanRow)) → burst_rows (with_row part r runs) ≡ r ∷ burst_rows runs
 row_joined part r [] = refl
 row_joined part r ([] ∷ runs) = refl
 row_joined part r ((s ∷ run) ∷ runs) = by_test (follows part r.far s.far)
   where
-    by_test : (b : Bool) → run_rows (if b then (r ∷ s ∷ run) ∷ runs else (r ∷ []) ∷ (s ∷ run) ∷ runs) ≡ r ∷ s ∷ (run ++ run_rows runs)
+    by_test : (b : Bool) → burst_rows (if b then (r ∷ s ∷ run) ∷ runs else (r ∷ []) ∷ (s ∷ run) ∷ runs) ≡ r ∷ s ∷ (run ++ burst_rows runs)
     by_test true = refl
     by_test false = refl
 
-pub runs_joined : (part : PartData) (rows : List PlanRow) → run_rows (runs_of part rows) ≡ rows
+pub runs_joined : (part : PartData) (rows : List PlanRow) → burst_rows (bursts_of part rows) ≡ rows
 runs_joined part [] = refl
-runs_joined part (r ∷ rows) = row_joined part r (runs_of part rows) ∙ ap (λ t. r ∷ t) (runs_joined part rows)
+runs_joined part (r ∷ rows) = row_joined part r (bursts_of part rows) ∙ ap (λ t. r ∷ t) (runs_joined part rows)
 
-runs_pairs : (runs : List (List PlanRow)) → flat_map pairs_of (map Rows runs) ≡ run_rows runs
+runs_pairs : (runs : List (List PlanRow)) → flat_map pairs_of (map Rows runs) ≡ burst_rows runs
 runs_pairs [] = refl
 runs_pairs (run ∷ runs) = ap (λ t. run ++ t) (runs_pairs runs)
 
 pub sections_pairs : (part : PartData) (rows : List PlanRow) → flat_map pairs_of (sections_of part rows) ≡ flat_map pairs_of (groups_led rows rows) ++ rows_not_shared rows rows
 sections_pairs part rows =
-    flat_map-append pairs_of (groups_led rows rows) (map Rows (runs_of part (rows_not_shared rows rows)))
-    ∙ ap (λ t. flat_map pairs_of (groups_led rows rows) ++ t) (runs_pairs (runs_of part (rows_not_shared rows rows)) ∙ runs_joined part (rows_not_shared rows rows))
+    flat_map-append pairs_of (groups_led rows rows) (map Rows (bursts_of part (rows_not_shared rows rows)))
+    ∙ ap (λ t. flat_map pairs_of (groups_led rows rows) ++ t) (runs_pairs (bursts_of part (rows_not_shared rows rows)) ∙ runs_joined part (rows_not_shared rows rows))
 
 pub sections_agree : (part : PartData) (rows : List PlanRow) → AreInOrder rows → Agree rows (flat_map pairs_of (sections_of part rows))
 sections_agree part rows o = rw (sections_pairs part rows) (all_append (λ p. planned rows p.far ≡ Some p.words) (flat_map pairs_of (groups_led rows rows)) (rows_not_shared rows rows) (groups_agree rows rows (own rows o)) (not_shared_agree rows rows (own rows o)))
@@ -290,23 +290,23 @@ pub plan_put : (part : PartData) (rows : List PlanRow) (memory : FrameMap) → A
 plan_put part rows memory o = sections_put rows (sections_of part rows) memory (sections_agree part rows o) (sections_cover part rows)
 
 -- the first of the longest runs is a run
-run_first : (part : PartData) (run : List PlanRow) (runs : List (List PlanRow)) → AreLongest part (run ∷ runs) → IsRunOfRows part run
-run_first part run [] a = a
-run_first part run (next ∷ runs) a = a.0
+burst_first : (part : PartData) (run : List PlanRow) (runs : List (List PlanRow)) → AreLongest part (run ∷ runs) → IsBurst part run
+burst_first part run [] a = a
+burst_first part run (next ∷ runs) a = a.0
 
-longer_run : (part : PartData) (r s : PlanRow) (run : List PlanRow) (runs : List (List PlanRow)) → follows part r.far s.far ≡ true → AreLongest part ((s ∷ run) ∷ runs) → AreLongest part ((r ∷ s ∷ run) ∷ runs)
-longer_run part r s run [] f a = (f, a)
-longer_run part r s run (next ∷ runs) f a = ((f, a.0), a.1, a.2)
+longer_burst : (part : PartData) (r s : PlanRow) (run : List PlanRow) (runs : List (List PlanRow)) → follows part r.far s.far ≡ true → AreLongest part ((s ∷ run) ∷ runs) → AreLongest part ((r ∷ s ∷ run) ∷ runs)
+longer_burst part r s run [] f a = (f, a)
+longer_burst part r s run (next ∷ runs) f a = ((f, a.0), a.1, a.2)
 
 row_longest : (part : PartData) (r : PlanRow) (runs : List (List PlanRow)) → AreLongest part runs → AreLongest part (with_row part r runs)
 row_longest part r [] a = tt
-row_longest part r ([] ∷ runs) a = absurd (run_first part [] runs a)
+row_longest part r ([] ∷ runs) a = absurd (burst_first part [] runs a)
 row_longest part r ((s ∷ run) ∷ runs) a = by_test (follows part r.far s.far) refl
   where
     by_test : (b : Bool) → follows part r.far s.far ≡ b → AreLongest part (if b then (r ∷ s ∷ run) ∷ runs else (r ∷ []) ∷ (s ∷ run) ∷ runs)
-    by_test true t = longer_run part r s run runs t a
+    by_test true t = longer_burst part r s run runs t a
     by_test false t = (tt, t, a)
 
-pub runs_longest : (part : PartData) (rows : List PlanRow) → AreLongest part (runs_of part rows)
-runs_longest part [] = tt
-runs_longest part (r ∷ rows) = row_longest part r (runs_of part rows) (runs_longest part rows)
+pub bursts_longest : (part : PartData) (rows : List PlanRow) → AreLongest part (bursts_of part rows)
+bursts_longest part [] = tt
+bursts_longest part (r ∷ rows) = row_longest part r (bursts_of part rows) (bursts_longest part rows)

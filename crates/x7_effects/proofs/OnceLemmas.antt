@@ -4,7 +4,7 @@ use Rattle.std.specs.Prelude.{bytes_eq, Contains, nat_le}
 use Rattle.std.specs.List.{AllByRecursion}
 use Rattle.std.proofs.lemmas.Bool.{eqb-true}
 use Rattle.x7_memory.proofs.PlanLemmas.{order_tail}
-use Rattle.x7_planner.proofs.RunLemmas.{all_rows}
+use Rattle.x7_planner.proofs.BurstLemmas.{all_rows}
 use Rattle.x7_part.specs.Part.{PartData}
 use Rattle.x7_memory.specs.Plan.{AreApart, AreInOrder, PlanRow, planned, planned_addresses}
 use Rattle.x7_planner.specs.PartialStream.{Copies, WritesOnce, groups_led, is_shared, is_first_of_group, rows_not_shared, pairs_in, sections_of, with_content}

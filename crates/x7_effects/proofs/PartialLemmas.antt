@@ -3,7 +3,7 @@ use Rattle.std.proofs.Common.{◌≡◌, ◌+◌, ◌*◌, ◌^◌, ◌≤◌, �
 use Rattle.std.specs.Prelude.{All, Contains}
 use Rattle.std.specs.List.{AllByRecursion}
 use Rattle.std.proofs.Math.Nat.{mul-le-mul_left}
-use Rattle.x7_planner.proofs.RunLemmas.{all_rows}
+use Rattle.x7_planner.proofs.BurstLemmas.{all_rows}
 use Rattle.x7_planner.proofs.FewLemmas.{by_rows}
 use Rattle.x7_regs.specs.declared.command.Command.TheVariants.{Rcrc}
 use Rattle.x7_regs.specs.declared.register.Reg.TheVariants.{Idcode}

@@ -5,7 +5,7 @@ use Rattle.std.specs.List.{AllByRecursion}
 use Rattle.std.proofs.Math.Nat.{mul-le-mul_left}
 use Rattle.std.proofs.lemmas.Bool.{cases_eq, eqb-true}
 use Rattle.std.proofs.lemmas.List.{length-replicate}
-use Rattle.x7_planner.proofs.RunLemmas.{all_rows, not_shared_all, not_shared_fewer}
+use Rattle.x7_planner.proofs.BurstLemmas.{all_rows, not_shared_all, not_shared_fewer}
 use Rattle.x7_words.specs.Word.{AreWords}
 use Rattle.x7_words.proofs.ListLemmas.{all_append, all_prefix, all_back}
 use Rattle.x7_part.specs.AddressOrder.{addresses_in, Rises}
@@ -25,13 +25,13 @@ use Rattle.x7_effects.proofs.Frames.{joined, AreWide, row_frames}
 use Rattle.x7_planner.specs.FullStream.{zero_frame}
 use Rattle.x7_planner.specs.PartialStream.{Copies, Rows}
 use Rattle.x7_effects.proofs.Streams.{HaveWords, IsSection, AreSections}
-use Rattle.x7_planner.specs.PartialStream.{with_content, is_first_of_group, groups_led, rows_not_shared, is_frame, follows, with_row, runs_of, sections_of}
+use Rattle.x7_planner.specs.PartialStream.{with_content, is_first_of_group, groups_led, rows_not_shared, is_frame, follows, with_row, bursts_of, sections_of}
 use Rattle.x7_effects.proofs.Groups.{IsPlaced, LandsAs, plan_pieces}
 use Rattle.x7_flow.proofs.StreamLemmas.{whole_cut}
 use Rattle.x7_effects.proofs.FrameLemmas.{rows_land}
 use Rattle.x7_effects.proofs.FormLemmas.{joined_length, partial_fits}
 use Rattle.x7_effects.proofs.Checking.{ArePieces}
-use Rattle.x7_effects.proofs.GroupLemmas.{run_rows, runs_joined}
+use Rattle.x7_effects.proofs.GroupLemmas.{burst_rows, runs_joined}
 
 -- ---- slots that follow one another
 
@@ -105,14 +105,14 @@ row_placed part r ((q ∷ run) ∷ runs) s h a = by_test (follows part r.far q.f
     by_test true t = ((a.0.0, next_slots part r.far q.far s h t ∙ ap (λ t. Frame r.far ∷ t) a.0.1), a.1)
     by_test false t = (alone part r h, a)
 
-pub runs_placed : (part : PartData) (rows : List PlanRow) → Rises 0 (addresses_among (slots_in part)) → AreHere part rows → AllByRecursion (IsPlaced part) (runs_of part rows)
+pub runs_placed : (part : PartData) (rows : List PlanRow) → Rises 0 (addresses_among (slots_in part)) → AreHere part rows → AllByRecursion (IsPlaced part) (bursts_of part rows)
 runs_placed part [] s h = tt
-runs_placed part (r ∷ rows) s h = row_placed part r (runs_of part rows) s h.0 (runs_placed part rows s h.1)
+runs_placed part (r ∷ rows) s h = row_placed part r (bursts_of part rows) s h.0 (runs_placed part rows s h.1)
 
 -- what holds of each row holds of each row of each run, and of the rows that are not shared
-each_run : (P : PlanRow → Type 0) (runs : List (List PlanRow)) → AllByRecursion P (run_rows runs) → AllByRecursion (AllByRecursion P) runs
+each_run : (P : PlanRow → Type 0) (runs : List (List PlanRow)) → AllByRecursion P (burst_rows runs) → AllByRecursion (AllByRecursion P) runs
 each_run P [] a = tt
-each_run P (run ∷ runs) a = (all_prefix P run (run_rows runs) a, each_run P runs (all_back P run (run_rows runs) a))
+each_run P (run ∷ runs) a = (all_prefix P run (burst_rows runs) a, each_run P runs (all_back P run (burst_rows runs) a))
 
 pub of_content : (P : PlanRow → Type 0) (words : List ℕ) (qs : List PlanRow) → AllByRecursion P qs → AllByRecursion P (with_content words qs)
 of_content P words [] a = tt
@@ -122,8 +122,8 @@ of_content P words (r ∷ qs) a = by_test (bytes_eq r.words words) (of_content P
     by_test true ih = (a.0, ih)
     by_test false ih = ih
 
-pub of_runs : (P : PlanRow → Type 0) (part : PartData) (rows : List PlanRow) → AllByRecursion P rows → AllByRecursion (AllByRecursion P) (runs_of part (rows_not_shared rows rows))
-of_runs P part rows a = each_run P (runs_of part (rows_not_shared rows rows)) (rw (runs_joined part (rows_not_shared rows rows)) (not_shared_all P rows rows a))
+pub of_runs : (P : PlanRow → Type 0) (part : PartData) (rows : List PlanRow) → AllByRecursion P rows → AllByRecursion (AllByRecursion P) (bursts_of part (rows_not_shared rows rows))
+of_runs P part rows a = each_run P (bursts_of part (rows_not_shared rows rows)) (rw (runs_joined part (rows_not_shared rows rows)) (not_shared_all P rows rows a))
 
 -- ---- how sections land
 
@@ -157,7 +157,7 @@ here_of : (part : PartData) (rows : List PlanRow) → All (λ row. Contains (add
 here_of part rows a = rw (among_slots part.field_widths part.rows) (by_rows (λ row. Contains (addresses_in part) row.far) rows a)
 
 -- the runs of a plan's other rows stand at slots that follow one another
-pub plan_placed : (part : PartData) (rows : List PlanRow) → IsPart part → All (λ row. Contains (addresses_in part) row.far) rows → AllByRecursion (IsPlaced part) (runs_of part (rows_not_shared rows rows))
+pub plan_placed : (part : PartData) (rows : List PlanRow) → IsPart part → All (λ row. Contains (addresses_in part) row.far) rows → AllByRecursion (IsPlaced part) (bursts_of part (rows_not_shared rows rows))
 plan_placed part rows is h =
     let rises : Rises 0 (addresses_among (slots_in part)) = rw (among_slots part.field_widths part.rows) (part_rises part.field_widths part.rows is.field_widths is.rows) in
     runs_placed part (rows_not_shared rows rows) rises (not_shared_all (λ row. Contains (addresses_among (slots_in part)) row.far) rows rows (here_of part rows h))
@@ -165,9 +165,9 @@ plan_placed part rows is h =
 pub sections_land : (part : PartData) (rows : List PlanRow) → IsPart part → All (λ row. length row.words ≡ frame_words part) rows → All (λ row. Contains (addresses_in part) row.far) rows → AllByRecursion (LandsAs part) (sections_of part rows)
 sections_land part rows is w h =
     let wide : AllByRecursion (λ row. length row.words ≡ frame_words part) rows = by_rows (λ row. length row.words ≡ frame_words part) rows w in
-    all_append (LandsAs part) (groups_led rows rows) (map Rows (runs_of part (rows_not_shared rows rows)))
+    all_append (LandsAs part) (groups_led rows rows) (map Rows (bursts_of part (rows_not_shared rows rows)))
     (groups_land part rows rows (omega (arith, is.words)) wide)
-    (runs_land part (runs_of part (rows_not_shared rows rows)) (omega (arith, is.words))
+    (runs_land part (bursts_of part (rows_not_shared rows rows)) (omega (arith, is.words))
     (plan_placed part rows is h)
     (of_runs (λ row. length row.words ≡ frame_words part) part rows wide))
 
@@ -198,12 +198,12 @@ run_fits part k run l n f a w =
     length_map [] = refl
     length_map (r ∷ rows) = omega (arith, length_map rows)
 
-runs_fit : (part : PartData) (k : ℕ) (runs : List (List PlanRow)) → length (run_rows runs) ≤ k → frame_words part * (k + 1) < 2 ^ 27
+runs_fit : (part : PartData) (k : ℕ) (runs : List (List PlanRow)) → length (burst_rows runs) ≤ k → frame_words part * (k + 1) < 2 ^ 27
     → AllByRecursion (AllByRecursion (λ row. row.far < 2 ^ 32)) runs → AllByRecursion (AllByRecursion (λ row. AreWords row.words)) runs
     → AllByRecursion (AllByRecursion (λ row. length row.words ≡ frame_words part)) runs → AreSections part (map Rows runs)
 runs_fit part k [] l n f a w = tt
 runs_fit part k (run ∷ runs) l n f a w =
-    let both : length (run ++ run_rows runs) ≡ length run + length (run_rows runs) = length-append run (run_rows runs) in
+    let both : length (run ++ burst_rows runs) ≡ length run + length (burst_rows runs) = length-append run (burst_rows runs) in
     (run_fits part k run (omega arith) n f.0 a.0 w.0, runs_fit part k runs (omega arith) n f.1 a.1 w.1)
 
 pub sections_are : (part : PartData) (rows : List PlanRow) → frame_words part * (length rows + 1) < 2 ^ 27 → All (λ row. row.far < 2 ^ 32) rows → HaveWords rows → All (λ row. length row.words ≡ frame_words part) rows → AreSections part (sections_of part rows)
@@ -211,10 +211,10 @@ sections_are part rows n f a w =
     let ff : AllByRecursion (λ row. row.far < 2 ^ 32) rows = by_rows (λ row. row.far < 2 ^ 32) rows f in
     let aa : AllByRecursion (λ row. AreWords row.words) rows = by_rows (λ row. AreWords row.words) rows a in
     let ww : AllByRecursion (λ row. length row.words ≡ frame_words part) rows = by_rows (λ row. length row.words ≡ frame_words part) rows w in
-    let few : length (run_rows (runs_of part (rows_not_shared rows rows))) ≤ length rows = rw (runs_joined part (rows_not_shared rows rows)) (not_shared_fewer rows rows) in
-    all_append (IsSection part) (groups_led rows rows) (map Rows (runs_of part (rows_not_shared rows rows)))
+    let few : length (burst_rows (bursts_of part (rows_not_shared rows rows))) ≤ length rows = rw (runs_joined part (rows_not_shared rows rows)) (not_shared_fewer rows rows) in
+    all_append (IsSection part) (groups_led rows rows) (map Rows (bursts_of part (rows_not_shared rows rows)))
     (groups_fit part rows rows (omega arith) ff aa ww)
-    (runs_fit part (length rows) (runs_of part (rows_not_shared rows rows)) few n (of_runs (λ row. row.far < 2 ^ 32) part rows ff) (of_runs (λ row. AreWords row.words) part rows aa) (of_runs (λ row. length row.words ≡ frame_words part) part rows ww))
+    (runs_fit part (length rows) (bursts_of part (rows_not_shared rows rows)) few n (of_runs (λ row. row.far < 2 ^ 32) part rows ff) (of_runs (λ row. AreWords row.words) part rows aa) (of_runs (λ row. length row.words ≡ frame_words part) part rows ww))
 
 pub plan_fits : (part : PartData) (rows : List PlanRow) → part.idcode < 2 ^ 32 → frame_words part * (length rows + 1) < 2 ^ 27 → All (λ row. row.far < 2 ^ 32) rows → HaveWords rows → All (λ row. length row.words ≡ frame_words part) rows → ArePieces (plan_pieces part rows)
 plan_fits part rows i n f a w = partial_fits part (sections_of part rows) i (sections_are part rows n f a w)

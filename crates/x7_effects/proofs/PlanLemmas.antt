@@ -21,7 +21,7 @@ use Rattle.x7_effects.proofs.Frames.{joined, row_frames, row_slots}
 use Rattle.x7_planner.specs.FullStream.{zero_frame}
 use Rattle.x7_planner.specs.PartialStream.{Rows}
 use Rattle.x7_planner.specs.PartialStream as section
-use Rattle.x7_planner.specs.PartialStream.{groups_led, is_shared, is_first_of_group, rows_not_shared, runs_of, sections_of, with_content}
+use Rattle.x7_planner.specs.PartialStream.{groups_led, is_shared, is_first_of_group, rows_not_shared, bursts_of, sections_of, with_content}
 use Rattle.x7_effects.proofs.Groups.{IsPlaced}
 use Rattle.x7_effects.proofs.FormLemmas.{joined_length}
 use Rattle.x7_effects.proofs.FrameLemmas.{EndsInPad, address_low, slots_end}
@@ -124,7 +124,7 @@ pub sections_stand : (part : PartData) (rows : List PlanRow) → IsPart part →
 sections_stand part rows is w h =
     let wide : AllByRecursion (λ row. length row.words ≡ frame_words part) rows = by_rows (λ row. length row.words ≡ frame_words part) rows w in
     let here : AllByRecursion (λ row. Contains (addresses_in part) row.far) rows = by_rows (λ row. Contains (addresses_in part) row.far) rows h in
-    all_append (Stands part) (groups_led rows rows) (map Rows (runs_of part (rows_not_shared rows rows)))
+    all_append (Stands part) (groups_led rows rows) (map Rows (bursts_of part (rows_not_shared rows rows)))
     (groups_stand part rows rows is here wide)
-    (runs_stand part (runs_of part (rows_not_shared rows rows)) is (plan_placed part rows is h)
+    (runs_stand part (bursts_of part (rows_not_shared rows rows)) is (plan_placed part rows is h)
     (of_runs (λ row. Contains (addresses_in part) row.far) part rows here) (of_runs (λ row. length row.words ≡ frame_words part) part rows wide))

@@ -28,7 +28,7 @@ use Rattle.x7_effects.proofs.Frames.{frames_at, joined, row_frames}
 use Rattle.x7_planner.specs.FullStream.{zero_frame, frame_at_slot}
 use Rattle.x7_effects.proofs.Groups.{plan_pieces}
 use Rattle.x7_effects.proofs.Streams.{command, copy_pieces, full_pieces, full_stream, one, read_stream, stream_of, section_pieces, sections_pieces}
-use Rattle.x7_planner.specs.PartialStream.{Section, copy_words, frames_words, groups_led, is_first_of_group, rows_not_shared, partial_stream, runs_of, section_words, sections_of, with_content}
+use Rattle.x7_planner.specs.PartialStream.{Section, copy_words, frames_words, groups_led, is_first_of_group, rows_not_shared, partial_stream, bursts_of, section_words, sections_of, with_content}
 use Rattle.x7_planner.specs.PartialStream as section
 use Rattle.x7_effects.proofs.CheckingLemmas.{begins, checks_after, items_checked, pieces_fit}
 use Rattle.x7_effects.proofs.FormLemmas.{frames_long, full_fits, joined_length}
@@ -200,8 +200,8 @@ groups_width part all (r ∷ qs) w = by (is_first_of_group all r) (groups_width 
 
 sections_width : (part : PartData) (rows : List PlanRow) → AllByRecursion (λ row. length row.words ≡ frame_words part) rows → AllByRecursion (HasWidth part) (sections_of part rows)
 sections_width part rows w =
-    all_append (HasWidth part) (groups_led rows rows) (map section.Rows (runs_of part (rows_not_shared rows rows)))
-    (groups_width part rows rows w) (runs_width part (runs_of part (rows_not_shared rows rows)) (of_runs (λ row. length row.words ≡ frame_words part) part rows w))
+    all_append (HasWidth part) (groups_led rows rows) (map section.Rows (bursts_of part (rows_not_shared rows rows)))
+    (groups_width part rows rows w) (runs_width part (bursts_of part (rows_not_shared rows rows)) (of_runs (λ row. length row.words ≡ frame_words part) part rows w))
 
 -- the pieces before the check
 abbrev before_check : PartData → List PlanRow → List Piece

@@ -1,6 +1,6 @@
 //! What planned streams do on a device at rest. The functions do nothing: their contracts are the laws.
 ghost use Rattle.std.specs.Prelude.{◌≡◌, ℕ, List, []};
-ghost use Rattle.x7_planner.specs.PartialStream.{AreLongest, WritesOnce, joined_runs, pairs_in, partial_stream, runs_of, sections_of};
+ghost use Rattle.x7_planner.specs.PartialStream.{AreLongest, WritesOnce, joined_bursts, pairs_in, partial_stream, bursts_of, sections_of};
 ghost use Rattle.x7_effects.specs.Played.{CanPlay, DeviceAfter, PlannedPlay, PlaysBoth, PlaysFull, PlaysPartial, PlaysRead, ReadsBack, DeviceRests, bytes_with_full, bytes_with_partial, device_after, memory_with_plan};
 ghost use Rattle.x7_engine.specs.Kept.{on_the_bench};
 ghost use Rattle.x7_memory.specs.Plan.{AreInOrder, IsPlanFor, PlanData, PlanRow, total};
@@ -29,8 +29,8 @@ pub fn partial_streams_play()
 /// frame's address isn't the one after it in the same row of the part.
 pub fn partial_streams_write_once()
     ensures writes_once { (part : PartData) (rows : List PlanRow) → AreInOrder rows → WritesOnce rows (pairs_in (sections_of part rows)) }
-    ensures joined { (part : PartData) (rows : List PlanRow) → joined_runs (runs_of part rows) ≡ rows }
-    ensures longest { (part : PartData) (rows : List PlanRow) → AreLongest part (runs_of part rows) }
+    ensures joined { (part : PartData) (rows : List PlanRow) → joined_bursts (bursts_of part rows) ≡ rows }
+    ensures longest { (part : PartData) (rows : List PlanRow) → AreLongest part (bursts_of part rows) }
 {}
 
 /// On a device at rest the read stream of n slots from an address of the part on, n at least one and no more than there

@@ -79,19 +79,19 @@ walk_ends t d u e path rest none w part cs s =
     let all : w.0 ≡ path = sym (append-nil w.0) ∙ ap (λ r. w.0 ++ r) (sym (nil_from_length rest none)) ∙ w.1 in
     stands_at part u e (cs ++ walk_clocks w.0) (cs ++ walk_clocks path) (ap (λ r. cs ++ walk_clocks r) all) (w.2 part cs s)
 
--- ---- a run
+-- ---- idle clocks
 
 replicate_more : (n : ℕ) (c : PortClock) → replicate n c ++ c ∷ [] ≡ replicate (suc n) c
 replicate_more zero c = refl
 replicate_more (suc n) c = ap (λ t. c ∷ t) (replicate_more n c)
 
-pub run_on : (part : PartData) (u v : TapState) (e f : DeviceState) (cs : List PortClock) (c : PortClock) (n m : ℕ) → TapStandsFor part u e (cs ++ replicate n c) → m ≡ suc n
+pub idle_on : (part : PartData) (u v : TapState) (e f : DeviceState) (cs : List PortClock) (c : PortClock) (n m : ℕ) → TapStandsFor part u e (cs ++ replicate n c) → m ≡ suc n
     → TapStandsFor part v f ((cs ++ replicate n c) ++ c ∷ []) → TapStandsFor part v f (cs ++ replicate m c)
-run_on part u v e f cs c n m s is step =
+idle_on part u v e f cs c n m s is step =
     stands_at part v f ((cs ++ replicate n c) ++ c ∷ []) (cs ++ replicate m c) (append_assoc cs (replicate n c) (c ∷ []) ∙ ap (λ r. cs ++ r) (replicate_more n c ∙ ap (λ k. replicate k c) (sym is))) step
 
-pub run_whole : (part : PartData) (u : TapState) (e : DeviceState) (cs : List PortClock) (c : PortClock) (n m : ℕ) → TapStandsFor part u e (cs ++ replicate n c) → n ≡ m → TapStandsFor part u e (cs ++ replicate m c)
-run_whole part u e cs c n m s is = stands_at part u e (cs ++ replicate n c) (cs ++ replicate m c) (ap (λ k. cs ++ replicate k c) is) s
+pub idle_whole : (part : PartData) (u : TapState) (e : DeviceState) (cs : List PortClock) (c : PortClock) (n m : ℕ) → TapStandsFor part u e (cs ++ replicate n c) → n ≡ m → TapStandsFor part u e (cs ++ replicate m c)
+idle_whole part u e cs c n m s is = stands_at part u e (cs ++ replicate n c) (cs ++ replicate m c) (ap (λ k. cs ++ replicate k c) is) s
 
 -- ---- shifting
 
@@ -265,8 +265,8 @@ scan_finds part cs x found e =
 
 -- ---- a statement
 
-pub run_ends : (part : PartData) (u : TapState) (e : DeviceState) (cs : List PortClock) (s : State) (count : ℕ) → TapStandsFor part u e ((cs ++ from_reset s) ++ replicate count (clock false false)) → TapStandsFor part u e (cs ++ clocks_of s (statement.Run count))
-run_ends part u e cs s count t = stands_at part u e ((cs ++ from_reset s) ++ replicate count (clock false false)) (cs ++ (from_reset s ++ replicate count (clock false false))) (append_assoc cs (from_reset s) (replicate count (clock false false))) t
+pub idle_ends : (part : PartData) (u : TapState) (e : DeviceState) (cs : List PortClock) (s : State) (count : ℕ) → TapStandsFor part u e ((cs ++ from_reset s) ++ replicate count (clock false false)) → TapStandsFor part u e (cs ++ clocks_of s (statement.IdleClocks count))
+idle_ends part u e cs s count t = stands_at part u e ((cs ++ from_reset s) ++ replicate count (clock false false)) (cs ++ (from_reset s ++ replicate count (clock false false))) (append_assoc cs (from_reset s) (replicate count (clock false false))) t
 
 pub of_statement : (part : PartData) (u : TapState) (e : DeviceState) (cs : List PortClock) (s : State) (x y : Statement) → y ≡ x → TapStandsFor part u e (cs ++ clocks_of s x) → TapStandsFor part u e (cs ++ clocks_of s y)
 of_statement part u e cs s x y is t = subst (λ (z : Statement). TapStandsFor part u e (cs ++ clocks_of s z)) (sym is) t

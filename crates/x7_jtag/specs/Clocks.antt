@@ -41,7 +41,7 @@ from_exit = clock true false ∷ clock false false ∷ []
 abbrev pub clocks_of : State → Statement → List PortClock
 clocks_of s statement.Reset = replicate 5 (clock true false)
 clocks_of s statement.Idle = from_reset s
-clocks_of s (statement.Run n) = from_reset s ++ replicate n (clock false false)
+clocks_of s (statement.IdleClocks n) = from_reset s ++ replicate n (clock false false)
 clocks_of s (statement.Scan scan) = from_reset s ++ to_shift scan.register ++ shift_clocks scan.tdi ++ from_exit
 clocks_of s statement.Nothing = []
 

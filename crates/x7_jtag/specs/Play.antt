@@ -118,11 +118,11 @@ AfterClocks tap device made Fact =
 abbrev pub AreNew : TapState → DeviceState → Type 0
 AreNew tap device = (part : PartData) × TapStandsFor part tap device []
 
--- a bound on the clocks of a run and on the bits of a scan: a count of 32 bits is below it
+-- a bound on idle clocks and on the bits of a scan: a count of 32 bits is below it
 abbrev pub count_limit : ℕ
 count_limit = 2 ^ 32
 
--- a bound on the clocks of a statement: those of a run or of a scan's bits, and a few on the way there and back
+-- a bound on the clocks of a statement: idle clocks or those of a scan's bits, and a few on the way there and back
 abbrev pub statement_limit : ℕ
 statement_limit = 2 ^ 33
 

@@ -36,7 +36,7 @@ fn walk(tap: &mut Tap, device: &mut Device, path: &[bool])
 }
 
 /// Gives `count` clocks of TMS 0 and TDI 0.
-fn run(tap: &mut Tap, device: &mut Device, count: u32)
+fn idle(tap: &mut Tap, device: &mut Device, count: u32)
     requires { MayClock tap.old device.old count_limit }
     ensures most { count < count_limit }
     ensures clocks { MakesClocks tap.old device.old tap.new device.new (λ p. replicate count (clock_of false false)) }
@@ -204,9 +204,9 @@ fn play_statement(statement: &Statement<'_>, tap: &mut Tap, device: &mut Device)
             leave_reset(tap, device);
             None
         }
-        Statement::Run(count) => {
+        Statement::IdleClocks(count) => {
             leave_reset(tap, device);
-            run(tap, device, *count);
+            idle(tap, device, *count);
             None
         }
         Statement::Scan(scan) => play_scan(tap, device, scan),

@@ -4,5 +4,5 @@ mod FullStreamPiecesLemmas
 mod ContentLemmas
 mod GroupLemmas
 pub mod FewLemmas
-pub mod RunLemmas
+pub mod BurstLemmas
 mod WithinLemmas

@@ -1,5 +1,5 @@
 -- The stream of a partial reconfiguration: the planned frames alone, contents at three addresses or more by copies, the
--- others in runs (this project's choice; UG470, multi-frame write register).
+-- others in bursts (this project's choice; UG470, multi-frame write register).
 use Rattle.std.specs.Prelude.{◌≡◌, ℕ, ◌+◌, ◌-◌, ◌*◌, ◌<◌, ◌≤◌, ◌==◌, ◌&&◌, nat_le, not, bytes_eq, Bool, true, false, if◌then◌else◌, List, [], ◌∷◌, ◌++◌, length, map, replicate, slice_index, slice_index_or, All, Contains, Some}
 use Rattle.std.specs.List.{filter, flat_map}
 use Rattle.x7_part.specs.Part.{PartData, frame_words}
@@ -65,28 +65,28 @@ is_frame address End = false
 abbrev pub follows : PartData → ℕ → ℕ → Bool
 follows part a b = is_frame b (slot_after part a 1)
 
--- runs with a planned frame more before them: it joins the first run where the first address of that run follows its
--- own
+-- bursts with a planned frame more before them: it joins the first burst where the first address of that burst follows
+-- its own
 abbrev pub with_row : PartData → PlanRow → List (List PlanRow) → List (List PlanRow)
 with_row part r [] = (r ∷ []) ∷ []
-with_row part r ([] ∷ runs) = (r ∷ []) ∷ runs
-with_row part r ((s ∷ run) ∷ runs) = if follows part r.far s.far then (r ∷ s ∷ run) ∷ runs else (r ∷ []) ∷ (s ∷ run) ∷ runs
+with_row part r ([] ∷ bursts) = (r ∷ []) ∷ bursts
+with_row part r ((s ∷ burst) ∷ bursts) = if follows part r.far s.far then (r ∷ s ∷ burst) ∷ bursts else (r ∷ []) ∷ (s ∷ burst) ∷ bursts
 
--- the longest runs of rows whose addresses follow one another
-abbrev pub runs_of : PartData → List PlanRow → List (List PlanRow)
-runs_of part [] = []
-runs_of part (r ∷ rows) = with_row part r (runs_of part rows)
+-- the longest bursts of rows whose addresses follow one another
+abbrev pub bursts_of : PartData → List PlanRow → List (List PlanRow)
+bursts_of part [] = []
+bursts_of part (r ∷ rows) = with_row part r (bursts_of part rows)
 
--- the longest run that rows begin with has `count` of them: each follows the one before it, and the next one doesn't
-pub record IsRunLength (part : PartData) (rows : List PlanRow) (count : ℕ) : Type 0 where
+-- the longest burst that rows begin with has `count` of them: each follows the one before it, and the next one doesn't
+pub record IsBurstLength (part : PartData) (rows : List PlanRow) (count : ℕ) : Type 0 where
   pub at_least_one : 0 < count
   pub inside : count ≤ length rows
   pub joined : (k : ℕ) (d : PlanRow) → k + 1 < count → follows part (slice_index_or rows k d).far (slice_index_or rows (k + 1) d).far ≡ true
   pub ends : (d : PlanRow) → count < length rows → follows part (slice_index_or rows (count - 1) d).far (slice_index_or rows count d).far ≡ false
 
--- the sections of a plan's rows: the groups, and then the runs of the other rows
+-- the sections of a plan's rows: the groups, and then the bursts of the other rows
 abbrev pub sections_of : PartData → List PlanRow → List Section
-sections_of part rows = groups_led rows rows ++ map Rows (runs_of part (rows_not_shared rows rows))
+sections_of part rows = groups_led rows rows ++ map Rows (bursts_of part (rows_not_shared rows rows))
 
 -- what copies the source to an address: a FAR load, and a word of MFWR
 abbrev pub copy_words : ℕ → List ℕ
@@ -113,9 +113,9 @@ partial_opening part = opening_words ++ (command Rcrc ++ (no_op ∷ write_one Id
 abbrev pub groups_words : PartData → List PlanRow → List PlanRow → List ℕ
 groups_words part all rows = flat_map (section_words part) (groups_led all rows)
 
--- the words of the longest runs of rows
-abbrev pub runs_words : PartData → List PlanRow → List ℕ
-runs_words part rows = flat_map (section_words part) (map Rows (runs_of part rows))
+-- the words of the longest bursts of rows
+abbrev pub bursts_words : PartData → List PlanRow → List ℕ
+bursts_words part rows = flat_map (section_words part) (map Rows (bursts_of part rows))
 
 -- the end of the session, and no-ops
 abbrev pub partial_ending : List ℕ
@@ -142,29 +142,29 @@ pub record WritesOnce (rows pairs : List PlanRow) : Type 0 where
   pub each : (address : ℕ) → Contains (planned_addresses rows) address → Contains (planned_addresses pairs) address
   pub once : AreApart pairs
 
--- the rows of runs in order
-abbrev pub joined_runs : List (List PlanRow) → List PlanRow
-joined_runs runs = flat_map (λ run. run) runs
+-- the rows of bursts in order
+abbrev pub joined_bursts : List (List PlanRow) → List PlanRow
+joined_bursts bursts = flat_map (λ burst. burst) bursts
 
--- the last address of a run's rows, 0 without rows
+-- the last address of a burst's rows, 0 without rows
 abbrev pub last_far : List PlanRow → ℕ
 last_far [] = 0
 last_far (r ∷ []) = r.far
-last_far (r ∷ s ∷ run) = last_far (s ∷ run)
+last_far (r ∷ s ∷ burst) = last_far (s ∷ burst)
 
--- the first address of a run's rows, 0 without rows
+-- the first address of a burst's rows, 0 without rows
 abbrev pub first_far : List PlanRow → ℕ
 first_far [] = 0
-first_far (r ∷ run) = r.far
+first_far (r ∷ burst) = r.far
 
--- the rows are a run: there are some, and their addresses follow one another
-abbrev pub IsRunOfRows : PartData → List PlanRow → Type 0
-IsRunOfRows part [] = ⊥
-IsRunOfRows part (r ∷ []) = Unit {0}
-IsRunOfRows part (r ∷ s ∷ run) = (follows part r.far s.far ≡ true) × IsRunOfRows part (s ∷ run)
+-- the rows are a burst: there are some, and their addresses follow one another
+abbrev pub IsBurst : PartData → List PlanRow → Type 0
+IsBurst part [] = ⊥
+IsBurst part (r ∷ []) = Unit {0}
+IsBurst part (r ∷ s ∷ burst) = (follows part r.far s.far ≡ true) × IsBurst part (s ∷ burst)
 
--- each of these is a run, and none follows the one before it
+-- each of these is a burst, and none follows the one before it
 abbrev pub AreLongest : PartData → List (List PlanRow) → Type 0
 AreLongest part [] = Unit {0}
-AreLongest part (run ∷ []) = IsRunOfRows part run
-AreLongest part (run ∷ next ∷ runs) = IsRunOfRows part run × (follows part (last_far run) (first_far next) ≡ false) × AreLongest part (next ∷ runs)
+AreLongest part (burst ∷ []) = IsBurst part burst
+AreLongest part (burst ∷ next ∷ bursts) = IsBurst part burst × (follows part (last_far burst) (first_far next) ≡ false) × AreLongest part (next ∷ bursts)

@@ -14,8 +14,8 @@ ghost use Rattle.x7_planner.specs.declared.fault.PlanFault.{PlanFault};
 ghost use Rattle.x7_planner.specs.declared.full_stream.NextPiece.{NextPiece};
 
 use crate::address::first_foreign;
-use crate::fault::PlanFault;
 use crate::control_words::{COR0_WORD, CTL0_MASK_WORD, CTL0_WORD};
+use crate::fault::PlanFault;
 use crate::writer::{OPENING_WORDS, put_packets, put_words};
 use std::alloc::Global;
 use std::marker::Model;

@@ -2,14 +2,14 @@
 #![tactic(auto)]
 
 mod address;
+mod burst;
 mod content;
+mod control_words;
 mod fault;
 mod full_stream;
 mod group;
 mod partial_stream;
 mod read_stream;
-mod run;
-mod control_words;
 mod writer;
 
 pub use fault::PlanFault;

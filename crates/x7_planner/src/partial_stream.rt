@@ -4,16 +4,16 @@ ghost use Rattle.std.specs.List.{flat_map};
 ghost use Rattle.x7_memory.specs.Plan.{AreAddressed};
 ghost use Rattle.x7_part.specs.Part.{frame_words};
 ghost use Rattle.x7_planner.specs.Content.{AreByContent, AreFramesByContent};
-ghost use Rattle.x7_planner.specs.PartialStream.{partial_opening, partial_stream, rows_not_shared, runs_words, section_words, sections_of};
+ghost use Rattle.x7_planner.specs.PartialStream.{partial_opening, partial_stream, rows_not_shared, bursts_words, section_words, sections_of};
 ghost use Rattle.x7_planner.specs.Fault.{IsPartialFault};
 ghost use Rattle.x7_planner.specs.Writer.{with_piece, Words};
 ghost use Rattle.x7_planner.specs.declared.fault.PlanFault.{PlanFault};
 
 use crate::address::first_foreign;
+use crate::burst::put_bursts;
 use crate::content::{ByContent, PlannedFrame, firsts_of, frames_by_content, starts_of};
 use crate::fault::PlanFault;
 use crate::group::{frames_not_shared, put_groups};
-use crate::run::put_runs;
 use crate::writer::{ENDING_NO_OPS, OPENING_WORDS, put_check, put_words};
 use std::alloc::Global;
 use x7_memory::Plan;
@@ -35,7 +35,7 @@ fn put_opening(out: &mut Vec<u8>, part: &Part) -> Result<(), NoMemory>
     put_words(out, &write_one(Reg::Idcode, part.idcode()))
 }
 
-/// Writes the runs of the planned frames whose content no group has.
+/// Writes the bursts of the planned frames whose content no group has.
 fn put_alone(
     alloc: Global,
     out: &mut Vec<u8>,
@@ -45,16 +45,16 @@ fn put_alone(
 ) -> Result<(), NoMemory>
     requires by_content { AreByContent plan.now.rows by_content.now }
     requires addresses { AreAddressed part.now plan.now.rows }
-    ensures { OnOk result (out.new.items ≡ with_piece out.old.items (Words (runs_words part.now (rows_not_shared plan.now.rows plan.now.rows)))) }
+    ensures { OnOk result (out.new.items ≡ with_piece out.old.items (Words (bursts_words part.now (rows_not_shared plan.now.rows plan.now.rows)))) }
 {
     // For the proof alone: the part is in range and the plan in order, so its rows are few.
     let _frames = part.frames();
     let _rows = plan.len();
     let alone = frames_not_shared(alloc, plan, by_content)?;
-    put_runs(out, part, &alone)
+    put_bursts(out, part, &alone)
 }
 
-/// Writes the groups and the runs of a plan, whose frames come with equal ones together.
+/// Writes the groups and the bursts of a plan, whose frames come with equal ones together.
 fn put_by_content(
     alloc: Global,
     out: &mut Vec<u8>,
@@ -77,7 +77,7 @@ fn put_by_content(
     put_alone(alloc, out, part, plan, &by_content)
 }
 
-/// Writes the groups and the runs of a plan.
+/// Writes the groups and the bursts of a plan.
 fn put_sections(alloc: Global, out: &mut Vec<u8>, part: &Part, plan: &Plan) -> Result<(), NoMemory>
     requires addresses { AreAddressed part.now plan.now.rows }
     ensures { OnOk result (out.new.items ≡ with_piece out.old.items (Words (flat_map (section_words part.now) (sections_of part.now plan.now.rows)))) }
@@ -109,9 +109,9 @@ fn partial_of(alloc: Global, part: &Part, plan: &Plan) -> Result<Vec<u8>, NoMemo
     Ok(out)
 }
 
-/// The stream that writes the planned frames alone: contents at three addresses or more by copies, the others in runs.
-/// The plan's frames must have as many words as the part's. `Empty` says that the plan has no frame, `Foreign` is its
-/// first address that the part lacks. `NoMemory` comes only where there is such a stream.
+/// The stream that writes the planned frames alone: contents at three addresses or more by copies, the others in
+/// bursts. The plan's frames must have as many words as the part's. `Empty` says that the plan has no frame, `Foreign`
+/// is its first address that the part lacks. `NoMemory` comes only where there is such a stream.
 pub fn partial(alloc: Global, part: &Part, plan: &Plan) -> Result<Vec<u8>, PlanFault>
     requires width { plan.now.width ≡ frame_words part.now }
     ensures stream { IfOk result (λ bytes. bytes.items ≡ partial_stream part.now plan.now.rows) }

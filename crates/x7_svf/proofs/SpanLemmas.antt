@@ -53,7 +53,7 @@ module _ (a b : List ℕ) (f : StaysKept a b) where
   pub statement_stays : (s : StoredStatement) → IsStoredWithin (length a) s → statement_in b s ≡ statement_in a s
   statement_stays stored.Reset w = refl
   statement_stays stored.Idle w = refl
-  statement_stays (stored.Run n) w = refl
+  statement_stays (stored.IdleClocks n) w = refl
   statement_stays stored.Nothing w = refl
   statement_stays (stored.Scan s) w = λ i. statement.Scan (record { register = s.register; tdi = bits_of s.bit_count (bytes_stay s.tdi w.0 i); tdo = bits_if s.bit_count (option_stays s.tdo w.1 i); mask = bits_if s.bit_count (option_stays s.mask w.2 i) })
 
@@ -65,7 +65,7 @@ pub stored_more : (n m : ℕ) (s : StoredStatement) → n ≤ m → IsStoredWith
 stored_more n m (stored.Scan s) l w = (omega (arith, l, w.0), omega (arith, l, w.1), omega (arith, l, w.2))
 stored_more n m stored.Reset l w = w
 stored_more n m stored.Idle l w = w
-stored_more n m (stored.Run x) l w = w
+stored_more n m (stored.IdleClocks x) l w = w
 stored_more n m stored.Nothing l w = w
 
 pub all_stored_more : (n m : ℕ) (ss : List StoredStatement) → n ≤ m → AreStoredWithin n ss → AreStoredWithin m ss

@@ -88,27 +88,27 @@ second false true x y z e f = refl
 second false false x y z e f = absurd cc
 
 -- what RUNTEST and the words after it say
-pub run_said : (k : List ℕ) (ws : List (List ℕ)) → is_keyword k (codes "RUNTEST") ≡ true → statement_of_words k ws ≡ runtest_statement ws
-run_said k ws h = second (is_keyword k (codes "STATE")) (is_keyword k (codes "RUNTEST")) _ _ _ (not_state k h) h
+pub runtest_said : (k : List ℕ) (ws : List (List ℕ)) → is_keyword k (codes "RUNTEST") ≡ true → statement_of_words k ws ≡ runtest_statement ws
+runtest_said k ws h = second (is_keyword k (codes "STATE")) (is_keyword k (codes "RUNTEST")) _ _ _ (not_state k h) h
 
--- no run is said by fewer words than two
-pub no_run : (kept : List ℕ) (ws : KeptWords) → ((a b : Span) → ws ≡ words.Two a b → ⊥) → ((a b c : Span) → ws ≡ words.Three a b c → ⊥) → ((a b c d : Span) → ws ≡ words.Four a b c d → ⊥)
+-- no RUNTEST is said by fewer words than two
+pub no_runtest : (kept : List ℕ) (ws : KeptWords) → ((a b : Span) → ws ≡ words.Two a b → ⊥) → ((a b c : Span) → ws ≡ words.Three a b c → ⊥) → ((a b c d : Span) → ws ≡ words.Four a b c d → ⊥)
     → None ≡ runtest_statement (words_kept kept ws)
-no_run kept words.None two three four = refl
-no_run kept (words.One a) two three four = refl
-no_run kept (words.Two a b) two three four = absurd (two a b refl)
-no_run kept (words.Three a b c) two three four = absurd (three a b c refl)
-no_run kept (words.Four a b c d) two three four = absurd (four a b c d refl)
+no_runtest kept words.None two three four = refl
+no_runtest kept (words.One a) two three four = refl
+no_runtest kept (words.Two a b) two three four = absurd (two a b refl)
+no_runtest kept (words.Three a b c) two three four = absurd (three a b c refl)
+no_runtest kept (words.Four a b c d) two three four = absurd (four a b c d refl)
 
-unless_run : (b : Bool) (x y : Option Statement) → b ≡ false → y ≡ None → (if b then x else y) ≡ None
-unless_run true x y e f = absurd cc
-unless_run false x y e f = f
+unless_runtest : (b : Bool) (x y : Option Statement) → b ≡ false → y ≡ None → (if b then x else y) ≡ None
+unless_runtest true x y e f = absurd cc
+unless_runtest false x y e f = f
 
 nothing_said : (k : List ℕ) (x : Option Statement) → is_keyword k (codes "RUNTEST") ≡ false
     → (if is_keyword k (codes "STATE") then None else (if is_keyword k (codes "RUNTEST") then x else (if is_keyword k (codes "ENDIR") || is_keyword k (codes "ENDDR") then None
     else (if is_keyword k (codes "HIR") || is_keyword k (codes "HDR") || is_keyword k (codes "TIR") || is_keyword k (codes "TDR") then None else (if is_keyword k (codes "TRST") then None else None))))) ≡ None
 nothing_said k x h =
-    none_if (is_keyword k (codes "STATE")) _ (unless_run (is_keyword k (codes "RUNTEST")) x _ h (none_if (is_keyword k (codes "ENDIR") || is_keyword k (codes "ENDDR")) _
+    none_if (is_keyword k (codes "STATE")) _ (unless_runtest (is_keyword k (codes "RUNTEST")) x _ h (none_if (is_keyword k (codes "ENDIR") || is_keyword k (codes "ENDDR")) _
     (none_if (is_keyword k (codes "HIR") || is_keyword k (codes "HDR") || is_keyword k (codes "TIR") || is_keyword k (codes "TDR")) _ (none_if (is_keyword k (codes "TRST")) None refl))))
 
 -- another keyword says nothing but with one word

@@ -18,7 +18,7 @@ scan_in kept s = statement.Scan (record { register = s.register; tdi = bits_of s
 abbrev pub statement_in : List ℕ → StoredStatement → Statement
 statement_in kept stored.Reset = statement.Reset
 statement_in kept stored.Idle = statement.Idle
-statement_in kept (stored.Run n) = statement.Run n
+statement_in kept (stored.IdleClocks n) = statement.IdleClocks n
 statement_in kept (stored.Scan s) = scan_in kept s
 statement_in kept stored.Nothing = statement.Nothing
 

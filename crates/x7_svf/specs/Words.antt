@@ -16,9 +16,9 @@ is_keyword word key = str_eq_ignore_ascii_case word key
 abbrev pub number_within : ℕ → List ℕ → Option ℕ
 number_within limit word = if nat_lt 0 (length word) && list_all is_decimal_digit word && nat_le (digits_value 10 word) limit then Some (digits_value 10 word) else None
 
--- the most clocks of a run: 2^24
-abbrev pub most_run_clocks : ℕ
-most_run_clocks = 16777216
+-- the most clocks of a RUNTEST: 2^24
+abbrev pub most_idle_clocks : ℕ
+most_idle_clocks = 16777216
 
 -- a byte that may stand in a time: a digit, `.`, `E`, `+` or `-`
 abbrev pub is_time_byte : ℕ → Bool
@@ -53,14 +53,14 @@ words_of (End ∷ ts) = None
 abbrev pub some_if : Bool → Statement → Option Statement
 some_if is_met said = if is_met then Some said else None
 
--- a run of this number of clocks, if there is a number
-abbrev pub run_by : Option ℕ → Option Statement
-run_by None = None
-run_by (Some count) = Some (statement.Run count)
+-- this number of idle clocks, if there is a number
+abbrev pub idle_clocks_by : Option ℕ → Option Statement
+idle_clocks_by None = None
+idle_clocks_by (Some count) = Some (statement.IdleClocks count)
 
--- a run of as many clocks as the digits say, where the condition is met and they are a decimal number of 2^24 at most
-abbrev pub run_if : Bool → List ℕ → Option Statement
-run_if is_met digits = if is_met then run_by (number_within most_run_clocks digits) else None
+-- as many idle clocks as the digits say, where the condition is met and they are a decimal number of 2^24 at most
+abbrev pub idle_clocks_if : Bool → List ℕ → Option Statement
+idle_clocks_if is_met digits = if is_met then idle_clocks_by (number_within most_idle_clocks digits) else None
 
 -- the statement of the words after STATE
 abbrev pub state_statement : List (List ℕ) → Option Statement
@@ -70,9 +70,9 @@ state_statement _ = None
 -- the statement of the words after RUNTEST
 abbrev pub runtest_statement : List (List ℕ) → Option Statement
 runtest_statement (count ∷ unit ∷ []) =
-    if is_keyword unit (codes "TCK") then run_by (number_within most_run_clocks count) else some_if (is_keyword unit (codes "SEC") && is_time count) statement.Nothing
-runtest_statement (state ∷ count ∷ unit ∷ []) = run_if (is_keyword state (codes "IDLE") && is_keyword unit (codes "TCK")) count
-runtest_statement (count ∷ unit ∷ time ∷ second ∷ []) = run_if (is_keyword unit (codes "TCK") && is_time time && is_keyword second (codes "SEC")) count
+    if is_keyword unit (codes "TCK") then idle_clocks_by (number_within most_idle_clocks count) else some_if (is_keyword unit (codes "SEC") && is_time count) statement.Nothing
+runtest_statement (state ∷ count ∷ unit ∷ []) = idle_clocks_if (is_keyword state (codes "IDLE") && is_keyword unit (codes "TCK")) count
+runtest_statement (count ∷ unit ∷ time ∷ second ∷ []) = idle_clocks_if (is_keyword unit (codes "TCK") && is_time time && is_keyword second (codes "SEC")) count
 runtest_statement _ = None
 
 -- the statement of the words after ENDIR or ENDDR: IDLE alone

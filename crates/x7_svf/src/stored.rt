@@ -13,7 +13,7 @@ use crate::statement::{Scan, ScannedRegister, Statement};
 pub(crate) enum StoredStatement {
     Reset,
     Idle,
-    Run(u32),
+    IdleClocks(u32),
     Scan(StoredScan),
     Nothing,
 }
@@ -47,7 +47,7 @@ pub(crate) fn statement_of<'t>(stored: &StoredStatement, kept: &'t [u8]) -> Stat
     match stored {
         StoredStatement::Reset => Statement::Reset,
         StoredStatement::Idle => Statement::Idle,
-        StoredStatement::Run(count) => Statement::Run(*count),
+        StoredStatement::IdleClocks(count) => Statement::IdleClocks(*count),
         StoredStatement::Scan(scan) => Statement::Scan(Scan {
             register: scan.register,
             tdi: Bits::new(scan.bit_count, scan.tdi.bytes_in(kept)),

@@ -1,7 +1,7 @@
 //! Statements of words alone.
 ghost use Rattle.std.specs.Prelude.{◌≡◌, ◌<◌, ◌&&◌, ◌||◌, ◌≤◌, ◌∷◌, ◌++◌, ℕ, [], List, false, length, codes, IfSome, IfNone, Option, Some, None};
 ghost use Rattle.x7_words.specs.Characters.{is_decimal_digit};
-ghost use Rattle.x7_svf.specs.Words.{is_free_byte, is_free_word, is_keyword, is_time, is_time_byte, most_run_clocks, number_within, run_by, run_if, runtest_statement, some_if, state_statement, statement_of_words};
+ghost use Rattle.x7_svf.specs.Words.{is_free_byte, is_free_word, is_keyword, is_time, is_time_byte, most_idle_clocks, number_within, idle_clocks_by, idle_clocks_if, runtest_statement, some_if, state_statement, statement_of_words};
 ghost use Rattle.x7_svf.specs.declared.statement.Statement.{Statement as StatementData};
 ghost use Rattle.x7_svf.specs.Span.{AreWordsWithin, bytes_in, span_end, words_kept};
 ghost use Rattle.x7_svf.specs.Stored.{IsStored};
@@ -10,8 +10,8 @@ ghost use Rattle.std.specs.List.{list_all};
 use crate::span::Span;
 use crate::stored::StoredStatement;
 
-/// The most clocks of a run: 2^24.
-const MOST_RUN_CLOCKS: u32 = 16_777_216;
+/// The most clocks of a RUNTEST: 2^24.
+const MOST_IDLE_CLOCKS: u32 = 16_777_216;
 
 /// Whether a word is a keyword, in either case.
 pub(crate) fn is_keyword(word: &[u8], key: &[u8]) -> bool
@@ -87,19 +87,23 @@ pub(crate) fn is_free_word(word: &[u8]) -> bool
     )
 }
 
-/// A run of as many clocks as the digits say; none where they are no decimal number, or one over 2^24.
-fn run_for(digits: &[u8]) -> Option<StoredStatement>
-    ensures { IsStored [] result (run_by (number_within most_run_clocks digits.now)) }
+/// As many idle clocks as the digits say; none where they are no decimal number, or one over 2^24.
+fn idle_clocks_for(digits: &[u8]) -> Option<StoredStatement>
+    ensures { IsStored [] result (idle_clocks_by (number_within most_idle_clocks digits.now)) }
 {
-    let count = number_within(digits, MOST_RUN_CLOCKS)?;
-    Some(StoredStatement::Run(count))
+    let count = number_within(digits, MOST_IDLE_CLOCKS)?;
+    Some(StoredStatement::IdleClocks(count))
 }
 
-/// A run of as many clocks as the digits say, where the condition is met and they are a decimal number of 2^24 at most.
-fn run_if(is_met: bool, digits: &[u8]) -> Option<StoredStatement>
-    ensures { IsStored [] result (run_if is_met digits.now) }
+/// As many idle clocks as the digits say, where the condition is met and they are a decimal number of 2^24 at most.
+fn idle_clocks_if(is_met: bool, digits: &[u8]) -> Option<StoredStatement>
+    ensures { IsStored [] result (idle_clocks_if is_met digits.now) }
 {
-    if is_met { run_for(digits) } else { None }
+    if is_met {
+        idle_clocks_for(digits)
+    } else {
+        None
+    }
 }
 
 /// The statement of no clock, where the condition is met.
@@ -141,11 +145,11 @@ fn are_timed_clocks(unit: &[u8], time: &[u8], second: &[u8]) -> bool
 }
 
 /// The statement of two words after RUNTEST: a count of clocks and TCK, or a time and SEC; none for any others.
-fn run_or_time(count: &[u8], unit: &[u8]) -> Option<StoredStatement>
+fn idle_clocks_or_time(count: &[u8], unit: &[u8]) -> Option<StoredStatement>
     ensures { IsStored [] result (runtest_statement (count.now ∷ unit.now ∷ [])) }
 {
     if is_keyword(unit, b"TCK") {
-        run_for(count)
+        idle_clocks_for(count)
     } else {
         nothing_if(is_keyword(unit, b"SEC") && is_time(count))
     }
@@ -216,15 +220,18 @@ fn runtest_statement(kept: &[u8], words: KeptWords) -> Option<StoredStatement>
     ensures { IsStored [] result (runtest_statement (words_kept kept.now words)) }
 {
     match words {
-        KeptWords::Two(count, unit) => run_or_time(count.bytes_in(kept), unit.bytes_in(kept)),
+        KeptWords::Two(count, unit) => idle_clocks_or_time(
+            count.bytes_in(kept),
+            unit.bytes_in(kept),
+        ),
         KeptWords::Three(state, count, unit) => {
-            let is_run = are_idle_clocks(state.bytes_in(kept), unit.bytes_in(kept));
-            run_if(is_run, count.bytes_in(kept))
+            let is_runtest = are_idle_clocks(state.bytes_in(kept), unit.bytes_in(kept));
+            idle_clocks_if(is_runtest, count.bytes_in(kept))
         }
         KeptWords::Four(count, unit, time, second) => {
             let time = time.bytes_in(kept);
-            let is_run = are_timed_clocks(unit.bytes_in(kept), time, second.bytes_in(kept));
-            run_if(is_run, count.bytes_in(kept))
+            let is_runtest = are_timed_clocks(unit.bytes_in(kept), time, second.bytes_in(kept));
+            idle_clocks_if(is_runtest, count.bytes_in(kept))
         }
         _ => None,
     }

@@ -1,4 +1,4 @@
-use Rattle.x7_effects.proofs.GroupLemmas.{runs_joined, runs_longest}
+use Rattle.x7_effects.proofs.GroupLemmas.{runs_joined, bursts_longest}
 use Rattle.x7_effects.proofs.OnceLemmas.{written_once}
 use Rattle.x7_effects.proofs.laws.partial_streams_write_once.Goals as goal
 
@@ -9,4 +9,4 @@ pub returns-clause-joined : goal.returns-clause-joined
 returns-clause-joined c = runs_joined
 
 pub returns-clause-longest : goal.returns-clause-longest
-returns-clause-longest c = runs_longest
+returns-clause-longest c = bursts_longest

@@ -4,7 +4,7 @@ use Rattle.x7_svf.specs.declared.statement.Statement.TheVariants as statement
 use Rattle.x7_jtag.specs.Clocks.{clocks_of, from_reset}
 use Rattle.x7_jtag.specs.Play.{difference}
 use Rattle.x7_jtag.specs.Port.{port_after}
-use Rattle.x7_jtag.proofs.PlayLemmas.{leave_length, of_statement, ready_left, ready_less, run_ends, short_scan, stands_at}
+use Rattle.x7_jtag.proofs.PlayLemmas.{leave_length, of_statement, ready_left, ready_less, idle_ends, short_scan, stands_at}
 use Rattle.x7_jtag.proofs.play.play_statement.Goals as goal
 
 pub walk-requires : goal.walk-requires
@@ -13,20 +13,20 @@ walk-requires c = ready_less c.args.tap.now c.args.device.now (2 ^ 33) 5 (omega 
 pub leave_reset-requires : goal.leave_reset-requires
 leave_reset-requires c = ready_less c.args.tap.now c.args.device.now (2 ^ 33) 1 (omega arith) c.requires
 
-pub leave_reset-requires-in-Run : goal.leave_reset-requires-in-Run
-leave_reset-requires-in-Run c = ready_less c.args.tap.now c.args.device.now (2 ^ 33) 1 (omega arith) c.requires
+pub leave_reset-requires-in-IdleClocks : goal.leave_reset-requires-in-IdleClocks
+leave_reset-requires-in-IdleClocks c = ready_less c.args.tap.now c.args.device.now (2 ^ 33) 1 (omega arith) c.requires
 
-pub run-requires : goal.run-requires
-run-requires c = ready_left c.args.tap.now c.leave_reset-in-Run.new.tap c.args.device.now c.leave_reset-in-Run.new.device (2 ^ 33) (2 ^ 32) c.requires c.leave_reset-in-Run.ensures (omega arith)
+pub idle-requires : goal.idle-requires
+idle-requires c = ready_left c.args.tap.now c.leave_reset-in-IdleClocks.new.tap c.args.device.now c.leave_reset-in-IdleClocks.new.device (2 ^ 33) (2 ^ 32) c.requires c.leave_reset-in-IdleClocks.ensures (omega arith)
 
-pub returns-in-Run-clause-clocks : goal.returns-in-Run-clause-clocks
-returns-in-Run-clause-clocks c = λ part cs s.
+pub returns-in-IdleClocks-clause-clocks : goal.returns-in-IdleClocks-clause-clocks
+returns-in-IdleClocks-clause-clocks c = λ part cs s.
     let t = (port_after part cs).state in
-    of_statement part c.run.new.tap c.run.new.device cs t (statement.Run c.in-Run.count) c.args.statement.now c.in-Run.is
-    (run_ends part c.run.new.tap c.run.new.device cs t c.in-Run.count (c.run.ensures.clocks part (cs ++ from_reset t) (c.leave_reset-in-Run.ensures part cs s)))
+    of_statement part c.idle.new.tap c.idle.new.device cs t (statement.IdleClocks c.in-IdleClocks.count) c.args.statement.now c.in-IdleClocks.is
+    (idle_ends part c.idle.new.tap c.idle.new.device cs t c.in-IdleClocks.count (c.idle.ensures.clocks part (cs ++ from_reset t) (c.leave_reset-in-IdleClocks.ensures part cs s)))
 
-pub returns-in-Run-clause-found : goal.returns-in-Run-clause-found
-returns-in-Run-clause-found c = λ part cs s. ap (difference part (port_after part cs)) (sym c.in-Run.is)
+pub returns-in-IdleClocks-clause-found : goal.returns-in-IdleClocks-clause-found
+returns-in-IdleClocks-clause-found c = λ part cs s. ap (difference part (port_after part cs)) (sym c.in-IdleClocks.is)
 
 pub returns-in-Scan-clause-clocks : goal.returns-in-Scan-clause-clocks
 returns-in-Scan-clause-clocks c = λ part cs s.

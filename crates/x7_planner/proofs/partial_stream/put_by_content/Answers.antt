@@ -1,7 +1,7 @@
 use Rattle.std.proofs.Common.{subst, sym}
 use Rattle.std.proofs.lemmas.Result.{on_ok_weaker}
 use Rattle.x7_planner.specs.Content.{AreFirsts, AreStarts, planned_rows}
-use Rattle.x7_planner.proofs.RunLemmas.{sections_written}
+use Rattle.x7_planner.proofs.BurstLemmas.{sections_written}
 use Rattle.x7_planner.proofs.partial_stream.put_by_content.Goals as goal
 
 pub starts_of-requires-clause-firsts : goal.starts_of-requires-clause-firsts

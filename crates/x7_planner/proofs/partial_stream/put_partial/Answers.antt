@@ -3,7 +3,7 @@ use Rattle.std.proofs.lemmas.Result.{on_ok_weaker}
 use Rattle.x7_regs.specs.declared.command.Command.TheVariants.{Desync}
 use Rattle.x7_packets.specs.PacketWords.{command, no_op}
 use Rattle.x7_planner.specs.Writer.{bytes_of_words, ending_no_ops}
-use Rattle.x7_planner.proofs.RunLemmas.{stream_written}
+use Rattle.x7_planner.proofs.BurstLemmas.{stream_written}
 use Rattle.x7_planner.proofs.SlotLemmas.{written_on}
 use Rattle.x7_planner.proofs.partial_stream.put_partial.Goals as goal
 

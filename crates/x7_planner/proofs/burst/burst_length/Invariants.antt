@@ -2,7 +2,7 @@ use Rattle.std.proofs.Common.{◌≡◌, ℕ, ◌+◌, ◌<◌, ◌≤◌, true,
 use Rattle.x7_memory.specs.Plan.{PlanRow}
 use Rattle.x7_planner.specs.Content.{planned_rows}
 use Rattle.x7_planner.specs.PartialStream.{follows}
-use Rattle.x7_planner.proofs.run.run_length.Given as goal
+use Rattle.x7_planner.proofs.burst.burst_length.Given as goal
 
 abbrev pub invariant-loop-k : goal.invariant-loop-k
 invariant-loop-k l =
