@@ -5,13 +5,19 @@ use Rattle.x7_part.specs.Part.{PartData}
 use Rattle.x7_boot.specs.Attempt.{BootAttempt, attempt_end}
 use Rattle.x7_boot.specs.Boot.{BootedState, IsBoot}
 use Rattle.x7_boot.specs.BootCourse.{course_of}
-use Rattle.x7_update.specs.After.{IsAfterUpdate}
-use Rattle.x7_recovery.specs.Golden.{StartsAlike, UpdatingByAttempt}
+use Rattle.x7_update.specs.After.{IsAfterUpdate, MayBeLeft}
+use Rattle.x7_recovery.specs.Golden.{IsPreparedByAttempt, StartsAlike, UpdatingByAttempt}
 
 -- each of these attempts ended within the region: at its last byte or before it
 abbrev pub EndWithin : List ℕ → List BootAttempt → Type 0
 EndWithin region [] = Unit {0}
 EndWithin region (t ∷ older) = (t.wrapped ≡ false) × (attempt_end t ≤ length region) × EndWithin region older
+
+-- what a power loss in an update of a region left of it, where its golden stream starts after an erased first sector by
+-- an attempt that ends at the update's place or before it
+pub record IsLeftOfRegion (u : UpdatingByAttempt) (found : List ℕ) : Type 0 where
+  pub prepared : IsPreparedByAttempt u
+  pub left : MayBeLeft u.stream u.flash found
 
 -- a boot from a flash that is the region alone, of which each attempt ended within it
 pub record BootsWithin (part : PartData) (region : List ℕ) (b : BootedState) : Type 0 where
