@@ -270,15 +270,34 @@ def cause_of_page(source: Source) -> Optional[Cause]:
 
 
 # a stream's beginning: words FF, the bus width pattern, and the sync word
-BEGINNING = re.compile(rb"\xff{8,}(?:\x00\x00\x00\xbb\x11\x22\x00\x44\xff+)?\xaa\x99\x55\x66", re.S)
+LEAD, BUS_WIDTH = b"\xff" * 8, bytes.fromhex("000000BB11220044")
+
+
+def begin_of_lead(data: bytes, end: int) -> int:
+    """Where the bytes FF begin that end at a place: the last 65,536 bytes before it are looked at."""
+    low = max(end - 65536, 0)
+    return low + len(data[low:end].rstrip(b"\xff"))
+
+
+def beginning(data: bytes) -> Optional[int]:
+    """Where a stream begins, with the words FF before its sync word, or none."""
+    sync = data.find(x7.SYNC)
+    while sync >= 0:
+        lead = begin_of_lead(data, sync)
+        if lead < sync and lead >= len(BUS_WIDTH) and data.startswith(BUS_WIDTH, lead - len(BUS_WIDTH)):
+            first = begin_of_lead(data, lead - len(BUS_WIDTH))
+            lead = first if data.startswith(LEAD, first) else lead
+        if data.startswith(LEAD, lead):
+            return lead
+        sync = data.find(x7.SYNC, sync + 1)
+    return None
 
 
 def cause_of_exchange(source: Source) -> Optional[Cause]:
     """The cause where the two parts of a file are exchanged, or none."""
-    data, begins = source.data, BEGINNING.search(source.data)
-    if not begins or begins.start() < PAGE or not PACKETS.search(data, 0, begins.start()):
+    data, at = source.data, beginning(source.data)
+    if at is None or at < PAGE or not PACKETS.search(data, 0, at):
         return None
-    at = begins.start()
     if not plays(data[at:] + data[:at]):
         return None
     text = f"the file's two parts are exchanged: the stream begins at byte {at}, and what stands before that is its end"

@@ -7,6 +7,7 @@ from __future__ import annotations
 import itertools
 import random
 import tempfile
+import time
 from typing import List, Optional, Tuple
 
 from calls import called
@@ -19,7 +20,7 @@ import x7codes
 import x7formats as x7
 import x7lineends
 import x7pins
-from x7damage import plays
+from x7damage import beginning, plays
 
 TALLY = Tally()
 GOOD = damaged.coded(s.bit(s.full()))
@@ -109,6 +110,19 @@ def line_ends(folder: str) -> None:
         TALLY.check(f"{name}, what is said of it", status == 1 and "0D 0A" not in text, text)
 
 
+def beginnings() -> None:
+    """Where a stream begins, also after millions of bytes FF, in a short time."""
+    begun, empty = time.process_time(), b"\x01" + b"\xff" * 3000000
+    plain = bytes.fromhex("000000BB11220044FFFFFFFFFFFFFFFFAA995566")
+    for data, wanted in (
+        (b"\x01" + b"\xff" * 16 + plain, 1), (b"\xff" * 8 + x7.SYNC, 0), (b"\x01\xff" + x7.SYNC, None),
+        (b"\x55" + plain[:9] + x7.SYNC, None), (b"\x55" + plain, 9), (empty + b"\x02", None),
+        (x7.SYNC + empty + plain, len(empty) + 4 - 65536), (GOOD.data, 0),
+    ):  # fmt: skip
+        TALLY.same(f"the beginning in {len(data)} bytes", beginning(data), wanted)
+    TALLY.check("in a short time", time.process_time() - begun < 2, time.process_time() - begun)
+
+
 def codes(folder: str) -> None:
     """The codes of frames name the frame that is damaged, also two; and say nothing where there are none."""
     held = x7codes.frames_of(GOOD.data)
@@ -156,6 +170,7 @@ with tempfile.TemporaryDirectory() as FOLDER:
     orders()
     addresses()
     line_ends(FOLDER)
+    beginnings()
     codes(FOLDER)
     readbacks()
     watchdogs(FOLDER)
