@@ -1,6 +1,6 @@
 -- The course of a boot: a chain of attempts that leads to an end is the only one, and
 -- how an attempt is reported and followed.
-use Rattle.std.proofs.Common.{◌≡◌, ◌==◌, inl, inr, ℕ, suc, Bool, true, false, if◌then◌else◌, Option, None, Some, List, ◌∷◌, drop, take, length, map, reverse, refl, ap, sym, ◌∙◌, arith}
+use Rattle.std.proofs.Common.{◌≡◌, ◌==◌, ◌||◌, inl, inr, ℕ, suc, Bool, true, false, if◌then◌else◌, Option, None, Some, List, ◌∷◌, drop, take, length, map, reverse, refl, ap, sym, ◌∙◌, arith}
 use Rattle.std.proofs.Math.Seq.{take-length, take_all}
 use Rattle.std.proofs.lemmas.Bool.{cases_lt, or_from, or_right}
 use Rattle.x7_part.specs.Part.{PartData}
@@ -8,6 +8,7 @@ use Rattle.x7_regs.specs.declared.boot_status.Cause.{Cause}
 use Rattle.x7_regs.specs.declared.boot_status.Cause.TheVariants.{Wrap}
 use Rattle.x7_regs.specs.declared.boot_status.Kind.{Kind}
 use Rattle.x7_regs.specs.declared.boot_status.Kind.TheVariants.{Fallback}
+use Rattle.x7_regs.specs.declared.register.Reg.TheVariants.{Ctl0}
 use Rattle.x7_engine.specs.Kept.{is_fallback}
 use Rattle.x7_engine.specs.State.{kept_after, state_of, first_stop_of_bytes, taken_of, why_stopped}
 use Rattle.x7_engine.specs.Stop.{fault_of_stop}
@@ -19,7 +20,7 @@ use Rattle.x7_engine.specs.declared.stop.StopCause.{StopCause}
 use Rattle.x7_engine.specs.declared.stop.StopCause.TheVariants as stop
 use Rattle.x7_boot.specs.Attempt.{IsFlashAttempt, NoneBefore, BootAttempt, ending_at, ending_by, failed_by}
 use Rattle.x7_regs.specs.Control.{forbids_fallback}
-use Rattle.x7_boot.specs.Boot.{BootedState, IsBoot, LeadsToEnd, end_state, next_by, tried}
+use Rattle.x7_boot.specs.Boot.{BootedState, IsBoot, LeadsToEnd, end_value, next_by, tried}
 use Rattle.x7_boot.specs.BootCourse.{BootCourse, IsCourse, course_along, course_of}
 use Rattle.x7_boot.specs.declared.attempt.Ending.{Ending}
 use Rattle.x7_boot.specs.declared.attempt.Ending.TheVariants as ending
@@ -106,11 +107,16 @@ cause_is part flash t cause (inr out) e =
     ap (failure_of (fault_of_stop why)) out.past_end ∙ wrapped_by (fault_of_stop why) (no_cause why not_ended) ∙ some_failed Wrap cause (sym out.failed ∙ e)
 
 -- a fallback follows an attempt that failed, where that is none itself and CTL0 allows it; else the boot stops
-pub fallback_next : (part : PartData) (number : ℕ) (t : BootAttempt) (cause : Cause) → is_fallback t.kept.kind ≡ false → forbids_fallback (end_state part t).ctl0 ≡ false
+pub fallback_next : (part : PartData) (number : ℕ) (t : BootAttempt) (cause : Cause) → is_fallback t.kept.kind ≡ false → forbids_fallback (end_value part t Ctl0) ≡ false
     → next_by part number t (ending.Failed cause) ≡ Again (kept_after part t.kept t.wrapped t.bytes Fallback) 0
 fallback_next part number t cause first allowed =
-    ap (λ (b : Bool). if b then Ends boot_end.Stopped else Again (kept_after part t.kept t.wrapped t.bytes Fallback) 0) (or_from (is_fallback t.kept.kind) (forbids_fallback (end_state part t).ctl0) first allowed)
+    ap (λ (b : Bool). if b then Ends boot_end.Stopped else Again (kept_after part t.kept t.wrapped t.bytes Fallback) 0) (or_from (is_fallback t.kept.kind) (forbids_fallback (end_value part t Ctl0)) first allowed)
 
-pub stops_next : (part : PartData) (number : ℕ) (t : BootAttempt) (cause : Cause) → forbids_fallback (end_state part t).ctl0 ≡ true → next_by part number t (ending.Failed cause) ≡ Ends boot_end.Stopped
+-- a fallback that failed is the last attempt
+pub last_fails : (part : PartData) (number : ℕ) (t : BootAttempt) (cause : Cause) → is_fallback t.kept.kind ≡ true → next_by part number t (ending.Failed cause) ≡ Ends boot_end.Stopped
+last_fails part number t cause last =
+    ap (λ (b : Bool). if b || forbids_fallback (end_value part t Ctl0) then Ends boot_end.Stopped else Again (kept_after part t.kept t.wrapped t.bytes Fallback) 0) last
+
+pub stops_next : (part : PartData) (number : ℕ) (t : BootAttempt) (cause : Cause) → forbids_fallback (end_value part t Ctl0) ≡ true → next_by part number t (ending.Failed cause) ≡ Ends boot_end.Stopped
 stops_next part number t cause forbidden =
-    ap (λ (b : Bool). if b then Ends boot_end.Stopped else Again (kept_after part t.kept t.wrapped t.bytes Fallback) 0) (or_right (is_fallback t.kept.kind) (forbids_fallback (end_state part t).ctl0) forbidden)
+    ap (λ (b : Bool). if b then Ends boot_end.Stopped else Again (kept_after part t.kept t.wrapped t.bytes Fallback) 0) (or_right (is_fallback t.kept.kind) (forbids_fallback (end_value part t Ctl0)) forbidden)

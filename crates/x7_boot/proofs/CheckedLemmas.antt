@@ -5,6 +5,7 @@ use Rattle.x7_words.specs.Word.{AreBytes}
 use Rattle.x7_words.proofs.ListLemmas.{all_back, all_prefix, all_take}
 use Rattle.x7_packets.specs.History.{Write}
 use Rattle.x7_part.specs.Part.{PartData}
+use Rattle.x7_regs.specs.declared.register.Reg.TheVariants.{Ctl0}
 use Rattle.x7_engine.specs.Kept.{is_fallback}
 use Rattle.x7_engine.specs.State.{why_stopped, state_of, first_stop_of_bytes, taken_of}
 use Rattle.x7_engine.specs.Value.{failure_of}
@@ -15,7 +16,7 @@ use Rattle.x7_engine.proofs.CheckedLemmas.{check_equals, idcode_matches, none_be
 use Rattle.x7_regs.specs.declared.boot_status.Cause.{Cause}
 use Rattle.x7_boot.specs.Attempt.{IsFlashAttempt, BootAttempt, ending_at, ending_by, failed_by}
 use Rattle.x7_regs.specs.Control.{forbids_fallback}
-use Rattle.x7_boot.specs.Boot.{LeadsToEnd, end_state, next_by}
+use Rattle.x7_boot.specs.Boot.{LeadsToEnd, end_state, end_value, next_by}
 use Rattle.x7_boot.specs.Checked.{HasChecked}
 use Rattle.x7_boot.specs.declared.attempt.Ending.{Ending}
 use Rattle.x7_boot.specs.declared.attempt.Ending.TheVariants as ending
@@ -80,7 +81,7 @@ failed_ends false kept address e = absurd (cc)
 started_by : (part : PartData) (number : ℕ) (t : BootAttempt) (e : Ending) → Ends boot_end.Started ≡ next_by part number t e → e ≡ ending.Started
 started_by part number t ending.Started h = refl
 started_by part number t ending.Iprog h = absurd (iprog_ends (nat_le 16 number) _ _ h)
-started_by part number t (ending.Failed cause) h = absurd (failed_ends (is_fallback t.kept.kind || forbids_fallback (end_state part t).ctl0) _ _ h)
+started_by part number t (ending.Failed cause) h = absurd (failed_ends (is_fallback t.kept.kind || forbids_fallback (end_value part t Ctl0)) _ _ h)
 
 pub last_checked : (part : PartData) (flash : List ℕ) (last : BootAttempt) (older : List BootAttempt) (end : BootEnd) → AreBytes flash → LeadsToEnd part flash (last ∷ older) end → end ≡ boot_end.Started → HasChecked part last.kept last.bytes
 last_checked part flash last older end fits leads is =

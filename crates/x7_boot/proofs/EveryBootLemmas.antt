@@ -6,12 +6,13 @@ use Rattle.std.proofs.lemmas.Bool.Decides.{nat_tests}
 use Rattle.std.proofs.lemmas.List.{length-take}
 use Rattle.x7_part.specs.Part.{PartData}
 use Rattle.x7_regs.specs.declared.boot_status.Cause.TheVariants.{Wrap}
+use Rattle.x7_regs.specs.declared.register.Reg.TheVariants.{Ctl0}
 use Rattle.x7_engine.specs.Kept.{is_fallback}
 use Rattle.x7_engine.specs.State.{taken_of}
 use Rattle.x7_engine.specs.declared.kept.Kept.{Kept}
 use Rattle.x7_boot.specs.Attempt.{IsFlashAttempt, BootAttempt, ending_at}
 use Rattle.x7_regs.specs.Control.{forbids_fallback}
-use Rattle.x7_boot.specs.Boot.{HasBoot, LeadsTo, at_power, end_state, next_by}
+use Rattle.x7_boot.specs.Boot.{HasBoot, LeadsTo, at_power, end_value, next_by}
 use Rattle.x7_boot.specs.declared.attempt.Ending.{Ending}
 use Rattle.x7_boot.specs.declared.attempt.Ending.TheVariants as ending
 use Rattle.x7_boot.specs.declared.boots.BootEnd.{BootEnd}
@@ -102,7 +103,7 @@ after_failure older t kept false false e falls early = inr (kept, 0, inr (falls,
 comes : (part : PartData) (older : List BootAttempt) (t : BootAttempt) (e : Ending) → IsEarly older t.kept → Comes older t (next_by part (length older + 1) t e)
 comes part older t ending.Started early = inl (boot_end.Started, refl)
 comes part older t ending.Iprog early = after_iprog older t _ _ (nat_le 16 (length older + 1)) refl
-comes part older t (ending.Failed cause) early = after_failure older t _ (is_fallback t.kept.kind) (forbids_fallback (end_state part t).ctl0) refl refl early
+comes part older t (ending.Failed cause) early = after_failure older t _ (is_fallback t.kept.kind) (forbids_fallback (end_value part t Ctl0)) refl refl early
 
 chain : (part : PartData) (flash : List ℕ) (n : ℕ) (older : List BootAttempt) (kept : Kept) (address : ℕ) → length older + n ≡ 17 → IsEarly older kept → LeadsTo part flash older (Again kept address) → HasBoot part flash
 chain part flash zero older kept address count early leads = absurd (omega (arith, count, early_is_short older kept early))

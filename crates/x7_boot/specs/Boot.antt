@@ -13,9 +13,11 @@ use Rattle.x7_part.specs.Part.{PartData}
 use Rattle.x7_part.specs.Limits.{large_start_unit}
 use Rattle.x7_regs.specs.Control.{forbids_fallback}
 use Rattle.x7_regs.specs.declared.boot_status.Kind.TheVariants.{Power, Iprog, Fallback}
+use Rattle.x7_regs.specs.declared.register.Reg.{Reg}
+use Rattle.x7_regs.specs.declared.register.Reg.TheVariants.{Ctl0, Wbstar}
 use Rattle.x7_engine.specs.Kept.{is_fallback}
 use Rattle.x7_engine.specs.Standing.{DeviceState, NoWordDue}
-use Rattle.x7_engine.specs.State.{kept_after, state_of}
+use Rattle.x7_engine.specs.State.{kept_after, state_of, value_of}
 use Rattle.x7_engine.specs.declared.kept.Kept.{Kept}
 use Rattle.x7_engine.specs.declared.snapshot.Snapshot.{Snapshot}
 use Rattle.x7_boot.specs.Attempt.{AttemptStart, IsDeviceOf, IsFlashAttempt, BootAttempt, TakesByte, attempt_at}
@@ -47,6 +49,10 @@ start_address unit wbstar = if unit == large_start_unit then large_start_unit * 
 abbrev pub end_state : PartData → BootAttempt → Snapshot
 end_state part t = state_of part t.kept t.wrapped t.bytes
 
+-- the value of a register of a device at the end of an attempt
+abbrev pub end_value : PartData → BootAttempt → Reg → ℕ
+end_value part t = value_of part t.kept t.wrapped t.bytes
+
 -- the most attempts of a boot that may end by IPROG; the fallback may be one attempt more
 abbrev pub most_iprogs : ℕ
 most_iprogs = 16
@@ -55,9 +61,9 @@ most_iprogs = 16
 abbrev pub next_by : PartData → ℕ → BootAttempt → Ending → Next
 next_by part number t ending.Started = Ends boot_end.Started
 next_by part number t ending.Iprog =
-    if nat_le most_iprogs number then Ends boot_end.Loop else Again (kept_after part t.kept t.wrapped t.bytes Iprog) (start_address part.start_unit (end_state part t).wbstar)
+    if nat_le most_iprogs number then Ends boot_end.Loop else Again (kept_after part t.kept t.wrapped t.bytes Iprog) (start_address part.start_unit (end_value part t Wbstar))
 next_by part number t (ending.Failed cause) =
-    if is_fallback t.kept.kind || forbids_fallback (end_state part t).ctl0 then Ends boot_end.Stopped else Again (kept_after part t.kept t.wrapped t.bytes Fallback) 0
+    if is_fallback t.kept.kind || forbids_fallback (end_value part t Ctl0) then Ends boot_end.Stopped else Again (kept_after part t.kept t.wrapped t.bytes Fallback) 0
 
 -- what the device of the first attempt kept over its reset: nothing but the kind, since power has just come
 abbrev pub at_power : Kept

@@ -14,7 +14,7 @@ use crate::attempt::Ending;
 use crate::boots::BootEnd;
 use x7_engine::{Device, Kept, is_fallback};
 use x7_part::LARGE_START_UNIT;
-use x7_regs::{Kind, forbids_fallback};
+use x7_regs::{Kind, Reg, forbids_fallback};
 
 /// The most attempts of a boot that may end by IPROG (this project's choice).
 const MOST_IPROGS: u32 = 16;
@@ -64,14 +64,14 @@ pub(crate) fn next_by(device: &Device, kind: Kind, number: u32, ending: Ending) 
             if number >= MOST_IPROGS {
                 return Next::Ends(BootEnd::Loop);
             }
-            let address = start_address(device.part().start_unit(), device.state().wbstar);
+            let address = start_address(device.part().start_unit(), device.value(Reg::Wbstar));
             Next::Again {
                 kept: kept_after(device, Kind::Iprog),
                 address,
             }
         }
         Ending::Failed(_) => {
-            if is_fallback(kind) || forbids_fallback(device.state().ctl0) {
+            if is_fallback(kind) || forbids_fallback(device.value(Reg::Ctl0)) {
                 return Next::Ends(BootEnd::Stopped);
             }
             Next::Again {

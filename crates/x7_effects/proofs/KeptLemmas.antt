@@ -11,7 +11,7 @@ use Rattle.x7_memory.specs.Plan.{PlanRow}
 use Rattle.x7_flow.specs.Controls.{masked_register}
 use Rattle.x7_engine.specs.declared.kept.Kept.{Kept}
 use Rattle.x7_engine.specs.Kept.{kept_word}
-use Rattle.x7_engine.specs.State.{history_by, history_taken, state_of, first_stop_of_bytes}
+use Rattle.x7_engine.specs.State.{history_by, history_taken, first_stop_of_bytes, value_of}
 use Rattle.x7_engine.specs.Stop.{Stopped}
 use Rattle.x7_planner.specs.PartialStream.{Copies, Rows, Section, sections_of}
 use Rattle.x7_effects.specs.Played.{KeepsControlWords, KeepsUnwritten}
@@ -132,7 +132,7 @@ module _ (part : PartData) (kept : Kept) (bytes : List ℕ) (pieces : List Piece
   word_stays : (r : ℕ) → IsOther r → AreApart r pieces → last_word r (kept_word kept r) (history_taken part kept (bytes ++ stream_of pieces noops)) ≡ last_word r (kept_word kept r) (history_taken part kept bytes)
   word_stays r o a = stays r (last_word r (kept_word kept r)) (reads_last r (kept_word kept r)) o a
 
-  pub unwritten_stay : ((r : ℕ) → IsUnwritten r → AreApart r pieces) → (wrapped : Bool) → KeepsUnwritten (state_of part kept wrapped bytes) (state_of part kept wrapped (bytes ++ stream_of pieces noops))
+  pub unwritten_stay : ((r : ℕ) → IsUnwritten r → AreApart r pieces) → (wrapped : Bool) → KeepsUnwritten (value_of part kept wrapped bytes) (value_of part kept wrapped (bytes ++ stream_of pieces noops))
   unwritten_stay apart wrapped =
       let other : (r : ℕ) → IsUnwritten r → last_word r (kept_word kept r) (history_taken part kept (bytes ++ stream_of pieces noops)) ≡ last_word r (kept_word kept r) (history_taken part kept bytes) = λ r u. word_stays r u.other (apart r u) in
       let ctl1 : IsUnwritten 24 = unwritten_is 24 (other_is 24 refl refl refl refl refl refl) refl refl refl in
@@ -145,7 +145,7 @@ module _ (part : PartData) (kept : Kept) (bytes : List ℕ) (pieces : List Piece
         bspi = other 31 (unwritten_is 31 (other_is 31 refl refl refl refl refl refl) refl refl refl);
       }
 
-  pub control_words_stay : ((r : ℕ) → IsOther r → AreApart r pieces) → (wrapped : Bool) → KeepsControlWords (state_of part kept wrapped bytes) (state_of part kept wrapped (bytes ++ stream_of pieces noops))
+  pub control_words_stay : ((r : ℕ) → IsOther r → AreApart r pieces) → (wrapped : Bool) → KeepsControlWords (value_of part kept wrapped bytes) (value_of part kept wrapped (bytes ++ stream_of pieces noops))
   control_words_stay apart wrapped =
       let ctl0 : IsOther 5 = other_is 5 refl refl refl refl refl refl in
       let mask : IsOther 6 = other_is 6 refl refl refl refl refl refl in

@@ -2,6 +2,8 @@
 use Rattle.std.specs.Prelude.{◌≡◌, ℕ, Bool, true, List, ◌++◌, take, unwrap_or}
 use Rattle.std.specs.List.{flat_map}
 use Rattle.x7_words.specs.Word.{AreBytes}
+use Rattle.x7_regs.specs.declared.register.Reg.{Reg}
+use Rattle.x7_regs.specs.declared.register.Reg.TheVariants.{Ctl0, Mask, Cor0, Axss, Cor1, Wbstar, Timer, Ctl1, Bspi}
 use Rattle.x7_part.specs.Part.{PartData}
 use Rattle.x7_part.specs.Ranges.{IsPart}
 use Rattle.x7_part.specs.declared.slot.Slot.{Slot}
@@ -12,9 +14,8 @@ use Rattle.x7_part.specs.Slot.{slots_from}
 use Rattle.x7_startup.specs.Phases.{last_phase}
 use Rattle.x7_startup.specs.declared.lines.Lines.{Lines}
 use Rattle.x7_engine.specs.declared.kept.Kept.{Kept}
-use Rattle.x7_engine.specs.declared.snapshot.Snapshot.{Snapshot}
 use Rattle.x7_engine.specs.Rest.{AtRest}
-use Rattle.x7_engine.specs.State.{memory_of_bytes, reads_of, state_of}
+use Rattle.x7_engine.specs.State.{memory_of_bytes, reads_of, state_of, value_of}
 use Rattle.x7_planner.specs.FullStream.{full_stream, zero_frame}
 use Rattle.x7_planner.specs.PartialStream.{partial_stream}
 use Rattle.x7_planner.specs.ReadStream.{read_stream}
@@ -79,20 +80,20 @@ all_high = record { done = true; gts = true; gwe = true }
 
 -- the registers that keep a word and that no planned stream writes are as they were: COR1, CTL1, AXSS, WBSTAR, TIMER
 -- and BSPI
-pub record KeepsUnwritten (old new : Snapshot) : Type 0 where
-  pub cor1 : new.cor1 ≡ old.cor1
-  pub ctl1 : new.ctl1 ≡ old.ctl1
-  pub axss : new.axss ≡ old.axss
-  pub wbstar : new.wbstar ≡ old.wbstar
-  pub timer : new.timer ≡ old.timer
-  pub bspi : new.bspi ≡ old.bspi
+pub record KeepsUnwritten (old new : Reg → ℕ) : Type 0 where
+  pub cor1 : new Cor1 ≡ old Cor1
+  pub ctl1 : new Ctl1 ≡ old Ctl1
+  pub axss : new Axss ≡ old Axss
+  pub wbstar : new Wbstar ≡ old Wbstar
+  pub timer : new Timer ≡ old Timer
+  pub bspi : new Bspi ≡ old Bspi
 
 -- the registers that keep a word and that no planned stream writes, and the words that a full stream writes (CTL0,
 -- MASK and COR0), are as they were; of CRC, FAR, CMD, IDCODE, STAT and BOOTSTS nothing is said
-pub record KeepsControlWords (old new : Snapshot) : Type 0 where
-  pub ctl0 : new.ctl0 ≡ old.ctl0
-  pub mask : new.mask ≡ old.mask
-  pub cor0 : new.cor0 ≡ old.cor0
+pub record KeepsControlWords (old new : Reg → ℕ) : Type 0 where
+  pub ctl0 : new Ctl0 ≡ old Ctl0
+  pub mask : new Mask ≡ old Mask
+  pub cor0 : new Cor0 ≡ old Cor0
   pub unwritten : KeepsUnwritten old new
 
 -- After a full stream the memory is the plan over zeros, startup has ended, its lines are 1, and the registers that no
@@ -102,7 +103,7 @@ pub record PlaysFull (d : DeviceAfter) (stream : List ℕ) (plan : PlanData) : T
   pub memory : HaveSameFrames (memory_of_bytes d.part d.kept (d.bytes ++ stream)) (total d.part plan)
   pub phase : (wrapped : Bool) → (state_of d.part d.kept wrapped (d.bytes ++ stream)).phase ≡ last_phase
   pub lines : (wrapped : Bool) → (state_of d.part d.kept wrapped (d.bytes ++ stream)).lines ≡ all_high
-  pub registers : (wrapped : Bool) → KeepsUnwritten (state_of d.part d.kept wrapped d.bytes) (state_of d.part d.kept wrapped (d.bytes ++ stream))
+  pub registers : (wrapped : Bool) → KeepsUnwritten (value_of d.part d.kept wrapped d.bytes) (value_of d.part d.kept wrapped (d.bytes ++ stream))
   pub reads : reads_of d.part d.kept (d.bytes ++ stream) ≡ reads_of d.part d.kept d.bytes
   pub rests : AtRest d.part d.kept (d.bytes ++ stream)
 
@@ -112,7 +113,7 @@ pub record PlaysPartial (d : DeviceAfter) (stream : List ℕ) (plan : PlanData) 
   pub memory : HaveSameFrames (memory_of_bytes d.part d.kept (d.bytes ++ stream)) (override (memory_of_bytes d.part d.kept d.bytes) (planned plan.rows))
   pub phase : (wrapped : Bool) → (state_of d.part d.kept wrapped (d.bytes ++ stream)).phase ≡ (state_of d.part d.kept wrapped d.bytes).phase
   pub lines : (wrapped : Bool) → (state_of d.part d.kept wrapped (d.bytes ++ stream)).lines ≡ (state_of d.part d.kept wrapped d.bytes).lines
-  pub registers : (wrapped : Bool) → KeepsControlWords (state_of d.part d.kept wrapped d.bytes) (state_of d.part d.kept wrapped (d.bytes ++ stream))
+  pub registers : (wrapped : Bool) → KeepsControlWords (value_of d.part d.kept wrapped d.bytes) (value_of d.part d.kept wrapped (d.bytes ++ stream))
   pub reads : reads_of d.part d.kept (d.bytes ++ stream) ≡ reads_of d.part d.kept d.bytes
   pub rests : AtRest d.part d.kept (d.bytes ++ stream)
 
@@ -123,7 +124,7 @@ pub record PlaysRead (d : DeviceAfter) (stream : List ℕ) (far n : ℕ) : Type 
   pub memory : HaveSameFrames (memory_of_bytes d.part d.kept (d.bytes ++ stream)) (memory_of_bytes d.part d.kept d.bytes)
   pub phase : (wrapped : Bool) → (state_of d.part d.kept wrapped (d.bytes ++ stream)).phase ≡ (state_of d.part d.kept wrapped d.bytes).phase
   pub lines : (wrapped : Bool) → (state_of d.part d.kept wrapped (d.bytes ++ stream)).lines ≡ (state_of d.part d.kept wrapped d.bytes).lines
-  pub registers : (wrapped : Bool) → KeepsControlWords (state_of d.part d.kept wrapped d.bytes) (state_of d.part d.kept wrapped (d.bytes ++ stream))
+  pub registers : (wrapped : Bool) → KeepsControlWords (value_of d.part d.kept wrapped d.bytes) (value_of d.part d.kept wrapped (d.bytes ++ stream))
   pub rests : AtRest d.part d.kept (d.bytes ++ stream)
 
 -- ---- streams one after another

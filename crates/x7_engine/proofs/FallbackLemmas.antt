@@ -11,6 +11,7 @@ use Rattle.x7_flow.specs.FrameMemory.{memory_of}
 use Rattle.x7_engine.specs.Course.{course_at}
 use Rattle.x7_engine.specs.Kept.{AreFallbacks, is_fallback, without_kept}
 use Rattle.x7_engine.specs.State.{history_by, memory_of_bytes, state_by, state_of, first_stop_of_bytes, taken_by, why_stopped}
+use Rattle.x7_engine.specs.Shown.{with_values}
 use Rattle.x7_engine.specs.Stop.{Stopped, first_stop_of_history, stop_at_place, stop_at_firing, why_at_access}
 use Rattle.x7_engine.specs.Watching.{first_firing, timer_held, turns_on}
 use Rattle.x7_engine.specs.declared.kept.Kept.{Kept}
@@ -50,6 +51,7 @@ module _ (part : PartData) (one other : Kept) (bytes : List ℕ) (f : AreFallbac
   registers kept wrapped o = without_kept (state_by (course_at part kept (history_by o (history_of bytes)) (taken_by o (length bytes))) wrapped (why_stopped o) (is_synced (reading_of bytes).place))
 
   not_kept : (wrapped : Bool) (o : Option Stopped) → registers one wrapped o ≡ registers other wrapped o
+  unfolding with_values
   not_kept wrapped o = refl
 
   pub kept_state : (wrapped : Bool) → without_kept (state_of part one wrapped bytes) ≡ without_kept (state_of part other wrapped bytes)

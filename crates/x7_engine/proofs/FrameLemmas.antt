@@ -9,8 +9,6 @@ use Rattle.x7_packets.specs.Packet.{payload_steps}
 use Rattle.x7_packets.proofs.HistoryLemmas.{kept_all}
 use Rattle.x7_crc.specs.RunningCheck.{running_check}
 use Rattle.x7_part.specs.Part.{PartData}
-use Rattle.x7_regs.specs.declared.register.Reg.{Reg}
-use Rattle.x7_regs.specs.declared.register.Reg.TheVariants as reg
 use Rattle.x7_regs.specs.Command.{command_by}
 use Rattle.x7_pipeline.specs.declared.fault.RunFault.{RunFault}
 use Rattle.x7_pipeline.specs.declared.fault.RunFault.TheVariants.{Address, Multi, Overrun}
@@ -24,10 +22,8 @@ use Rattle.x7_flow.specs.Standing.{AfterAccess, FramesStandFor, FramesState, far
 use Rattle.x7_flow.proofs.FaultLemmas.{refused_far_read, refused_memory}
 use Rattle.x7_flow.proofs.StandingLemmas.{no_less}
 use Rattle.x7_flow.proofs.TakenLemmas.{other_access}
-use Rattle.x7_engine.specs.Course.{course_at}
 use Rattle.x7_engine.specs.declared.due.Due.{Due}
 use Rattle.x7_engine.specs.declared.due.Due.TheVariants as due
-use Rattle.x7_engine.specs.declared.fault.Fault.{Fault}
 use Rattle.x7_engine.specs.declared.fault.Fault.TheVariants as fault
 use Rattle.x7_engine.specs.declared.kept.Kept.{Kept}
 use Rattle.x7_engine.specs.declared.stop.StopCause.{StopCause}
@@ -35,7 +31,6 @@ use Rattle.x7_engine.specs.declared.stop.StopCause.TheVariants as stop
 use Rattle.x7_engine.specs.Kept.{is_fallback}
 use Rattle.x7_engine.specs.Standing.{FramesAre, due_count, frames_among, frames_due, frames_history, is_refusal, without_newest, words_still_due}
 use Rattle.x7_engine.specs.Stop.{why_besides_frames, asks_decryption, why_by_frames, why_at_access, needs_idcode, stop_of_refused, why_by_write}
-use Rattle.x7_engine.specs.Value.{register_value, value_owing}
 use Rattle.x7_engine.proofs.PlainLemmas.{IsPlain, plain_asks}
 
 -- ---- the history that the frames stand for
@@ -100,11 +95,6 @@ pub length_left : (part : PartData) (h : History) (d : Due) → length (words_st
 length_left part h due.Nothing = refl
 length_left part h (due.Same word count) = length-replicate count word
 length_left part h (due.Frames count) = length_from part _ _ _ count
-
--- where no word is due, a value is that of the history
-pub value_now : (part : PartData) (kept : Kept) (f : Option Fault) (h : History) (n : ℕ) (r : Reg) → value_owing (course_at part kept h n) f 0 r ≡ register_value (course_at part kept h n) false f r
-value_now part kept f h n reg.Far = ap (far_in part) (sym (no_less (flow_of part h)))
-value_now part kept f h n r = refl
 
 -- where no word is due and nothing stopped the device, the frames stand for the whole history
 pub standing_frames : (part : PartData) (f : FramesState) (why : Option StopCause) (h : History) (d : Due) → why ≡ None → due_count d ≡ 0 → FramesAre part f why h (frames_due d) → FramesStandFor part f h 0

@@ -23,6 +23,7 @@ pub mod ReadsLemmas
 pub mod RestLemmas
 pub mod SameLemmas
 mod SequenceLemmas
+pub mod ShownLemmas
 mod SinceLemmas
 pub mod StartupLemmas
 pub mod StateLemmas

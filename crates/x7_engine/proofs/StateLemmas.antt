@@ -15,10 +15,8 @@ use Rattle.x7_engine.specs.declared.fault.Fault.TheVariants as fault
 use Rattle.x7_engine.specs.declared.stop.StopCause.{StopCause}
 use Rattle.x7_engine.specs.declared.stop.StopCause.TheVariants as stop
 use Rattle.x7_engine.specs.Standing.{DeviceStandsFor, DeviceState}
-use Rattle.x7_flow.specs.HistoryFlow.{Flow, far_in, flow_of}
 use Rattle.x7_flow.specs.FrameMemory.{memory_of}
-use Rattle.x7_flow.proofs.StandingLemmas.{no_less}
-use Rattle.x7_engine.specs.State.{history_by, history_taken, last_counted, why_stopped, reads_of, state_by, state_of, first_stop_of_bytes, taken_by, taken_of, memory_of_bytes, state_owing}
+use Rattle.x7_engine.specs.State.{history_by, history_taken, last_counted, why_stopped, reads_of, state_by, state_of, first_stop_of_bytes, taken_by, taken_of, memory_of_bytes}
 use Rattle.x7_engine.specs.Stop.{Stopped, why_at_access, first_stop_of_history, stop_at_place, stop_at_firing}
 use Rattle.x7_engine.specs.Watching.{fired_or, watchdog_fires, first_firing}
 use Rattle.x7_engine.specs.Value.{read_out}
@@ -38,11 +36,6 @@ why_is part kept wrapped d bytes s = ap why_stopped s.stop_is ∙ why_at_end (le
 -- all bytes are taken
 pub taken_is : (part : PartData) (kept : Kept) (wrapped : Bool) (d : DeviceState) (bytes : List ℕ) → DeviceStandsFor part kept wrapped d bytes → taken_of part kept bytes ≡ length bytes
 taken_is part kept wrapped d bytes s = ap (λ (o : Option Stopped). taken_by o (length bytes)) s.stop_is ∙ taken_at_end (length bytes) d.registers.values.stop
-
--- where no word of frame data is due, FAR is that of all words
-pub state_now : (part : PartData) (kept : Kept) (wrapped : Bool) (bytes : List ℕ) → state_owing part kept wrapped bytes 0 ≡ state_of part kept wrapped bytes
-state_now part kept wrapped bytes =
-    ap (λ (f : Flow). record (state_of part kept wrapped bytes) { far = far_in part f }) (sym (no_less (flow_of part (history_taken part kept bytes))))
 
 -- ---- a stop is final
 

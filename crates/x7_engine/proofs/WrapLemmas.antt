@@ -12,7 +12,8 @@ use Rattle.x7_engine.specs.declared.fault.Fault.TheVariants as fault
 use Rattle.x7_engine.specs.declared.kept.Kept.{Kept}
 use Rattle.x7_engine.specs.Kept.{is_fallback}
 use Rattle.x7_engine.specs.Registers.{wrote_iprog}
-use Rattle.x7_engine.specs.State.{history_taken, why_stopped, state_of, first_stop_of_bytes}
+use Rattle.x7_engine.specs.Shown.{with_values, with_bootsts}
+use Rattle.x7_engine.specs.State.{bootsts_of, history_taken, why_stopped, state_of, first_stop_of_bytes}
 use Rattle.x7_engine.specs.Stop.{fault_of_stop}
 use Rattle.x7_engine.specs.Value.{failure_of}
 
@@ -44,9 +45,10 @@ shows kind f ignored before boots e =
     ∙ one_bit kind ignored (before_bits_of before) boots
     ∙ ap (λ (c : Option Cause). boot_word_by kind (attempt_bits_by kind c ignored) (before_bits_of before) + 2 ^ 6) (sym e)
 
-pub wrap_alone : (part : PartData) (kept : Kept) (bytes : List ℕ) → state_of part kept true bytes ≡ record (state_of part kept false bytes) { bootsts = (state_of part kept true bytes).bootsts }
+pub wrap_alone : (part : PartData) (kept : Kept) (bytes : List ℕ) → state_of part kept true bytes ≡ with_bootsts (bootsts_of part kept true bytes) (state_of part kept false bytes)
+unfolding with_values
 wrap_alone part kept bytes = refl
 
 pub wrap_bit : (part : PartData) (kept : Kept) (bytes : List ℕ) → (kept.kind ≡ Bench → ⊥) → failure_of (fault_of_stop (why_stopped (first_stop_of_bytes part kept bytes))) false ≡ None
-    → (state_of part kept true bytes).bootsts ≡ (state_of part kept false bytes).bootsts + 2 ^ 6
+    → bootsts_of part kept true bytes ≡ bootsts_of part kept false bytes + 2 ^ 6
 wrap_bit part kept bytes boots e = shows kept.kind (fault_of_stop (why_stopped (first_stop_of_bytes part kept bytes))) (is_fallback kept.kind && wrote_iprog (history_taken part kept bytes)) kept.before boots e

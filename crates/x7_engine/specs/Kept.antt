@@ -1,9 +1,10 @@
 -- What a device keeps over a reset (this project's choice): three registers, and
 -- what the boot history says of its attempts.
-use Rattle.std.specs.Prelude.{◌≡◌, ℕ, ◌==◌, if◌then◌else◌, Bool, true, false, None}
+use Rattle.std.specs.Prelude.{◌≡◌, ℕ, ◌==◌, if◌then◌else◌, Bool, true, false, None, map}
 use Rattle.x7_regs.specs.declared.boot_status.Kind.{Kind}
 use Rattle.x7_regs.specs.declared.boot_status.Kind.TheVariants.{Bench, Power, Iprog, Fallback}
-use Rattle.x7_regs.specs.declared.register.Reg.TheVariants.{Wbstar, Timer, Bspi}
+use Rattle.x7_regs.specs.declared.register.Reg.{Reg}
+use Rattle.x7_regs.specs.declared.register.Reg.TheVariants.{Wbstar, Timer, Bootsts, Bspi}
 use Rattle.x7_regs.specs.Register.{number_of}
 use Rattle.x7_engine.specs.declared.kept.Kept.{Kept}
 use Rattle.x7_engine.specs.declared.snapshot.End.TheVariants as at_end
@@ -31,7 +32,14 @@ is_fallback Fallback = true
 abbrev pub AreFallbacks : Kept → Kept → Type 0
 AreFallbacks one other = (is_fallback one.kind ≡ true) × (is_fallback other.kind ≡ true)
 
--- the state without what shows what was kept over the reset: WBSTAR, TIMER, BSPI, BOOTSTS, and the end, which may
--- show WBSTAR
+-- the row of a register, with 0 where it is one of the four that show what was kept over the reset
+abbrev pub row_without_kept : Reg × ℕ → Reg × ℕ
+row_without_kept (Wbstar, value) = (Wbstar, 0)
+row_without_kept (Timer, value) = (Timer, 0)
+row_without_kept (Bootsts, value) = (Bootsts, 0)
+row_without_kept (Bspi, value) = (Bspi, 0)
+row_without_kept row = row
+
+-- the state without what shows what was kept over the reset: these registers, and the end, which may show WBSTAR
 abbrev pub without_kept : Snapshot → Snapshot
-without_kept r = record r { end = at_end.Searching; wbstar = 0; timer = 0; bspi = 0; bootsts = 0 }
+without_kept r = record r { end = at_end.Searching; registers = map row_without_kept r.registers }

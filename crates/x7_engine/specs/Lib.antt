@@ -12,6 +12,7 @@ pub mod Readout
 pub mod Registers
 pub mod Rest
 pub mod Sequence
+pub mod Shown
 pub mod Since
 pub mod SoonestEnd
 pub mod Standing

@@ -7,6 +7,7 @@ use Rattle.std.specs.Prelude.{◌≡◌, ℕ, ◌<◌, ◌==◌, ◌++◌, Bool,
 use Rattle.x7_words.specs.Word.{AreBytes}
 use Rattle.x7_packets.specs.History.{Access, History}
 use Rattle.x7_regs.specs.declared.boot_status.Kind.TheVariants.{Bench}
+use Rattle.x7_regs.specs.declared.register.Reg.{Reg}
 use Rattle.x7_memory.specs.FrameMap.{FrameMap}
 use Rattle.x7_part.specs.Part.{PartData}
 use Rattle.x7_startup.specs.Phases.{last_phase}
@@ -21,7 +22,7 @@ use Rattle.x7_engine.specs.declared.until_started.UntilStarted.{UntilStarted}
 use Rattle.x7_engine.specs.declared.until_started.UntilStarted.TheVariants as until
 use Rattle.x7_engine.specs.ReadBuffer.{IsFull, ReadBufState}
 use Rattle.x7_engine.specs.Standing.{DeviceStandsFor, DeviceState, NoWordDue, due_count, taken_in, reads_given, words_still_due}
-use Rattle.x7_engine.specs.State.{cause_of, history_taken, why_stopped, memory_of_bytes, reads_of, state_of, first_stop_of_bytes, taken_of}
+use Rattle.x7_engine.specs.State.{cause_of, history_taken, why_stopped, memory_of_bytes, reads_of, state_of, first_stop_of_bytes, taken_of, value_of}
 use Rattle.x7_engine.specs.Stop.{Stopped}
 use Rattle.x7_engine.specs.UntilStarted.{has_started, taken_until}
 
@@ -58,6 +59,10 @@ ForEachPast d Fact = (part : PartData) (kept : Kept) (wrapped : Bool) (bytes : L
 -- the state that the bytes of a past leave
 abbrev pub state_at : Past → Snapshot
 state_at p = state_of p.part p.kept p.wrapped p.bytes
+
+-- the value of a register that the bytes of a past leave
+abbrev pub value_at : Past → Reg → ℕ
+value_at p = value_of p.part p.kept p.wrapped p.bytes
 
 -- the first stop in the bytes of a past, where there is one
 abbrev pub first_stop_at : Past → Option Stopped

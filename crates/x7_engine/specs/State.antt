@@ -15,10 +15,10 @@ use Rattle.x7_regs.specs.Register.{number_of}
 use Rattle.x7_regs.specs.declared.boot_status.Attempt.{Attempt}
 use Rattle.x7_regs.specs.declared.boot_status.Cause.{Cause}
 use Rattle.x7_regs.specs.declared.boot_status.Kind.{Kind}
-use Rattle.x7_regs.specs.declared.register.Reg.TheVariants.{Crc, Far, Cmd, Ctl0, Mask, Stat, Cor0, Idcode, Axss, Cor1, Wbstar, Timer, Bootsts, Ctl1, Bspi}
+use Rattle.x7_regs.specs.declared.register.Reg.{Reg}
+use Rattle.x7_regs.specs.declared.register.Reg.TheVariants.{Wbstar, Timer, Bootsts, Bspi}
 use Rattle.x7_memory.specs.FrameMap.{FrameMap}
 use Rattle.x7_flow.specs.FrameMemory.{memory_of}
-use Rattle.x7_flow.specs.Standing.{far_owing}
 use Rattle.x7_engine.specs.Course.{Course, course_at}
 use Rattle.x7_engine.specs.declared.fault.Fault.TheVariants as fault
 use Rattle.x7_engine.specs.declared.kept.Kept.{Kept}
@@ -28,9 +28,10 @@ use Rattle.x7_engine.specs.declared.snapshot.Snapshot.{Snapshot}
 use Rattle.x7_engine.specs.declared.stop.StopCause.{StopCause}
 use Rattle.x7_engine.specs.declared.stop.StopCause.TheVariants as stop
 use Rattle.x7_engine.specs.Registers.{word_held}
+use Rattle.x7_engine.specs.Shown.{with_values}
 use Rattle.x7_engine.specs.Startup.{phase_by, startup_progress}
 use Rattle.x7_engine.specs.Stop.{Stopped, fault_of_stop, first_stop_of_history}
-use Rattle.x7_engine.specs.Value.{attempt_of, failure_of, lines_by, read_out, register_value}
+use Rattle.x7_engine.specs.Value.{attempt_of, failure_of, lines_by, read_out, register_value, value_owing}
 
 -- the first stop in the bytes, where there is one
 abbrev pub first_stop_of_bytes : PartData → Kept → List ℕ → Option Stopped
@@ -71,21 +72,7 @@ state_by c wrapped why synced = record {
   end = end_by why synced (word_held c.kept (number_of Wbstar) c.history);
   phase = phase_by c.part (startup_progress c.history c.taken);
   lines = lines_by c.part (startup_progress c.history c.taken);
-  crc = register_value c wrapped (fault_of_stop why) Crc;
-  far = register_value c wrapped (fault_of_stop why) Far;
-  cmd = register_value c wrapped (fault_of_stop why) Cmd;
-  ctl0 = register_value c wrapped (fault_of_stop why) Ctl0;
-  mask = register_value c wrapped (fault_of_stop why) Mask;
-  stat = register_value c wrapped (fault_of_stop why) Stat;
-  cor0 = register_value c wrapped (fault_of_stop why) Cor0;
-  idcode = register_value c wrapped (fault_of_stop why) Idcode;
-  axss = register_value c wrapped (fault_of_stop why) Axss;
-  cor1 = register_value c wrapped (fault_of_stop why) Cor1;
-  wbstar = register_value c wrapped (fault_of_stop why) Wbstar;
-  timer = register_value c wrapped (fault_of_stop why) Timer;
-  bootsts = register_value c wrapped (fault_of_stop why) Bootsts;
-  ctl1 = register_value c wrapped (fault_of_stop why) Ctl1;
-  bspi = register_value c wrapped (fault_of_stop why) Bspi;
+  registers = with_values (register_value c wrapped (fault_of_stop why));
 }
 
 -- how many of the bytes are taken
@@ -96,15 +83,21 @@ taken_of part kept bytes = taken_by (first_stop_of_bytes part kept bytes) (lengt
 abbrev pub history_taken : PartData → Kept → List ℕ → History
 history_taken part kept bytes = history_by (first_stop_of_bytes part kept bytes) (history_of bytes)
 
+-- the course of a device after these bytes
+abbrev pub course_taken : PartData → Kept → List ℕ → Course
+course_taken part kept bytes = course_at part kept (history_taken part kept bytes) (taken_of part kept bytes)
+
 -- the state of a device after these bytes, by whether the flash has ended in its attempt
 abbrev pub state_of : PartData → Kept → Bool → List ℕ → Snapshot
-state_of part kept wrapped bytes =
-    state_by (course_at part kept (history_taken part kept bytes) (taken_of part kept bytes)) wrapped (why_stopped (first_stop_of_bytes part kept bytes))
-    (is_synced (reading_of bytes).place)
+state_of part kept wrapped bytes = state_by (course_taken part kept bytes) wrapped (why_stopped (first_stop_of_bytes part kept bytes)) (is_synced (reading_of bytes).place)
+
+-- the value of a register after these bytes, by whether the flash has ended in the attempt
+abbrev pub value_of : PartData → Kept → Bool → List ℕ → Reg → ℕ
+value_of part kept wrapped bytes = register_value (course_taken part kept bytes) wrapped (fault_of_stop (why_stopped (first_stop_of_bytes part kept bytes)))
 
 -- BOOTSTS after these bytes, by whether the flash has ended in the attempt
 abbrev pub bootsts_of : PartData → Kept → Bool → List ℕ → ℕ
-bootsts_of part kept wrapped bytes = (state_of part kept wrapped bytes).bootsts
+bootsts_of part kept wrapped bytes = value_of part kept wrapped bytes Bootsts
 
 -- what the attempt of a boot failed by, where it failed, before the flash has ended: a fault that a fallback follows
 abbrev pub cause_of : PartData → Kept → List ℕ → Option Cause
@@ -118,9 +111,9 @@ attempt_of_bytes part kept wrapped bytes = attempt_of kept wrapped (fault_of_sto
 -- that took the bytes as the one before
 abbrev pub kept_after : PartData → Kept → Bool → List ℕ → Kind → Kept
 kept_after part kept wrapped bytes kind = record {
-  wbstar = (state_of part kept wrapped bytes).wbstar;
-  timer = (state_of part kept wrapped bytes).timer;
-  bspi = (state_of part kept wrapped bytes).bspi;
+  wbstar = value_of part kept wrapped bytes Wbstar;
+  timer = value_of part kept wrapped bytes Timer;
+  bspi = value_of part kept wrapped bytes Bspi;
   kind = kind;
   before = Some (attempt_of_bytes part kept wrapped bytes);
 }
@@ -133,6 +126,10 @@ reads_of part kept bytes = read_out part kept (history_taken part kept bytes)
 abbrev pub memory_of_bytes : PartData → Kept → List ℕ → FrameMap
 memory_of_bytes part kept bytes = memory_of part (history_taken part kept bytes)
 
+-- the value of a register while `due` words of frame data of the last read are still to be given
+abbrev pub value_of_owing : PartData → Kept → Bool → List ℕ → ℕ → Reg → ℕ
+value_of_owing part kept wrapped bytes = value_owing (course_taken part kept bytes) wrapped (fault_of_stop (why_stopped (first_stop_of_bytes part kept bytes)))
+
 -- the state while `due` words of frame data of the last read are still to be given, which FAR alone shows
 abbrev pub state_owing : PartData → Kept → Bool → List ℕ → ℕ → Snapshot
-state_owing part kept wrapped bytes due = record (state_of part kept wrapped bytes) { far = far_owing part (history_taken part kept bytes) due }
+state_owing part kept wrapped bytes due = record (state_of part kept wrapped bytes) { registers = with_values (value_of_owing part kept wrapped bytes due) }

@@ -119,9 +119,9 @@ abbrev pub read_value : Course → ℕ → ℕ
 read_value c register = value_or_zero c (reg_with register)
 
 -- the value of a register while `due` words of frame data of the last read are still to be given, which FAR alone shows
-abbrev pub value_owing : Course → Option Fault → ℕ → Reg → ℕ
-value_owing c fault due Far = far_owing c.part c.history due
-value_owing c fault due reg = register_value c false fault reg
+abbrev pub value_owing : Course → Bool → Option Fault → ℕ → Reg → ℕ
+value_owing c wrapped fault due Far = far_owing c.part c.history due
+value_owing c wrapped fault due reg = register_value c wrapped fault reg
 
 -- the words of a read that isn't refused: words of frame data, or `count` words, each the register's value where the
 -- read's header ends

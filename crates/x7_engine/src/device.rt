@@ -7,13 +7,12 @@ ghost use Rattle.x7_memory.specs.PartFrames.{AreFramesOf, frame_at};
 ghost use Rattle.x7_startup.specs.Phases.{last_phase};
 ghost use Rattle.x7_engine.specs.Kept.{on_the_bench};
 ghost use Rattle.x7_engine.specs.Standing.{CanBeGiven, DeviceStandsFor, MayWrap, NoWordDue, answer_at_stop, fed_of, frames_due, taken_in, with_wrap};
-ghost use Rattle.x7_engine.specs.State.{attempt_of_bytes, end_by, kept_after, why_stopped, memory_of_bytes, state_owing};
+ghost use Rattle.x7_engine.specs.Shown.{with_values};
+ghost use Rattle.x7_engine.specs.State.{attempt_of_bytes, end_by, kept_after, why_stopped, memory_of_bytes, state_owing, value_of_owing};
 ghost use Rattle.x7_engine.specs.Stop.{fault_of_stop};
 ghost use Rattle.x7_engine.specs.Turns.{MayTakePiece, TurnAnswers, TurnMoves};
-ghost use Rattle.x7_engine.specs.Value.{failure_of};
-ghost use Rattle.x7_engine.specs.declared.fault.Fault.{Fault as FaultData};
 ghost use Rattle.x7_engine.specs.Feeding.{AnswersFor, GivesWordsDue, GivesWordsOfFirst, TakesFirst, with_buffer};
-ghost use Rattle.x7_engine.specs.Past.{HasSomePast, ForEachPast, state_at, first_stop_at};
+ghost use Rattle.x7_engine.specs.Past.{HasSomePast, ForEachPast, state_at, first_stop_at, value_at};
 
 mod boot;
 mod started;
@@ -24,7 +23,7 @@ use crate::fed::Fed;
 use crate::kept::{Kept, ON_THE_BENCH};
 use crate::read_buffer::ReadBuf;
 use crate::registers::Registers;
-use crate::snapshot::{End, Snapshot};
+use crate::snapshot::{End, SHOWN, SHOWN_COUNT, Snapshot};
 use crate::stop::StopCause;
 use crate::target::Target;
 pub use boot::flash_may_end;
@@ -35,7 +34,7 @@ use x7_flow::Frames;
 use x7_memory::Memory;
 use x7_packets::{Cut, Cutter};
 use x7_part::Part;
-use x7_regs::{Attempt, Cause, Kind, Reg, boot_word};
+use x7_regs::{Attempt, Kind, Reg};
 use x7_words::NoMemory;
 
 /// How many bytes a word of a stream takes.
@@ -126,17 +125,6 @@ fn is_done(used_up: bool, stop: Option<StopCause>) -> bool
     }
 }
 
-/// What an attempt failed by, from what it failed by without an end of the flash, and from whether the flash has ended.
-fn failure_with_wrap(cause: Option<Cause>, wrapped: bool) -> Option<Cause>
-    ensures { (fault : Option FaultData) → cause ≡ failure_of fault false → result ≡ failure_of fault wrapped }
-{
-    match cause {
-        Some(cause) => Some(cause),
-        None if wrapped => Some(Cause::Wrap),
-        None => None,
-    }
-}
-
 impl Device {
     /// A device of this part as after a reset on the bench, where no flash boots it. The call takes room for all frames
     /// and a copy of the part; no later call on the device takes memory.
@@ -172,19 +160,7 @@ impl Device {
     fn attempt(&self) -> Attempt
         ensures { ForEachPast self.now (λ p. result ≡ attempt_of_bytes p.part p.kept p.wrapped p.bytes) }
     {
-        let attempt = self.registers.attempt();
-        Attempt {
-            kind: attempt.kind,
-            cause: failure_with_wrap(attempt.cause, self.wrapped),
-            ignored: attempt.ignored,
-        }
-    }
-
-    /// The word of BOOTSTS.
-    fn boot_status(&self) -> u32
-        ensures { ForEachPast self.now (λ p. result ≡ (state_at p).bootsts) }
-    {
-        boot_word(self.attempt(), self.registers.values.before)
+        self.registers.attempt(self.wrapped)
     }
 
     /// What a next attempt of this kind keeps: WBSTAR, TIMER and BSPI, and this attempt as the one before.
@@ -192,9 +168,9 @@ impl Device {
         ensures { ForEachPast self.now (λ p. result ≡ kept_after p.part p.kept p.wrapped p.bytes kind) }
     {
         Kept {
-            wbstar: self.registers.value(&self.part, Reg::Wbstar),
-            timer: self.registers.value(&self.part, Reg::Timer),
-            bspi: self.registers.value(&self.part, Reg::Bspi),
+            wbstar: self.value(Reg::Wbstar),
+            timer: self.value(Reg::Timer),
+            bspi: self.value(Reg::Bspi),
             kind,
             before: Some(self.attempt()),
         }
@@ -346,6 +322,26 @@ impl Device {
         self.registers.frames.memory()
     }
 
+    /// The value of a register as a state shows it, and 0 for one that is only written and for frame data. While words of
+    /// frame data are still due, FAR is that of the words given so far.
+    pub fn value(&self, reg: Reg) -> u32
+        ensures owing { ForEachPast self.now (λ p. result ≡ value_of_owing p.part p.kept p.wrapped p.bytes (frames_due self.now.registers.values.due) reg) }
+        ensures value { ForEachPast self.now (λ p. NoWordDue self.now → result ≡ value_at p reg) }
+    {
+        self.registers.value(&self.part, reg, self.wrapped)
+    }
+
+    /// The registers that a state shows, each with its value.
+    fn rows(&self) -> [(Reg, u32); SHOWN_COUNT]
+        ensures { ForEachPast self.now (λ p. result ≡ with_values (value_of_owing p.part p.kept p.wrapped p.bytes (frames_due self.now.registers.values.due))) }
+    {
+        let mut rows = [(Reg::Crc, 0); SHOWN_COUNT];
+        for i in 0..SHOWN_COUNT {
+            rows[i] = (SHOWN[i], self.value(SHOWN[i]));
+        }
+        rows
+    }
+
     /// What a report shows beside the part's name, the words read out and the frames: the registers, where the bytes
     /// end, and startup. While words of frame data are still due, FAR is that of the words given so far.
     pub fn state(&self) -> Snapshot
@@ -357,21 +353,7 @@ impl Device {
             end: self.end(),
             phase: self.registers.values.clock.phase(),
             lines: self.registers.values.clock.lines(),
-            crc: self.registers.value(&self.part, Reg::Crc),
-            far: self.registers.value(&self.part, Reg::Far),
-            cmd: self.registers.value(&self.part, Reg::Cmd),
-            ctl0: self.registers.value(&self.part, Reg::Ctl0),
-            mask: self.registers.value(&self.part, Reg::Mask),
-            stat: self.registers.value(&self.part, Reg::Stat),
-            cor0: self.registers.value(&self.part, Reg::Cor0),
-            idcode: self.registers.value(&self.part, Reg::Idcode),
-            axss: self.registers.value(&self.part, Reg::Axss),
-            cor1: self.registers.value(&self.part, Reg::Cor1),
-            wbstar: self.registers.value(&self.part, Reg::Wbstar),
-            timer: self.registers.value(&self.part, Reg::Timer),
-            bootsts: self.boot_status(),
-            ctl1: self.registers.value(&self.part, Reg::Ctl1),
-            bspi: self.registers.value(&self.part, Reg::Bspi),
+            registers: self.rows(),
         }
     }
 
@@ -382,7 +364,7 @@ impl Device {
         end_by(
             self.registers.values.stop,
             self.cutter.is_synced(),
-            self.registers.value(&self.part, Reg::Wbstar),
+            self.value(Reg::Wbstar),
         )
     }
 

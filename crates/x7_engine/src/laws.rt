@@ -22,6 +22,7 @@ ghost use Rattle.x7_engine.specs.Rest.{AtRest, LastGapGoesOn};
 ghost use Rattle.x7_engine.specs.Sequence.{StartupBegins, HasGhigh, IsPending};
 ghost use Rattle.x7_engine.specs.Standing.{DeviceState, HasStopped, NoWordDue};
 ghost use Rattle.x7_engine.specs.Startup.{phase_of, startup_progress};
+ghost use Rattle.x7_engine.specs.Shown.{with_bootsts};
 ghost use Rattle.x7_engine.specs.State.{bootsts_of, memory_of_bytes, reads_of, state_of, first_stop_of_bytes, cause_of};
 ghost use Rattle.x7_engine.specs.Stop.{Stopped, why_at_access};
 ghost use Rattle.x7_engine.specs.Timeout.{before_byte, times_out_at};
@@ -128,7 +129,7 @@ pub fn reads_grow()
 /// ended the attempt of a boot, by the wrap bit.
 pub fn wraps_show_in_bootsts()
     ensures alone { (part : PartData) (kept : Kept) (bytes : List ℕ)
-        → state_of part kept true bytes ≡ record (state_of part kept false bytes) { bootsts = bootsts_of part kept true bytes } }
+        → state_of part kept true bytes ≡ with_bootsts (bootsts_of part kept true bytes) (state_of part kept false bytes) }
     ensures bit { (part : PartData) (kept : Kept) (bytes : List ℕ) → IsBootAttempt kept → cause_of part kept bytes ≡ None
         → bootsts_of part kept true bytes ≡ bootsts_of part kept false bytes + cause_bits_of (Some Wrap) }
 {}

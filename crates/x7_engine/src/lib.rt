@@ -34,6 +34,6 @@ pub use laws::{
     stops_are_final, stops_are_first, watchdog_fires, wraps_show_in_bootsts,
 };
 pub use read_buffer::ReadBuf;
-pub use snapshot::{End, Snapshot};
+pub use snapshot::{End, SHOWN_COUNT, Snapshot};
 pub use stop::StopCause;
 pub use until_started::UntilStarted;

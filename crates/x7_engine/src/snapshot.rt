@@ -1,7 +1,19 @@
 //! The state of a device but its memory and the words read out, as a report shows it.
 
 use crate::fault::Fault;
+use x7_regs::Reg;
 use x7_startup::Lines;
+
+/// The registers that a state shows, in the order of their numbers (this project's choice): all but those of frame data
+/// (FDRI, FDRO, MFWR), LOUT and CBC.
+#[rattlefmt::skip]
+pub(crate) const SHOWN: &[Reg] = &[
+    Reg::Crc, Reg::Far, Reg::Cmd, Reg::Ctl0, Reg::Mask, Reg::Stat, Reg::Cor0, Reg::Idcode,
+    Reg::Axss, Reg::Cor1, Reg::Wbstar, Reg::Timer, Reg::Bootsts, Reg::Ctl1, Reg::Bspi,
+];
+
+/// How many registers a state shows.
+pub const SHOWN_COUNT: usize = SHOWN.len();
 
 /// Where the bytes taken end.
 #[derive(Clone, Copy)]
@@ -27,22 +39,8 @@ pub struct Snapshot {
     pub phase: u8,
     /// The lines DONE, GTS_CFG_B and GWE.
     pub lines: Lines,
-    /// The running check; at a fault `Crc` the one that was wanted.
-    pub crc: u32,
-    /// FAR as it is read; while words of frame data are due, that of the words given so far.
-    pub far: u32,
-    /// The low five bits of the last word written to CMD, 0 where none was.
-    pub cmd: u32,
-    pub ctl0: u32,
-    pub mask: u32,
-    pub stat: u32,
-    pub cor0: u32,
-    pub idcode: u32,
-    pub axss: u32,
-    pub cor1: u32,
-    pub wbstar: u32,
-    pub timer: u32,
-    pub bootsts: u32,
-    pub ctl1: u32,
-    pub bspi: u32,
+    /// The registers that a state shows, in the order of their numbers, each with its value. CRC is the running check, at
+    /// a fault `Crc` the one that was wanted. CMD is the low five bits of the last word written, 0 where none was. FAR,
+    /// while words of frame data are due, is that of the words given so far.
+    pub registers: [(Reg, u32); SHOWN_COUNT],
 }

@@ -37,16 +37,16 @@ fn is_id_fault(stop: Option<StopCause>) -> bool
     }
 }
 
-/// What an attempt with this stop failed by before the flash has ended: a fault Id, Crc or Watchdog; none at any other
-/// stop, and without one.
-fn failure_in(stop: Option<StopCause>) -> Option<Cause>
-    ensures { result ≡ failure_of (fault_of_stop stop) false }
+/// What an attempt with this stop failed by: a fault Id, Crc or Watchdog, or else the end of the flash (`wrapped`); none
+/// where neither came.
+fn failure_in(stop: Option<StopCause>, wrapped: bool) -> Option<Cause>
+    ensures { result ≡ failure_of (fault_of_stop stop) wrapped }
 {
     match stop {
         Some(StopCause::Fault(Fault::Id { .. })) => Some(Cause::Id),
         Some(StopCause::Fault(Fault::Crc { .. })) => Some(Cause::Crc),
         Some(StopCause::Fault(Fault::Watchdog)) => Some(Cause::Watchdog),
-        _ => None,
+        _ => wrapped.then_some(Cause::Wrap),
     }
 }
 
@@ -88,13 +88,13 @@ impl Registers {
         })
     }
 
-    /// The present boot attempt, as long as the flash goes on.
-    pub(crate) fn attempt(&self) -> Attempt
-        ensures { (part : PartData) → ForEachHistory part (registers_in self.now) (λ kept h n. result ≡ attempt_of kept false (fault_of_stop self.now.values.stop) h) }
+    /// The present boot attempt, by whether the flash has ended (`wrapped`).
+    pub(crate) fn attempt(&self, wrapped: bool) -> Attempt
+        ensures { (part : PartData) → ForEachHistory part (registers_in self.now) (λ kept h n. result ≡ attempt_of kept wrapped (fault_of_stop self.now.values.stop) h) }
     {
         Attempt {
             kind: self.values.kind,
-            cause: failure_in(self.values.stop),
+            cause: failure_in(self.values.stop, wrapped),
             ignored: is_fallback(self.values.kind) && self.values.progress.iprog,
         }
     }
@@ -107,11 +107,11 @@ impl Registers {
     }
 
     /// The value of a register as it is read, and 0 for one that is only written and for frame data. While words of
-    /// frame data are due, FAR is that of the words given so far. BOOTSTS is that of a flash that goes on.
+    /// frame data are due, FAR is that of the words given so far. BOOTSTS shows whether the flash has ended (`wrapped`).
     #[rattlefmt::skip]
-    pub(crate) fn value(&self, part: &Part, reg: Reg) -> u32
+    pub(crate) fn value(&self, part: &Part, reg: Reg, wrapped: bool) -> u32
         ensures { ForEachHistory part.now (registers_in self.now)
-            (λ kept h n. result ≡ value_owing (course_at part.now kept h n) (fault_of_stop self.now.values.stop) (frames_due self.now.values.due) reg) }
+            (λ kept h n. result ≡ value_owing (course_at part.now kept h n) wrapped (fault_of_stop self.now.values.stop) (frames_due self.now.values.due) reg) }
     {
         match reg {
             Reg::Crc     => self.check_shown(),
@@ -131,7 +131,7 @@ impl Registers {
             Reg::Cor1    => self.values.words.held(Reg::Cor1),
             Reg::Wbstar  => self.values.words.held(Reg::Wbstar),
             Reg::Timer   => self.values.words.held(Reg::Timer),
-            Reg::Bootsts => boot_word(self.attempt(), self.values.before),
+            Reg::Bootsts => boot_word(self.attempt(wrapped), self.values.before),
             Reg::Ctl1    => self.values.controls.ctl1,
             Reg::Bspi    => self.values.words.held(Reg::Bspi),
         }
@@ -144,7 +144,7 @@ impl Registers {
             (λ kept h n. result ≡ read_value (course_at part.now kept h n) register) }
     {
         match reg_of(register) {
-            Some(reg) => self.value(part, reg),
+            Some(reg) => self.value(part, reg, false),
             None => 0,
         }
     }

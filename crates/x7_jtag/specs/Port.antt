@@ -2,9 +2,10 @@
 -- choice).
 use Rattle.std.specs.Prelude.{ℕ, ◌+◌, ◌*◌, ◌/◌, ◌%◌, ◌^◌, ◌==◌, Bool, false, if◌then◌else◌, List, fold}
 use Rattle.x7_words.specs.Word.{number_of_bit}
+use Rattle.x7_regs.specs.declared.register.Reg.TheVariants.{Stat}
 use Rattle.x7_part.specs.Part.{PartData}
 use Rattle.x7_engine.specs.Kept.{on_the_bench}
-use Rattle.x7_engine.specs.State.{reads_of, state_of}
+use Rattle.x7_engine.specs.State.{reads_of, state_of, value_of}
 use Rattle.x7_jtag.specs.declared.instruction.Instruction.{Instruction}
 use Rattle.x7_jtag.specs.declared.instruction.Instruction.TheVariants as instruction
 use Rattle.x7_jtag.specs.declared.state.State.{State}
@@ -86,7 +87,7 @@ ir_status_with done init_b = done_bit_value * number_of_bit done + init_b_bit_va
 
 -- what Capture-IR loads for a device of the part to which the bytes `given` were given since a reset on the bench
 abbrev pub ir_status : PartData → List ℕ → ℕ
-ir_status part given = ir_status_with (state_of part on_the_bench false given).lines.done (init_b_of (state_of part on_the_bench false given).stat)
+ir_status part given = ir_status_with (state_of part on_the_bench false given).lines.done (init_b_of (value_of part on_the_bench false given Stat))
 
 -- ---- the actions of the states
 

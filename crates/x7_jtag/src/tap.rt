@@ -16,6 +16,7 @@ use crate::queue::Queue;
 use crate::state::State;
 use std::marker::Model;
 use x7_engine::Device;
+use x7_regs::Reg;
 
 /// The byte that eight clocks in Run-Test/Idle under JSTART offer.
 const STARTUP_BYTE: u8 = 0xFF;
@@ -105,8 +106,7 @@ fn ir_status_with(is_done: bool, stat: u32) -> u32
 fn ir_status(device: &Device) -> u32
     ensures { (part : PartData) (given bytes : List ℕ) → DeviceStandsFor part on_the_bench false device.now bytes → TookOfGiven part given bytes → result ≡ ir_status part given }
 {
-    let state = device.state();
-    ir_status_with(state.lines.done, state.stat)
+    ir_status_with(device.state().lines.done, device.value(Reg::Stat))
 }
 
 /// The last of bytes, or `before` where there is none.

@@ -20,6 +20,7 @@ use Rattle.x7_packets.proofs.MovedLemmas.{moved_again, moved_append}
 use Rattle.x7_regs.specs.declared.boot_status.Kind.TheVariants.{Fallback}
 use Rattle.x7_startup.specs.Startup.{NotBegun, StartupProgress}
 use Rattle.x7_flow.specs.FrameMemory.{memory_of}
+use Rattle.x7_regs.specs.declared.register.Reg.TheVariants.{Bootsts}
 use Rattle.x7_engine.specs.Kept.{is_fallback}
 use Rattle.x7_engine.specs.Registers.{wrote_iprog}
 use Rattle.x7_engine.specs.Startup.{phase_by, startup_progress}
@@ -30,7 +31,7 @@ use Rattle.x7_regs.specs.BootStatus.{boot_status_of}
 use Rattle.x7_regs.specs.declared.boot_status.Attempt.{Attempt}
 use Rattle.x7_regs.specs.declared.boot_status.Cause.{Cause}
 use Rattle.x7_boot.specs.Attempt.{EndsFirst, IsFlashAttempt, BootAttempt, ending_at}
-use Rattle.x7_boot.specs.Boot.{at_power, end_state}
+use Rattle.x7_boot.specs.Boot.{at_power, end_value}
 use Rattle.x7_boot.specs.Image.{open_slot}
 use Rattle.x7_boot.specs.declared.attempt.Ending.TheVariants.{Started}
 use Rattle.x7_boot.proofs.OverLemmas.{ends_alike}
@@ -292,7 +293,7 @@ module _ (o : OpenFlash) (is : IsOpenFlash o) (t : BootAttempt) (c : StartsClean
         started = f.started;
         taken = ap (λ (v : BootAttempt). length v.bytes) f.last_is ∙ omega (arith, length-append prefix' s, prefix_long, length-drop sector_size t.bytes, long);
         memory = ap (λ (v : BootAttempt). memory_of_bytes o.part v.kept v.bytes) f.last_is ∙ fallen_memory kept refl;
-        bootsts = ap (λ (v : BootAttempt). (end_state o.part v).bootsts) f.last_is
+        bootsts = ap (λ (v : BootAttempt). end_value o.part v Bootsts) f.last_is
             ∙ bootsts_is o.part kept (prefix' ++ s) true (fallen_going kept refl) (fallen_wrote kept refl)
             ∙ ap (λ (a : Attempt). boot_status_of (record { kind = Fallback; cause = None; ignored = true }) (Some a)) (failed_attempt o is u cause fails);
       }

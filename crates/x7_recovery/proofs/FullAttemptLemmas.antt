@@ -19,10 +19,11 @@ use Rattle.x7_memory.specs.FrameMap.{HaveSameFrames, FrameMap}
 use Rattle.x7_memory.specs.Plan.{IsPlanFor, PlanData, total}
 use Rattle.x7_planner.specs.FullStream.{full_stream}
 use Rattle.x7_flow.specs.FrameMemory.{memory_of}
+use Rattle.x7_regs.specs.declared.register.Reg.TheVariants.{Bootsts}
 use Rattle.x7_engine.specs.Kept.{is_fallback}
 use Rattle.x7_engine.specs.Registers.{wrote_iprog}
 use Rattle.x7_engine.specs.Rest.{AtRest}
-use Rattle.x7_engine.specs.State.{history_by, memory_of_bytes, state_of, first_stop_of_bytes, why_stopped}
+use Rattle.x7_engine.specs.State.{bootsts_of, history_by, memory_of_bytes, state_of, first_stop_of_bytes, why_stopped}
 use Rattle.x7_engine.specs.Stop.{Stopped, fault_of_stop}
 use Rattle.x7_engine.specs.Value.{attempt_of}
 use Rattle.x7_engine.specs.declared.kept.Kept.{Kept}
@@ -40,7 +41,7 @@ use Rattle.x7_effects.proofs.RestingLemmas.{stream_history}
 use Rattle.x7_effects.proofs.StreamLemmas.{bytes_fit}
 use Rattle.x7_effects.proofs.Streams as items
 use Rattle.x7_boot.specs.Attempt.{IsFlashAttempt, NoneBefore, BootAttempt, ending_at}
-use Rattle.x7_boot.specs.Boot.{end_state}
+use Rattle.x7_boot.specs.Boot.{end_value}
 use Rattle.x7_boot.specs.declared.attempt.Ending.TheVariants.{Started}
 use Rattle.x7_boot.proofs.LeastLemmas.{IsLeast, least_of}
 use Rattle.x7_boot.proofs.StartLemmas.{NoDesyncAfterStart, prefix_goes, prefix_history, goes_on, never_seven, never_until}
@@ -109,10 +110,10 @@ pub record StartsWith (part : PartData) (kept : Kept) (address : ℕ) (flash : L
   pub address_is : attempt.address ≡ address
   pub ending_is : attempt.ending ≡ Started
   pub memory : HaveSameFrames (memory_of_bytes part attempt.kept attempt.bytes) (total part plan)
-  pub bootsts : (end_state part attempt).bootsts ≡ boot_status_of (record { kind = kept.kind; cause = None; ignored = ignored }) kept.before
+  pub bootsts : end_value part attempt Bootsts ≡ boot_status_of (record { kind = kept.kind; cause = None; ignored = ignored }) kept.before
 
 pub bootsts_is : (part : PartData) (kept : Kept) (bytes : List ℕ) (ignored : Bool) → first_stop_of_bytes part kept bytes ≡ None → (is_fallback kept.kind && wrote_iprog (history_of bytes)) ≡ ignored
-    → (state_of part kept false bytes).bootsts ≡ boot_status_of (record { kind = kept.kind; cause = None; ignored = ignored }) kept.before
+    → bootsts_of part kept false bytes ≡ boot_status_of (record { kind = kept.kind; cause = None; ignored = ignored }) kept.before
 bootsts_is part kept bytes ignored none e =
     ap (λ (o : Option Stopped). boot_status_of (attempt_of kept false (fault_of_stop (why_stopped o)) (history_by o (history_of bytes))) kept.before) none
     ∙ ap (λ (b : Bool). boot_status_of (record { kind = kept.kind; cause = None; ignored = b }) kept.before) e

@@ -13,6 +13,7 @@ use Rattle.x7_regs.specs.declared.boot_status.Kind.TheVariants.{Power, Iprog, Fa
 use Rattle.x7_memory.specs.FrameMap.{HaveSameFrames}
 use Rattle.x7_memory.specs.Plan.{PlanData, total}
 use Rattle.x7_planner.specs.FullStream.{full_stream}
+use Rattle.x7_regs.specs.declared.register.Reg.TheVariants.{Bootsts}
 use Rattle.x7_engine.specs.Kept.{AreFallbacks, is_fallback, without_kept}
 use Rattle.x7_engine.specs.Registers.{wrote_iprog}
 use Rattle.x7_engine.specs.Rest.{AtRest}
@@ -22,7 +23,7 @@ use Rattle.x7_engine.specs.Value.{failure_of}
 use Rattle.x7_engine.specs.declared.kept.Kept.{Kept}
 use Rattle.x7_engine.proofs.FallbackLemmas.{kept_memory, kept_state, kept_stop}
 use Rattle.x7_boot.specs.Attempt.{IsFlashAttempt, BootAttempt}
-use Rattle.x7_boot.specs.Boot.{LeadsTo, end_state, next_by, tried}
+use Rattle.x7_boot.specs.Boot.{LeadsTo, end_state, end_value, next_by, tried}
 use Rattle.x7_boot.specs.declared.attempt.Ending.{Ending}
 use Rattle.x7_boot.specs.declared.attempt.Ending.TheVariants as ending
 use Rattle.x7_boot.specs.declared.boots.BootEnd.{BootEnd}
@@ -104,7 +105,7 @@ module _ (o : OpenFlash) (is : IsOpenFlash o) where
         attempts_are = a.attempts_are ∙ ap (λ (e : Ending). obeyed ∷ record { kind = Iprog; address = o.place; ending = e } ∷ []) s.ending_is;
         started = a.end_is;
         memory = subst (λ (u : BootAttempt). HaveSameFrames (memory_of_bytes o.part u.kept u.bytes) (total o.part update)) (sym a.last_is) s.memory;
-        bootsts = ap (λ (u : BootAttempt). (end_state o.part u).bootsts) a.last_is ∙ s.bootsts;
+        bootsts = ap (λ (u : BootAttempt). end_value o.part u Bootsts) a.last_is ∙ s.bootsts;
       }
 
   -- ---- a fallback
@@ -167,7 +168,7 @@ module _ (o : OpenFlash) (is : IsOpenFlash o) where
         attempts_are = a.attempts_are;
         started = a.started;
         memory = subst (λ (u : BootAttempt). HaveSameFrames (memory_of_bytes o.part u.kept u.bytes) (total o.part golden)) (sym a.last_is) f.memory;
-        bootsts = ap (λ (u : BootAttempt). (end_state o.part u).bootsts) a.last_is ∙ f.bootsts
+        bootsts = ap (λ (u : BootAttempt). end_value o.part u Bootsts) a.last_is ∙ f.bootsts
             ∙ ap (λ (a : Attempt). boot_status_of (record { kind = Fallback; cause = None; ignored = true }) (Some a)) (failed_attempt t cause fails);
       }
 
@@ -189,7 +190,7 @@ module _ (o : OpenFlash) (is : IsOpenFlash o) where
         taken = ap (λ (u : BootAttempt). u.bytes) a.last_is;
         memory = ap (λ (u : BootAttempt). memory_of_bytes o.part u.kept u.bytes) a.last_is ∙ kept_memory o.part kept f.kept f.bytes both;
         registers = ap (λ (u : BootAttempt). without_kept (end_state o.part u)) a.last_is ∙ kept_state o.part kept f.kept f.bytes both f.wrapped;
-        bootsts = ap (λ (u : BootAttempt). (end_state o.part u).bootsts) a.last_is
+        bootsts = ap (λ (u : BootAttempt). end_value o.part u Bootsts) a.last_is
             ∙ ap (λ (a : Attempt). boot_status_of a kept.before) (kept_attempt kept f.kept f.wrapped f.bytes refl s.kind)
             ∙ ap (λ (a : Attempt). boot_status_of (attempt_of_bytes o.part f.kept f.wrapped f.bytes) (Some a)) (failed_attempt t cause fails);
       }

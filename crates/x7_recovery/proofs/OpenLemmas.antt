@@ -20,6 +20,7 @@ use Rattle.x7_packets.proofs.GrowthLemmas.{placed_of, until_placed}
 use Rattle.x7_part.specs.Part.{PartData}
 use Rattle.x7_regs.specs.declared.boot_status.Kind.TheVariants.{Power, Iprog}
 use Rattle.x7_startup.specs.Startup.{NotBegun}
+use Rattle.x7_regs.specs.declared.register.Reg.TheVariants.{Wbstar}
 use Rattle.x7_engine.specs.Kept.{is_fallback}
 use Rattle.x7_engine.specs.Registers.{wrote_iprog}
 use Rattle.x7_engine.specs.Rest.{AtRest, LastGapGoesOn}
@@ -38,7 +39,7 @@ use Rattle.x7_effects.proofs.GoingLemmas.{IsGoing, going_access, going_bytes, go
 use Rattle.x7_effects.proofs.RestingLemmas.{rests}
 use Rattle.x7_effects.proofs.StillLemmas.{never_armed}
 use Rattle.x7_boot.specs.Attempt.{IsFlashAttempt, NoneBefore, BootAttempt, ending_at, ending_by}
-use Rattle.x7_boot.specs.Boot.{LeadsTo, at_power, end_state, start_address}
+use Rattle.x7_boot.specs.Boot.{LeadsTo, at_power, end_value, start_address}
 use Rattle.x7_boot.specs.Image.{open_slot, slot}
 use Rattle.x7_boot.specs.declared.attempt.Ending.TheVariants as ending
 use Rattle.x7_boot.specs.declared.next.Next.TheVariants.{Again}
@@ -198,7 +199,7 @@ module _ (flash : List ℕ) (number start : ℕ) (o : HasOpenSlot flash number s
   pub power_leads : (part : PartData) (place : ℕ) → start_address part.start_unit start ≡ place → LeadsTo part flash (power ∷ []) (Again (kept_at_update start) place)
   power_leads part place leads =
       let keeps : kept_after part at_power false taken Iprog ≡ kept_at_update start = power_keeps part in
-      let next : Again (kept_after part at_power false taken Iprog) (start_address part.start_unit (end_state part power).wbstar) ≡ Again (kept_at_update start) place =
+      let next : Again (kept_after part at_power false taken Iprog) (start_address part.start_unit (end_value part power Wbstar)) ≡ Again (kept_at_update start) place =
       ap (λ (k : Kept). Again k (start_address part.start_unit k.wbstar)) keeps ∙ ap (Again (kept_at_update start)) leads in
       (refl, power_tries part, sym next)
 

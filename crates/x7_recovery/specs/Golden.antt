@@ -8,9 +8,10 @@ use Rattle.x7_part.specs.Part.{PartData}
 use Rattle.x7_memory.specs.FrameMap.{HaveSameFrames}
 use Rattle.x7_memory.specs.Plan.{total}
 use Rattle.x7_planner.specs.FullStream.{full_stream}
+use Rattle.x7_regs.specs.declared.register.Reg.TheVariants.{Bootsts}
 use Rattle.x7_engine.specs.State.{memory_of_bytes}
 use Rattle.x7_boot.specs.Attempt.{IsFlashAttempt, BootAttempt}
-use Rattle.x7_boot.specs.Boot.{BootedState, IsBoot, at_power, end_state}
+use Rattle.x7_boot.specs.Boot.{BootedState, IsBoot, at_power, end_state, end_value}
 use Rattle.x7_boot.specs.declared.attempt.Ending.TheVariants as ending
 use Rattle.x7_boot.specs.declared.boots.BootEnd.TheVariants as boot_end
 use Rattle.x7_boot.specs.BootCourse.{BootCourse, course_of}
@@ -67,7 +68,7 @@ pub record StartsAsPlanned (u : Updating) (t : BootAttempt) : Type 0 where
   pub golden : GoldenStarts u.part u.flash t
   pub within : length t.bytes ≤ sector_size + length (full_stream u.part u.golden)
   pub memory : HaveSameFrames (memory_of_bytes u.part t.kept t.bytes) (total u.part u.golden)
-  pub bootsts : (end_state u.part t).bootsts ≡ power_status
+  pub bootsts : end_value u.part t Bootsts ≡ power_status
 
 -- a flash that is being updated with a stream, the part that boots from this flash, and an attempt with the flash's
 -- golden stream

@@ -11,12 +11,13 @@ use Rattle.x7_regs.specs.declared.boot_status.Kind.TheVariants.{Power, Iprog, Fa
 use Rattle.x7_memory.specs.FrameMap.{HaveSameFrames}
 use Rattle.x7_memory.specs.Plan.{IsPlanFor, PlanData, total}
 use Rattle.x7_planner.specs.FullStream.{full_stream}
+use Rattle.x7_regs.specs.declared.register.Reg.TheVariants.{Ctl0, Bootsts}
 use Rattle.x7_engine.specs.State.{attempt_of_bytes, memory_of_bytes}
 use Rattle.x7_engine.specs.declared.kept.Kept.{Kept}
 use Rattle.x7_engine.specs.Kept.{without_kept}
 use Rattle.x7_boot.specs.Attempt.{IsFlashAttempt, BootAttempt}
 use Rattle.x7_regs.specs.Control.{forbids_fallback}
-use Rattle.x7_boot.specs.Boot.{end_state}
+use Rattle.x7_boot.specs.Boot.{end_state, end_value}
 use Rattle.x7_boot.specs.BootCourse.{BootCourse, IsCourse}
 use Rattle.x7_boot.specs.Image.{flash_limit, image_size, place_after_golden}
 use Rattle.x7_boot.specs.declared.attempt.Ending.{Ending}
@@ -50,7 +51,7 @@ pub record UpdateEnds (o : OpenFlash) (t : BootAttempt) (e : Ending) : Type 0 wh
 -- the attempt at the update failed by this cause; `forbidden` is whether CTL0 forbids a fallback at its end
 pub record UpdateFails (o : OpenFlash) (t : BootAttempt) (cause : Cause) (forbidden : Bool) : Type 0 where
   pub ended : UpdateEnds o t (ending.Failed cause)
-  pub forbids : forbids_fallback (end_state o.part t).ctl0 ≡ forbidden
+  pub forbids : forbids_fallback (end_value o.part t Ctl0) ≡ forbidden
 
 -- the attempt at the update failed by this cause, and CTL0 forbids a fallback at its end
 abbrev pub UpdateStops : OpenFlash → BootAttempt → Cause → Type 0
@@ -99,7 +100,7 @@ pub record StartsUpdate (o : OpenFlash) (update : PlanData) (c : BootCourse) : T
   pub attempts_are : c.attempts ≡ through_update o.place ending.Started []
   pub started : c.end ≡ boot_end.Started
   pub memory : HaveSameFrames (memory_of_bytes o.part c.last.kept c.last.bytes) (total o.part update)
-  pub bootsts : (end_state o.part c.last).bootsts ≡ update_bootsts
+  pub bootsts : end_value o.part c.last Bootsts ≡ update_bootsts
 
 -- ---- the fallback
 
@@ -121,7 +122,7 @@ pub record FallsBack (o : OpenFlash) (cause : Cause) (golden : PlanData) (c : Bo
   pub attempts_are : c.attempts ≡ fell_back o.place cause
   pub started : c.end ≡ boot_end.Started
   pub memory : HaveSameFrames (memory_of_bytes o.part c.last.kept c.last.bytes) (total o.part golden)
-  pub bootsts : (end_state o.part c.last).bootsts ≡ fallback_status cause
+  pub bootsts : end_value o.part c.last Bootsts ≡ fallback_status cause
 
 -- The boot falls back and starts as another attempt did: at the same byte, with the same memory, and BOOTSTS shows the
 -- fallback and the update's cause.
@@ -130,7 +131,7 @@ pub record FallsBackClean (o : OpenFlash) (cause : Cause) (t : BootAttempt) (c :
   pub started : c.end ≡ boot_end.Started
   pub taken : length c.last.bytes ≡ length t.bytes
   pub memory : memory_of_bytes o.part c.last.kept c.last.bytes ≡ memory_of_bytes o.part t.kept t.bytes
-  pub bootsts : (end_state o.part c.last).bootsts ≡ fallback_status cause
+  pub bootsts : end_value o.part c.last Bootsts ≡ fallback_status cause
 
 -- the attempt is a fallback over the flash, at address 0, and starts; what else its device kept over the reset is free
 pub record StartsAsFallback (o : OpenFlash) (f : BootAttempt) : Type 0 where
@@ -148,7 +149,7 @@ pub record FallsBackAlike (o : OpenFlash) (cause : Cause) (f : BootAttempt) (c :
   pub taken : c.last.bytes ≡ f.bytes
   pub memory : memory_of_bytes o.part c.last.kept c.last.bytes ≡ memory_of_bytes o.part f.kept f.bytes
   pub registers : without_kept (end_state o.part c.last) ≡ without_kept (end_state o.part f)
-  pub bootsts : (end_state o.part c.last).bootsts ≡ boot_status_of (attempt_of_bytes o.part f.kept f.wrapped f.bytes) (Some (iprog_attempt (Some cause)))
+  pub bootsts : end_value o.part c.last Bootsts ≡ boot_status_of (attempt_of_bytes o.part f.kept f.wrapped f.bytes) (Some (iprog_attempt (Some cause)))
 
 -- ---- the boot
 

@@ -10,8 +10,9 @@ use Rattle.x7_regs.specs.declared.boot_status.Kind.TheVariants.{Power}
 use Rattle.x7_memory.specs.FrameMap.{HaveSameFrames}
 use Rattle.x7_memory.specs.Plan.{IsPlanFor, PlanData, total}
 use Rattle.x7_planner.specs.FullStream.{full_stream}
+use Rattle.x7_regs.specs.declared.register.Reg.TheVariants.{Bootsts}
 use Rattle.x7_engine.specs.State.{memory_of_bytes}
-use Rattle.x7_boot.specs.Boot.{BootedState, IsBoot, end_state}
+use Rattle.x7_boot.specs.Boot.{BootedState, IsBoot, end_value}
 use Rattle.x7_boot.specs.BootCourse.{BootCourse, course_of}
 use Rattle.x7_recovery.specs.PlannedImage.{golden_image}
 use Rattle.x7_boot.specs.declared.attempt.Ending.TheVariants as ending
@@ -64,7 +65,7 @@ pub record StartsGolden (part : PartData) (golden : PlanData) (c : BootCourse) :
   pub attempts_are : c.attempts ≡ started_at_power
   pub started : c.end ≡ boot_end.Started
   pub memory : HaveSameFrames (memory_of_bytes part c.last.kept c.last.bytes) (total part golden)
-  pub bootsts : (end_state part c.last).bootsts ≡ power_status
+  pub bootsts : end_value part c.last Bootsts ≡ power_status
 
 -- a boot of what was left: that of the flash before the update, or one that starts with the golden stream, or that of
 -- the updated flash

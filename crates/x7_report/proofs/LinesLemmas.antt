@@ -14,7 +14,7 @@ use Rattle.x7_engine.specs.declared.kept.Kept.{Kept}
 use Rattle.x7_engine.specs.Standing.{DeviceState, NoWordDue, frames_due}
 use Rattle.x7_engine.specs.State.{state_of, state_owing}
 use Rattle.x7_engine.proofs.FrameLemmas.{none_frames}
-use Rattle.x7_engine.proofs.StateLemmas.{state_now}
+use Rattle.x7_engine.proofs.ShownLemmas.{state_now}
 use Rattle.x7_report.specs.Frames.{AreRanksShown, addresses_shown, frames_text, lines_of_ranks}
 use Rattle.x7_report.specs.Reads.{reads_text}
 use Rattle.x7_report.specs.Reports.{report_head, report_text}

@@ -1,10 +1,9 @@
 -- The state of a device as a report gives it (this project's choice). Words are eight upper-case hexadecimal digits.
-use Rattle.std.specs.Prelude.{ℕ, ◌+◌, Bool, if◌then◌else◌, List, [], ◌∷◌, ◌++◌, codes, decimal}
+use Rattle.std.specs.Prelude.{ℕ, ◌+◌, Bool, if◌then◌else◌, List, ◌∷◌, ◌++◌, codes, decimal}
 use Rattle.std.specs.List.{flat_map}
 use Rattle.x7_words.specs.Characters.{space_byte}
 use Rattle.x7_regs.specs.Register.{number_of, reg_name}
 use Rattle.x7_regs.specs.declared.register.Reg.{Reg}
-use Rattle.x7_regs.specs.declared.register.Reg.TheVariants as reg
 use Rattle.x7_text.specs.Digits.{hex_word}
 use Rattle.x7_engine.specs.declared.fault.Fault.{Fault}
 use Rattle.x7_engine.specs.declared.fault.Fault.TheVariants as fault
@@ -55,27 +54,6 @@ phase_text snapshot =
     ++ codes " gwe " ++ line_digit snapshot.lines.gwe
     ++ codes "\n"
 
--- the registers that a report shows, each with its word, in the order of their numbers; without those of frame data
--- (FDRI, FDRO, MFWR), LOUT and CBC
-abbrev pub reg_words : Snapshot → List (Reg × ℕ)
-reg_words snapshot =
-    (reg.Crc, snapshot.crc)
-    ∷ (reg.Far, snapshot.far)
-    ∷ (reg.Cmd, snapshot.cmd)
-    ∷ (reg.Ctl0, snapshot.ctl0)
-    ∷ (reg.Mask, snapshot.mask)
-    ∷ (reg.Stat, snapshot.stat)
-    ∷ (reg.Cor0, snapshot.cor0)
-    ∷ (reg.Idcode, snapshot.idcode)
-    ∷ (reg.Axss, snapshot.axss)
-    ∷ (reg.Cor1, snapshot.cor1)
-    ∷ (reg.Wbstar, snapshot.wbstar)
-    ∷ (reg.Timer, snapshot.timer)
-    ∷ (reg.Bootsts, snapshot.bootsts)
-    ∷ (reg.Ctl1, snapshot.ctl1)
-    ∷ (reg.Bspi, snapshot.bspi)
-    ∷ []
-
 -- the line of a register: its name and its word
 abbrev pub reg_line : Reg × ℕ → List ℕ
 reg_line row = codes "reg " ++ reg_name (number_of row.0) ++ space_byte ∷ hex_word row.1 ++ codes "\n"
@@ -86,7 +64,7 @@ reg_line_room = 21
 
 -- the lines of the registers
 unfoldable pub reg_text : Snapshot → List ℕ
-reg_text snapshot = flat_map reg_line (reg_words snapshot)
+reg_text snapshot = flat_map reg_line snapshot.registers
 
 -- the lines of a device's state: its part's name, how many bytes it took, where these end, startup and the registers
 unfoldable pub state_text : List ℕ → Snapshot → List ℕ

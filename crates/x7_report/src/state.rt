@@ -4,9 +4,9 @@ ghost use Rattle.std.specs.List.{flat_map};
 ghost use Rattle.x7_words.specs.Characters.{space_byte};
 ghost use Rattle.x7_text.specs.Appends.{Appends, HasSpareRoom};
 ghost use Rattle.x7_text.specs.Digits.{hex_word};
-ghost use Rattle.x7_report.specs.State.{end_room, end_text, fault_room, fault_text, line_digit, phase_room, phase_text, reg_line, reg_line_room, reg_text, reg_words, state_text};
+ghost use Rattle.x7_report.specs.State.{end_room, end_text, fault_room, fault_text, line_digit, phase_room, phase_text, reg_line, reg_line_room, reg_text, state_text};
 
-use x7_engine::{End, Fault, Snapshot};
+use x7_engine::{End, Fault, SHOWN_COUNT, Snapshot};
 use x7_regs::{Reg, name_of};
 use x7_text::{hex_of_word, make_room, put, put_decimal, put_number, put_text};
 use x7_words::NoMemory;
@@ -16,9 +16,6 @@ const END_ROOM: usize = 27;
 
 /// The most bytes of the line of startup, with 20 digits for its phase: it is written as a number of 64 bits.
 const PHASE_ROOM: usize = 46;
-
-/// How many registers have a line.
-const REG_LINES: usize = 15;
 
 /// The most bytes that the line of a register takes: those of `reg BOOTSTS`, a blank, eight digits and a line end.
 const REG_LINE_ROOM: usize = 21;
@@ -121,30 +118,6 @@ pub fn phase_line(out: &mut Vec<u8>, snapshot: &Snapshot) -> Result<(), NoMemory
     Ok(())
 }
 
-/// The registers that a report shows, in the order of their numbers, each with its word.
-#[rattlefmt::skip]
-fn rows_of(snapshot: &Snapshot) -> [(Reg, u32); REG_LINES]
-    ensures { result ≡ reg_words snapshot.now }
-{
-    [
-        (Reg::Crc,     snapshot.crc),
-        (Reg::Far,     snapshot.far),
-        (Reg::Cmd,     snapshot.cmd),
-        (Reg::Ctl0,    snapshot.ctl0),
-        (Reg::Mask,    snapshot.mask),
-        (Reg::Stat,    snapshot.stat),
-        (Reg::Cor0,    snapshot.cor0),
-        (Reg::Idcode,  snapshot.idcode),
-        (Reg::Axss,    snapshot.axss),
-        (Reg::Cor1,    snapshot.cor1),
-        (Reg::Wbstar,  snapshot.wbstar),
-        (Reg::Timer,   snapshot.timer),
-        (Reg::Bootsts, snapshot.bootsts),
-        (Reg::Ctl1,    snapshot.ctl1),
-        (Reg::Bspi,    snapshot.bspi),
-    ]
-}
-
 /// Appends the line of a register: its name and its word.
 fn put_row(out: &mut Vec<u8>, row: (Reg, u32))
     requires { HasSpareRoom out.old reg_line_room }
@@ -174,8 +147,8 @@ pub fn reg_lines(out: &mut Vec<u8>, snapshot: &Snapshot) -> Result<(), NoMemory>
     ensures appends { OnOk result (out.new.items ≡ out.old.items ++ reg_text snapshot.now) }
     ensures unchanged { OnErr result (out.new.items ≡ out.old.items) }
 {
-    make_room(out, REG_LINES * REG_LINE_ROOM)?;
-    put_rows(out, &rows_of(snapshot));
+    make_room(out, SHOWN_COUNT * REG_LINE_ROOM)?;
+    put_rows(out, &snapshot.registers);
     Ok(())
 }
 

@@ -3,7 +3,7 @@ use crate::tiny::TINY;
 use std::alloc::Global;
 use x7_engine::{Device, Fed, Kept, ReadBuf};
 use x7_part::part_of;
-use x7_regs::{Attempt, Cause, Kind};
+use x7_regs::{Attempt, Cause, Kind, Reg};
 
 /// The sync word, and IPROG written to CMD.
 const IPROG: [u8; 12] = [
@@ -30,7 +30,7 @@ fn after_iprog(alloc: Global, kind: Kind) -> Option<(Fed, u32)> {
         }),
     });
     let fed = device.feed(&IPROG, &mut ReadBuf::dropping());
-    Some((fed, device.state().bootsts))
+    Some((fed, device.value(Reg::Bootsts)))
 }
 
 #[test]

@@ -4,4 +4,4 @@ use Rattle.x7_jtag.proofs.PortLemmas.{status_is}
 use Rattle.x7_jtag.proofs.tap.ir_status.Goals as goal
 
 pub returns : goal.returns
-returns c = λ part given bytes s t. status_is part given bytes c.state-state.result _ c.ir_status_with.result t (c.state-state.ensures.owing part on_the_bench false bytes s) c.ir_status_with.ensures
+returns c = λ part given bytes s t. status_is part given bytes c.state.result c.value.result _ c.ir_status_with.result t (c.state.ensures.owing part on_the_bench false bytes s) (c.value.ensures.owing part on_the_bench false bytes s) c.ir_status_with.ensures
