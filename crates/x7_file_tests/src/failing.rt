@@ -1,4 +1,5 @@
-//! Inputs and a flash over files of the system that count what is opened, and of which one kind of call fails.
+//! Inputs and a flash over files of the system of which one kind of call fails, and that count what is opened and what
+//! fails.
 use crate::paths::{filled, path_of};
 use std::alloc::Allocator;
 use std::cell::Cell;
@@ -35,47 +36,71 @@ fn denied() -> io::Error {
     io::Error::from(ErrorKind::PermissionDenied)
 }
 
+/// What files have come to.
+#[derive(Drop)]
+struct Counts {
+    /// How often a file was to be opened.
+    opens: Cell<u64>,
+    /// How many calls of the kind that fails there were.
+    failures: Cell<u64>,
+}
+
+impl Counts {
+    /// No file was opened yet.
+    fn new() -> Counts {
+        Counts {
+            opens: Cell::new(0),
+            failures: Cell::new(0),
+        }
+    }
+
+    /// Counts a file that is to be opened.
+    fn count_open(&self) {
+        self.opens.set(self.opens.get().saturating_add(1));
+    }
+
+    /// Counts a call that fails; its error.
+    fn fail(&self) -> io::Error {
+        self.failures.set(self.failures.get().saturating_add(1));
+        denied()
+    }
+
+    /// Both counts: files to be opened, and calls that failed.
+    fn both(&self) -> (u64, u64) {
+        (self.opens.get(), self.failures.get())
+    }
+}
+
 /// The files of the system, of which a call fails. To open one so that it is made, cut or written at its end is
 /// refused.
 #[derive(Drop)]
 struct FailingFiles<'r, R: Files> {
     rt: &'r R,
     failing: Failing,
-    /// How often a file was to be opened.
-    opens: Cell<u64>,
-}
-
-impl<'r, R: Files> FailingFiles<'r, R> {
-    /// The files of the runtime, none opened yet.
-    fn new(rt: &'r R, failing: Failing) -> FailingFiles<'r, R> {
-        FailingFiles {
-            rt,
-            failing,
-            opens: Cell::new(0),
-        }
-    }
+    counts: &'r Counts,
 }
 
 /// A file of the system, of which a call fails.
 #[derive(Drop)]
-struct FailingFile<F: Drop> {
+struct FailingFile<'r, F: Drop> {
     file: F,
     failing: Failing,
+    counts: &'r Counts,
 }
 
-impl<F: Read + Drop> Read for FailingFile<F> {
+impl<'r, F: Read + Drop> Read for FailingFile<'r, F> {
     fn read(&mut self, buf: &mut [u8]) -> io::Result<usize> {
         if self.failing == Failing::Reading {
-            return Err(denied());
+            return Err(self.counts.fail());
         }
         self.file.read(buf)
     }
 }
 
-impl<F: Write + Drop> Write for FailingFile<F> {
+impl<'r, F: Write + Drop> Write for FailingFile<'r, F> {
     fn write(&mut self, buf: &[u8]) -> io::Result<usize> {
         if self.failing == Failing::Writing {
-            return Err(denied());
+            return Err(self.counts.fail());
         }
         self.file.write(buf)
     }
@@ -85,16 +110,16 @@ impl<F: Write + Drop> Write for FailingFile<F> {
     }
 }
 
-impl<F: Seek + Drop> Seek for FailingFile<F> {
+impl<'r, F: Seek + Drop> Seek for FailingFile<'r, F> {
     fn seek(&mut self, to: SeekFrom) -> io::Result<u64> {
         if self.failing == Failing::Placing && matches!(to, SeekFrom::Start(_)) {
-            return Err(denied());
+            return Err(self.counts.fail());
         }
         self.file.seek(to)
     }
 }
 
-impl<F: OpenFile + Drop> OpenFile for FailingFile<F> {
+impl<'r, F: OpenFile + Drop> OpenFile for FailingFile<'r, F> {
     fn metadata(&self) -> io::Result<Metadata> {
         self.file.metadata()
     }
@@ -109,21 +134,21 @@ impl<F: OpenFile + Drop> OpenFile for FailingFile<F> {
 
     fn sync_data(&self) -> io::Result<()> {
         if self.failing == Failing::Keeping {
-            return Err(denied());
+            return Err(self.counts.fail());
         }
         self.file.sync_data()
     }
 }
 
 impl<'r, R: Files> Files for FailingFiles<'r, R> {
-    type File = FailingFile<R::File>;
+    type File = FailingFile<'r, R::File>;
 
     type Dir = R::Dir;
 
-    fn open_file(&self, how: &OpenOptions, path: &str) -> io::Result<FailingFile<R::File>> {
-        self.opens.set(self.opens.get().saturating_add(1));
+    fn open_file(&self, how: &OpenOptions, path: &str) -> io::Result<FailingFile<'r, R::File>> {
+        self.counts.count_open();
         if self.failing == Failing::Opening && how.asks_write() {
-            return Err(denied());
+            return Err(self.counts.fail());
         }
         if how.asks_create() || how.asks_create_new() || how.asks_truncate() || how.asks_append() {
             return Err(denied());
@@ -132,6 +157,7 @@ impl<'r, R: Files> Files for FailingFiles<'r, R> {
         Ok(FailingFile {
             file,
             failing: self.failing,
+            counts: self.counts,
         })
     }
 
@@ -233,15 +259,20 @@ fn answers_of<F: Flash>(flash: &mut F, name: &str) -> Option<Answers> {
     Some((is_erased, is_programmed, is_read.then_some(found)))
 }
 
-/// A file of one sector after calls of a flash: how often it was opened, the answers, its first two bytes, and whether
-/// each byte after these is the first one and no other stands in it.
-type Outcome = (u64, Answers, [u8; 2], bool);
+/// A file of one sector after calls of a flash: how often it was opened and how many calls failed, the answers, its
+/// first two bytes, and whether each byte after these is the first one and no other stands in it.
+type Outcome = ((u64, u64), Answers, [u8; 2], bool);
 
 /// What comes of a new file that is a flash, where calls fail. None where the file can't be made, or read.
 fn outcome_over(rt: &HostRuntime, failing: Failing, name: &str) -> Option<Outcome> {
     let bytes = filled(rt.alloc(), &[(SECTOR_SIZE as usize, 0x3C)])?;
     fs::write(rt, name, bytes.as_slice()).ok()?;
-    let files = FailingFiles::new(rt, failing);
+    let counts = Counts::new();
+    let files = FailingFiles {
+        rt,
+        failing,
+        counts: &counts,
+    };
     let answers = answers_of(&mut FileFlash::new(&files), name)?;
     let kept = fs::read(rt, name).ok()?;
     fs::remove_file(rt, name).ok()?;
@@ -252,7 +283,7 @@ fn outcome_over(rt: &HostRuntime, failing: Failing, name: &str) -> Option<Outcom
         (SECTOR_SIZE as usize, first[0]),
     ];
     let wanted = filled(rt.alloc(), &parts)?;
-    Some((files.opens.get(), answers, first, kept == wanted))
+    Some((counts.both(), answers, first, kept == wanted))
 }
 
 /// What comes of a flash over files that fail so at a path that no other test has, as `outcome_over` says.
@@ -263,42 +294,58 @@ fn outcome_where(rt: &HostRuntime, failing: Failing) -> Option<Outcome> {
 
 #[test]
 fn a_write_of_a_file_fails_where_a_call_fails(rt: HostRuntime) {
-    // the call, how often the file is opened, whether the erase and the program succeed, the file's first bytes then,
-    // and whether they are read
+    // the call, how often the file is opened and how many calls fail, whether the erase and the program succeed, the
+    // file's first bytes then, and whether they are read: no call that failed is made again
     let cases = [
-        (Failing::Nothing, 1, true, true, [0xFF, 0x0F], true),
-        (Failing::Opening, 2, false, false, [0x3C, 0x3C], true),
-        (Failing::Reading, 1, true, false, [0xFF, 0xFF], false),
-        (Failing::Placing, 1, false, false, [0x3C, 0x3C], false),
-        (Failing::Writing, 1, false, false, [0x3C, 0x3C], true),
-        (Failing::Keeping, 1, false, false, [0xFF, 0x0F], true),
+        (Failing::Nothing, (1, 0), true, true, [0xFF, 0x0F], true),
+        (Failing::Opening, (2, 1), false, false, [0x3C, 0x3C], true),
+        (Failing::Reading, (1, 2), true, false, [0xFF, 0xFF], false),
+        (Failing::Placing, (1, 3), false, false, [0x3C, 0x3C], false),
+        (Failing::Writing, (1, 2), false, false, [0x3C, 0x3C], true),
+        (Failing::Keeping, (1, 2), false, false, [0xFF, 0x0F], true),
     ];
-    for (failing, opens, erased, programmed, first, is_read) in cases {
+    for (failing, counts, erased, programmed, first, is_read) in cases {
         let answers = (erased, programmed, is_read.then_some(first));
-        assert!(rt; outcome_where(&rt, failing) == Some((opens, answers, first, true)));
+        assert!(rt; outcome_where(&rt, failing) == Some((counts, answers, first, true)));
     }
 }
 
-/// Selects a new file of five bytes where none may be opened for writing, and reads four bytes of it: how often a file
-/// was opened, and what was read. None where the file can't be made, or is refused.
-fn opens_of_a_select(rt: &HostRuntime, name: &str) -> Option<(u64, [u8; 4])> {
+/// What a select of a file and a read of four bytes do: how often a file was opened and how many calls failed, and what
+/// was read.
+type Opened = ((u64, u64), Option<[u8; 4]>);
+
+/// Selects a new file of five bytes where calls fail, and reads four bytes of it. None where the file can't be made, or
+/// is refused.
+fn opens_of_a_select(rt: &HostRuntime, failing: Failing, name: &str) -> Option<Opened> {
     fs::write(rt, name, b"hello").ok()?;
-    let files = FailingFiles::new(rt, Failing::Opening);
+    let counts = Counts::new();
+    let files = FailingFiles {
+        rt,
+        failing,
+        counts: &counts,
+    };
     let mut inputs = FileInputs::<_, Brand>::new(&files);
     inputs.select(name).ok()?;
     let mut buf = [0; 4];
-    inputs.read(&mut buf).ok()?;
+    let is_read = inputs.read(&mut buf).is_ok();
     fs::remove_file(rt, name).ok()?;
-    Some((files.opens.get(), buf))
+    Some((counts.both(), is_read.then_some(buf)))
 }
 
-/// What a select opens at a path that no other test has, as `opens_of_a_select` says.
-fn opens_of_an_input(rt: &HostRuntime) -> Option<(u64, [u8; 4])> {
-    let path = path_of(rt, "opened")?;
-    opens_of_a_select(rt, path.as_path().as_str())
+/// What a select opens at a path of this name, as `opens_of_a_select` says.
+fn opens_of_an_input(rt: &HostRuntime, failing: Failing, name: &str) -> Option<Opened> {
+    let path = path_of(rt, name)?;
+    opens_of_a_select(rt, failing, path.as_path().as_str())
 }
 
 #[test]
 fn a_select_opens_one_file_once_for_reading(rt: HostRuntime) {
-    assert!(rt; opens_of_an_input(&rt) == Some((1, *b"hell")));
+    assert!(rt;
+        opens_of_an_input(&rt, Failing::Opening, "opened") == Some(((1, 0), Some(*b"hell")))
+    );
+}
+
+#[test]
+fn a_read_that_failed_is_not_made_again(rt: HostRuntime) {
+    assert!(rt; opens_of_an_input(&rt, Failing::Reading, "unread") == Some(((1, 1), None)));
 }

@@ -278,7 +278,8 @@ fn a_file_is_written_as_a_flash(rt: HostRuntime) {
 struct Narrow {
     /// How many bytes it still takes.
     left: u8,
-    /// The error of each call after these; such a call takes nothing where there is none.
+    /// The error of the call after these, after which it takes bytes again; where there is none, each call after these
+    /// takes nothing.
     then: Option<ErrorKind>,
 }
 
@@ -293,7 +294,10 @@ impl Write for Narrow {
         }
         match self.then {
             None => Ok(0),
-            Some(kind) => Err(io::Error::from(kind)),
+            Some(kind) => {
+                self.left = u8::MAX;
+                Err(io::Error::from(kind))
+            }
         }
     }
 
@@ -311,7 +315,7 @@ fn answers<W: Write + Drop>(writer: W) -> (Result<(), Failed>, Result<usize, Fai
 
 #[test]
 fn writers_are_sinks(rt: HostRuntime) {
-    // how many bytes the writer takes, what it does then, the answer
+    // how many bytes the writer takes, what it does then, the answer: no write that failed is made again
     let cases = [
         (5, None, Ok(())),
         (4, None, Err(Failed)),
