@@ -7,7 +7,7 @@ use Rattle.x7_forms.specs.declared.status.Status.TheVariants as status
 use Rattle.x7_forms.specs.Form.{form_of_words}
 use Rattle.x7_forms.specs.Status.{status_number}
 use Rattle.x7_outcome.specs.Outside.{Outside}
-use Rattle.x7_tool.specs.Calls.{ObjectStates, outside_of}
+use Rattle.x7_tool.specs.Calls.{Call}
 use Rattle.x7_tool.specs.Runs.{Runs}
 use Rattle.x7.specs.declared.page.TheConstants.{HELP, VERSION}
 
@@ -35,6 +35,6 @@ ProgramEndsBy None words old new number = (s : Status) × Runs (form_of_words wo
 abbrev pub ProgramEnds : List (List ℕ) → Outside → Outside → ℕ → Type 0
 ProgramEnds words old new number = ProgramEndsBy (page_of words) words old new number
 
--- what a call did for these words with the objects that it was given, and the number with which the program ends
-abbrev pub CallEnds : {I F O E : Type 0} → ObjectStates I F O E → List (List ℕ) → I × F × O × E → I × F × O × E → ℕ → Type 0
-CallEnds states words old new number = ProgramEnds words (outside_of states old) (outside_of states new) number
+-- what a call did for these words, and the number with which the program ends
+abbrev pub CallEnds : List (List ℕ) → Call → ℕ → Type 0
+CallEnds words call number = ProgramEnds words call.old call.new number

@@ -5,6 +5,7 @@ ghost use Rattle.std.specs.Prelude.{◌≡◌, map, string_bytes};
 ghost use Rattle.std.specs.Process.{exit_status};
 ghost use Rattle.x7.specs.Command.{CallEnds, WritesPage};
 ghost use Rattle.x7_forms.specs.Status.{status_number};
+ghost use Rattle.x7_tool.specs.Calls.{call_of};
 
 mod page;
 
@@ -60,8 +61,8 @@ fn command<I: Inputs, O: Sink, E: Sink, F: Flash>(
     out: &mut O,
     err: &mut E,
 ) -> ExitCode
-    ensures { CallEnds (I.state, F.state, O.state, E.state) (map string_bytes words.now.items)
-        (inputs.old, flash.old, out.old, err.old) (inputs.new, flash.new, out.new, err.new) (exit_status result) }
+    ensures { CallEnds (map string_bytes words.now.items) (call_of (I.state, F.state, O.state, E.state)
+        (inputs.old, flash.old, out.old, err.old) (inputs.new, flash.new, out.new, err.new)) (exit_status result) }
 {
     match page_of(words) {
         Some(page) => show(out, page),

@@ -4,7 +4,7 @@ ghost use Rattle.std.specs.Prelude.{◌≡◌, ◌⊎◌, Ok, Err, IfErr, IfOk};
 ghost use Rattle.x7_words.specs.Input.{AsksAtMost, InputsStay};
 ghost use Rattle.x7_debug.specs.Script.{IsScriptOf};
 ghost use Rattle.x7_debug.specs.declared.fault.ScriptFault.{ScriptFault as FaultData};
-ghost use Rattle.x7_device_forms.specs.Debug.{ReadsDebug, debug_given, debug_limits};
+ghost use Rattle.x7_device_forms.specs.Debug.{ReadsDebug, debug_given, debug_limits, debug_names};
 ghost use Rattle.x7_forms.specs.Event.{event_of, no_memory};
 ghost use Rattle.x7_outcome.specs.Outcome.{DebuggedAs, script_event, shown_of};
 ghost use Rattle.x7_forms.specs.Known.{script_limit};
@@ -50,9 +50,11 @@ fn read_given<'w, I: Inputs>(
     stream_name: &'w str,
     script_name: &'w str,
 ) -> Result<Given, Refusal<'w>>
-    ensures caused { ReadsDebug (I.state inputs.old) (I.state inputs.new) part_name.now stream_name.now script_name.now (result_by debug_given result) }
+    ensures caused { ReadsDebug (I.state inputs.old) (I.state inputs.new) (debug_names part_name.now stream_name.now script_name.now)
+        (result_by debug_given result) }
     ensures last_asked { IfOk result (λ given. IsLastAsked script_name.now script_limit (I.state inputs.new)) }
-    ensures stops { IfErr result (λ r. StopsAmong (debug_limits part_name.now stream_name.now script_name.now) (I.state inputs.old) (I.state inputs.new) (event_of r)) }
+    ensures stops { IfErr result (λ r. StopsAmong (debug_limits (debug_names part_name.now stream_name.now script_name.now)) (I.state inputs.old)
+        (I.state inputs.new) (event_of r)) }
     ensures asks { AsksAtMost (I.state inputs.old) 3 (I.state inputs.new) }
     ensures inputs { InputsStay (I.state inputs.old) (I.state inputs.new) }
 {

@@ -19,11 +19,33 @@ ObjectStates I F O E = (I → InputsState) × (F → FlashState) × (O → SinkS
 abbrev pub outside_of : {I F O E : Type 0} → ObjectStates I F O E → I × F × O × E → Outside
 outside_of (i, f, o, e) (inputs, flash, out, err) = outside (i inputs) (f flash) (o out) (e err)
 
--- what a run of the command for this form did with the objects that it was given
-abbrev pub CallRuns : {I F O E : Type 0} → ObjectStates I F O E → Option AskedForm → I × F × O × E → I × F × O × E → Status → Type 0
-CallRuns states form old new s = Runs form (outside_of states old) (outside_of states new) s
+-- the outside of a call: as the call found it, and as it left it
+pub record Call : Type 0 where
+  pub old : Outside
+  pub new : Outside
 
--- what a form did with inputs, a flash and an output, whatever the sink of messages holds before and after
-abbrev pub CallAnswers : {I F O : Type 0} → (I → InputsState) × (F → FlashState) × (O → SinkState) → AskedForm → I × F × O → I × F × O → Result Bool Event → Type 0
-CallAnswers (i, f, o) form (inputs, flash, out) (new_inputs, new_flash, new_out) got =
-    (before after : SinkState) → Answered form (outside (i inputs) (f flash) (o out) before) (outside (i new_inputs) (f new_flash) (o new_out) after) got
+-- the call that found these objects, and left them as those
+abbrev pub call_of : {I F O E : Type 0} → ObjectStates I F O E → I × F × O × E → I × F × O × E → Call
+call_of states old new = record { old = outside_of states old; new = outside_of states new }
+
+-- what a run of the command for this form did in this call
+abbrev pub CallRuns : Option AskedForm → Call → Status → Type 0
+CallRuns form call s = Runs form call.old call.new s
+
+-- the scope of a form, at one moment: the states of inputs, flash and output
+pub record Scope : Type 0 where
+  pub inputs : InputsState
+  pub flash : FlashState
+  pub out : SinkState
+
+-- inputs, flash and output as the scope of a form
+abbrev pub scope : InputsState → FlashState → SinkState → Scope
+scope inputs flash out = record { inputs = inputs; flash = flash; out = out }
+
+-- the outside of this scope and this sink of messages
+abbrev pub with_messages : Scope → SinkState → Outside
+with_messages o err = outside o.inputs o.flash o.out err
+
+-- what a form did in its scope, whatever the sink of messages holds before and after
+abbrev pub CallAnswers : AskedForm → Scope → Scope → Result Bool Event → Type 0
+CallAnswers form old new got = (before after : SinkState) → Answered form (with_messages old before) (with_messages new after) got

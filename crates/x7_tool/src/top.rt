@@ -4,7 +4,7 @@ ghost use Rattle.x7_forms.specs.Form.{asked_by, form_of_strings};
 ghost use Rattle.x7_forms.specs.Step.{result_by};
 ghost use Rattle.x7_outcome.specs.Leaving.{UsesFlash};
 ghost use Rattle.x7_outcome.specs.Outside.{sources};
-ghost use Rattle.x7_tool.specs.Calls.{CallAnswers, CallRuns};
+ghost use Rattle.x7_tool.specs.Calls.{CallAnswers, CallRuns, call_of, scope};
 ghost use Rattle.x7_outcome.specs.Ending.{FailsOutLast};
 ghost use Rattle.x7_tool.specs.Runs.{stopped_or_event};
 
@@ -43,8 +43,8 @@ fn answer<'w, I: Inputs, O: Sink, F: Flash>(
     flash: &mut F,
     out: &mut O,
 ) -> Result<bool, Refusal<'w>>
-    ensures answered { CallAnswers (I.state, F.state, O.state) (asked_by form.entry)
-        (inputs.old, flash.old, out.old) (inputs.new, flash.new, out.new) (stopped_or_event result) }
+    ensures answered { CallAnswers (asked_by form.entry) (scope (I.state inputs.old) (F.state flash.old) (O.state out.old))
+        (scope (I.state inputs.new) (F.state flash.new) (O.state out.new)) (stopped_or_event result) }
     ensures flash { UsesFlash (Some (asked_by form.entry)) (sources (I.state inputs.new) (F.state flash.old)) (F.state flash.new) }
     ensures failed_last { FailsOutLast (O.state out.old) (O.state out.new) (stopped_or_event result) }
 {
@@ -101,8 +101,8 @@ pub fn run<I: Inputs, O: Sink, E: Sink, F: Flash>(
     out: &mut O,
     err: &mut E,
 ) -> Status
-    ensures ran { CallRuns (I.state, F.state, O.state, E.state) (form_of_strings words.now.items)
-        (inputs.old, flash.old, out.old, err.old) (inputs.new, flash.new, out.new, err.new) result }
+    ensures ran { CallRuns (form_of_strings words.now.items) (call_of (I.state, F.state, O.state, E.state)
+        (inputs.old, flash.old, out.old, err.old) (inputs.new, flash.new, out.new, err.new)) result }
 {
     let form = match words_of(words) {
         Some(form) => form,
