@@ -4,13 +4,12 @@ use Rattle.std.specs.Prelude.{◌&&◌, is_some, option_map}
 use Rattle.std.specs.Str.{bytes_eq}
 use Rattle.std.proofs.lemmas.Bool.Decides.{nat_tests}
 use Rattle.std.proofs.lemmas.List.{length-take-le, take-append-drop}
-use Rattle.std.specs.declared.io.ErrorKind.{ErrorKind}
 use Rattle.x7_words.specs.Count.{added, ends_counted}
 use Rattle.x7_words.specs.Input.{AsksForName, AsksForNoInput, AtEnd, InputsStay, OpensInput, NoInputFault, ReadFails, RestIsWhole, InputsRefuse, StillKnown, TakenBy, TakesInput}
 use Rattle.x7_words.proofs.ListLemmas.{same_by_test}
 use Rattle.x7_words.proofs.CountLemmas.{raised_risen}
 use Rattle.x7_files.specs.Agreement.{NamedBytes, ends_rightly, gives_rightly}
-use Rattle.x7_files.specs.Inputs.{CountsFaults, RealInputs, after_failed_read, after_read, after_select, known_if, known_inputs, left_if}
+use Rattle.x7_files.specs.Inputs.{CountsFaults, Opening, RealInputs, after_failed_read, after_read, after_select, known_if, known_inputs, left_if}
 use Rattle.x7_words.specs.declared.input.Failed.{Failed as FailedRead}
 use Rattle.x7_words.specs.declared.input.SelectFault.{SelectFault}
 use Rattle.x7_words.specs.declared.input.SelectFault.TheVariants.{Missing, Failed}
@@ -57,31 +56,31 @@ ended true (Some left) bytes room e h = subst (λ (b : List ℕ). AtEnd (left_if
     empty (suc n) (x ∷ left) h = tt
 
 -- the state after a select that is Ok
-opened_state : (map : NamedBytes) (old : RealInputs) (name : List ℕ) (rest : Option (List ℕ)) (refusal : Option ErrorKind) → OpensInput (known_inputs map old) name (known_inputs map (after_select map old name rest refusal (Ok tt)))
-opened_state map old name rest refusal = record { selected = refl; found = opened_found map old.agreement.agrees name (map name) refl }
+opened_state : (map : NamedBytes) (old : RealInputs) (name : List ℕ) (opening : Opening) → OpensInput (known_inputs map old) name (known_inputs map (after_select map old name opening (Ok tt)))
+opened_state map old name opening = record { selected = refl; found = opened_found map old.agreement.agrees name (map name) refl }
 
 -- an open that is Ok selects, and all bytes of the map are left
-pub opened_ok : (map : NamedBytes) (old new : RealInputs) (rest : Option (List ℕ)) (refusal : Option ErrorKind) (name : List ℕ) (answer : Result (Unit {0}) SelectFault) → new ≡ after_select map old name rest refusal answer → OnOk answer (OpensInput (known_inputs map old) name (known_inputs map new))
-opened_ok map old new rest refusal name (Ok _) e = subst (λ (f : RealInputs). OpensInput (known_inputs map old) name (known_inputs map f)) (sym e) (opened_state map old name rest refusal)
-opened_ok map old new rest refusal name (Err fault) e = tt
+pub opened_ok : (map : NamedBytes) (old new : RealInputs) (opening : Opening) (name : List ℕ) (answer : Result (Unit {0}) SelectFault) → new ≡ after_select map old name opening answer → OnOk answer (OpensInput (known_inputs map old) name (known_inputs map new))
+opened_ok map old new opening name (Ok _) e = subst (λ (f : RealInputs). OpensInput (known_inputs map old) name (known_inputs map f)) (sym e) (opened_state map old name opening)
+opened_ok map old new opening name (Err fault) e = tt
 
 -- an open that is not Ok counts what it answers
-pub opened_refused : (map : NamedBytes) (old new : RealInputs) (rest : Option (List ℕ)) (refusal : Option ErrorKind) (name : List ℕ) (answer : Result (Unit {0}) SelectFault) → new ≡ after_select map old name rest refusal answer → IfErr answer (InputsRefuse (known_inputs map old) name (known_inputs map new))
-opened_refused map old new rest refusal name (Ok _) e = tt
-opened_refused map old new rest refusal name (Err Missing) e = inr (raised_risen old.absences new.absences (ap (λ f. f.absences) e))
-opened_refused map old new rest refusal name (Err Failed) e = raised_risen old.faults new.faults (ap (λ f. f.faults) e)
+pub opened_refused : (map : NamedBytes) (old new : RealInputs) (opening : Opening) (name : List ℕ) (answer : Result (Unit {0}) SelectFault) → new ≡ after_select map old name opening answer → IfErr answer (InputsRefuse (known_inputs map old) name (known_inputs map new))
+opened_refused map old new opening name (Ok _) e = tt
+opened_refused map old new opening name (Err Missing) e = inr (raised_risen old.absences new.absences (ap (λ f. f.absences) e))
+opened_refused map old new opening name (Err Failed) e = raised_risen old.faults new.faults (ap (λ f. f.faults) e)
 
 -- an open that is not Ok selects nothing
-pub opened_err : (map : NamedBytes) (old new : RealInputs) (name : List ℕ) (rest : Option (List ℕ)) (refusal : Option ErrorKind) (answer : Result (Unit {0}) SelectFault) → new ≡ after_select map old name rest refusal answer → OnErr answer (new.selected ≡ false)
-opened_err map old new name rest refusal (Ok _) e = tt
-opened_err map old new name rest refusal (Err Missing) e = ap (λ f. f.selected) e
-opened_err map old new name rest refusal (Err Failed) e = ap (λ f. f.selected) e
+pub opened_err : (map : NamedBytes) (old new : RealInputs) (name : List ℕ) (opening : Opening) (answer : Result (Unit {0}) SelectFault) → new ≡ after_select map old name opening answer → OnErr answer (new.selected ≡ false)
+opened_err map old new name opening (Ok _) e = tt
+opened_err map old new name opening (Err Missing) e = ap (λ f. f.selected) e
+opened_err map old new name opening (Err Failed) e = ap (λ f. f.selected) e
 
 -- a map that agrees after an open agreed before it
-pub opened_stays : (map : NamedBytes) (old new : RealInputs) (name : List ℕ) (rest : Option (List ℕ)) (refusal : Option ErrorKind) (answer : Result (Unit {0}) SelectFault) → new ≡ after_select map old name rest refusal answer → CountsFaults old new → InputsStay (known_inputs map old) (known_inputs map new)
-opened_stays map old new name rest refusal answer e c = record { map = subst (λ (f : RealInputs). StillKnown (known_if old.agreement.agrees map) (known_if f.agreement.agrees map)) (sym e) (by answer); faults = c.faults.never_falls; absences = c.absences.never_falls }
+pub opened_stays : (map : NamedBytes) (old new : RealInputs) (name : List ℕ) (opening : Opening) (answer : Result (Unit {0}) SelectFault) → new ≡ after_select map old name opening answer → CountsFaults old new → InputsStay (known_inputs map old) (known_inputs map new)
+opened_stays map old new name opening answer e c = record { map = subst (λ (f : RealInputs). StillKnown (known_if old.agreement.agrees map) (known_if f.agreement.agrees map)) (sym e) (by answer); faults = c.faults.never_falls; absences = c.absences.never_falls }
   where
-    by : (answer : Result (Unit {0}) SelectFault) → StillKnown (known_if old.agreement.agrees map) (known_if (after_select map old name rest refusal answer).agreement.agrees map)
+    by : (answer : Result (Unit {0}) SelectFault) → StillKnown (known_if old.agreement.agrees map) (known_if (after_select map old name opening answer).agreement.agrees map)
     by (Ok _) = kept map old.agreement.agrees (is_some (map name))
     by (Err fault) = same map old.agreement.agrees
 
@@ -96,10 +95,10 @@ failed_read map old new (Err _) e = record {
 }
 
 -- whatever an open answers, its name was asked for, and nothing was given since
-pub opened_asks : (map : NamedBytes) (old new : RealInputs) (rest : Option (List ℕ)) (refusal : Option ErrorKind) (name : List ℕ) (answer : Result (Unit {0}) SelectFault) → new ≡ after_select map old name rest refusal answer → AsksForName name (known_inputs map new)
-opened_asks map old new rest refusal name answer e = subst (λ (f : RealInputs). AsksForName name (known_inputs map f)) (sym e) (by answer)
+pub opened_asks : (map : NamedBytes) (old new : RealInputs) (opening : Opening) (name : List ℕ) (answer : Result (Unit {0}) SelectFault) → new ≡ after_select map old name opening answer → AsksForName name (known_inputs map new)
+opened_asks map old new opening name answer e = subst (λ (f : RealInputs). AsksForName name (known_inputs map f)) (sym e) (by answer)
   where
-    by : (answer : Result (Unit {0}) SelectFault) → AsksForName name (known_inputs map (after_select map old name rest refusal answer))
+    by : (answer : Result (Unit {0}) SelectFault) → AsksForName name (known_inputs map (after_select map old name opening answer))
     by (Ok _) = record { asked = refl; given = refl }
     by (Err Missing) = record { asked = refl; given = refl }
     by (Err Failed) = record { asked = refl; given = refl }
@@ -151,9 +150,9 @@ within_buffer (Ok n) old new e h = omega (arith, e, h)
 within_buffer (Err _) old new e h = tt
 
 -- a select that is Ok counts nothing
-pub opened_quiet : (map : NamedBytes) (old new : RealInputs) (name : List ℕ) (rest : Option (List ℕ)) (refusal : Option ErrorKind) (answer : Result (Unit {0}) SelectFault) → new ≡ after_select map old name rest refusal answer → OnOk answer (NoInputFault (known_inputs map old) (known_inputs map new))
-opened_quiet map old new name rest refusal (Ok _) e = record { faults = ap (λ f. f.faults) e; absences = ap (λ f. f.absences) e }
-opened_quiet map old new name rest refusal (Err _) e = tt
+pub opened_quiet : (map : NamedBytes) (old new : RealInputs) (name : List ℕ) (opening : Opening) (answer : Result (Unit {0}) SelectFault) → new ≡ after_select map old name opening answer → OnOk answer (NoInputFault (known_inputs map old) (known_inputs map new))
+opened_quiet map old new name opening (Ok _) e = record { faults = ap (λ f. f.faults) e; absences = ap (λ f. f.absences) e }
+opened_quiet map old new name opening (Err _) e = tt
 
 -- a read that is Ok counts nothing
 pub read_quiet : (map : NamedBytes) (old new : RealInputs) (buf : List ℕ) (answer : Result ℕ FailedRead) → IfOk answer (λ n. new ≡ after_read old new.rest buf n) → OnOk answer (NoInputFault (known_inputs map old) (known_inputs map new))

@@ -65,15 +65,35 @@ abbrev pub unread_of : {F : Type 0} → (F → Option (List ℕ)) → Option F �
 unread_of remaining None = None
 unread_of remaining (Some file) = remaining file
 
--- the files after a select of this name with this answer: each fault and each absence is counted once
-abbrev pub after_select : NamedBytes → RealInputs → List ℕ → Option (List ℕ) → Option ErrorKind → Result (Unit {0}) SelectFault → RealInputs
-after_select map f name rest refusal (Ok _) = record f { agreement = with_open map name f.agreement; selected = true; rest = rest; refusal = refusal; selects = raised f.selects; given = 0 }
-after_select map f name rest refusal (Err fault) =
+-- what an open of a file came to
+pub record Opening : Type 0 where
+  -- the bytes that reads of the opened file will give, where its reader knows them
+  pub rest : Option (List ℕ)
+  -- why no file was opened
+  pub refusal : Option ErrorKind
+
+-- what the open of the last select came to
+abbrev pub opening_of : RealInputs → Opening
+opening_of f = record { rest = f.rest; refusal = f.refusal }
+
+-- the files after a select of this name, whose open came to this, with this answer: each fault and each absence is
+-- counted once
+abbrev pub after_select : NamedBytes → RealInputs → List ℕ → Opening → Result (Unit {0}) SelectFault → RealInputs
+after_select map f name opening (Ok _) =
+    record f {
+      agreement = with_open map name f.agreement;
+      selected = true;
+      rest = opening.rest;
+      refusal = opening.refusal;
+      selects = raised f.selects;
+      given = 0;
+    }
+after_select map f name opening (Err fault) =
     record f {
       agreement = with_refusal name f.agreement;
       selected = false;
       rest = None;
-      refusal = refusal;
+      refusal = opening.refusal;
       selects = raised f.selects;
       given = 0;
       faults = faults_after fault f.faults;

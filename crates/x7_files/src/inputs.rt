@@ -2,7 +2,7 @@
 ghost use Rattle.std.specs.Prelude.{◌≡◌, ◌<◌, ◌≤◌, ◌+◌, length, None, true, false, IfErr, IfOk, OnErr};
 ghost use Rattle.std.specs.Io.KnownBytes.{ReadConsumes};
 ghost use Rattle.x7_files.specs.Agreement.{no_select};
-ghost use Rattle.x7_files.specs.Inputs.{after_failed_read, after_read, after_select, CountsFaults, ReadGives};
+ghost use Rattle.x7_files.specs.Inputs.{after_failed_read, after_read, after_select, opening_of, CountsFaults, ReadGives};
 ghost use Rattle.x7_files.specs.Refusal.{RefusedFor};
 
 use crate::agreement::{self, Agreement, World};
@@ -100,7 +100,7 @@ impl<'r, R: Files, W: World> Inputs for FileInputs<'r, R, W> {
     ghost state = { known_inputs W.contents };
 
     fn select(&mut self, name: &str) -> Result<(), SelectFault>
-        ensures after { self.new ≡ after_select W.contents self.old name.now self.new.rest self.new.refusal result }
+        ensures after { self.new ≡ after_select W.contents self.old name.now (opening_of self.new) result }
         ensures refused { IfErr result (RefusedFor self.new.refusal) }
         ensures at_most_one_more { self.new.selects ≤ self.old.selects + 1 }
         ensures ends { self.new.ends ≡ self.old.ends }

@@ -1,5 +1,6 @@
 use Rattle.std.proofs.Common.{length, arith}
 use Rattle.x7_files.proofs.FileInputsLemmas.{opened_asks, opened_ok, opened_quiet, opened_refused, opened_err, opened_stays, failed_read, read_asks, read_end, read_ok, read_no_end, read_quiet, read_stays, within_buffer}
+use Rattle.x7_files.specs.Inputs.{opening_of}
 use Rattle.x7_files.proofs.inputs.FileInputsInputs.TheImpl.Goals as goal
 
 pub select-tells : goal.select-tells
@@ -9,13 +10,13 @@ select-tells g c =
     let map = g.W.World.contents in
     let name = c.args.name.now in
     record {
-      opened = opened_ok map old new new.rest new.refusal name c.result c.ensures.after;
-      refused = opened_refused map old new new.rest new.refusal name c.result c.ensures.after;
-      not_selected = opened_err map old new name new.rest new.refusal c.result c.ensures.after;
-      no_fault = opened_quiet map old new name new.rest new.refusal c.result c.ensures.after;
-      asks = opened_asks map old new new.rest new.refusal name c.result c.ensures.after;
+      opened = opened_ok map old new (opening_of new) name c.result c.ensures.after;
+      refused = opened_refused map old new (opening_of new) name c.result c.ensures.after;
+      not_selected = opened_err map old new name (opening_of new) c.result c.ensures.after;
+      no_fault = opened_quiet map old new name (opening_of new) c.result c.ensures.after;
+      asks = opened_asks map old new (opening_of new) name c.result c.ensures.after;
       at_most_one_more = record { selects = c.ensures.at_most_one_more; ends = omega (arith, c.ensures.ends) };
-      stays = opened_stays map old new name new.rest new.refusal c.result c.ensures.after c.ensures.counts;
+      stays = opened_stays map old new name (opening_of new) c.result c.ensures.after c.ensures.counts;
       fits = (c.ensures.counts.faults.fits, c.ensures.counts.absences.fits);
     }
 
