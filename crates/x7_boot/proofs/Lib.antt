@@ -11,3 +11,4 @@ pub mod ReadLemmas
 pub mod StartLemmas
 pub mod TookLemmas
 mod FlashAttemptLemmas
+mod BlockLemmas

@@ -24,7 +24,7 @@ pages_promoted flash test pages are page c = are page (Contains-promoted test pa
 pub pages_on_promote : (flash : FlashAnswers) (test : ℕ → Bool) (cache new : LruCache ℕ (Vec ℕ Global)) → new ≡ lru_cache (promoted test cache.entries) cache.cap → ArePages flash cache.entries → ArePages flash new.entries
 pages_on_promote flash test cache new e are = subst (λ (k : LruCache ℕ (Vec ℕ Global)). ArePages flash k.entries) (sym e) (pages_promoted flash test cache.entries are)
 
-same_number : (a b : ℕ) → nat_eq a b ≡ true → b ≡ a
+pub same_number : (a b : ℕ) → nat_eq a b ≡ true → b ≡ a
 same_number a b e = grind arith
 
 -- the pages of a cache with one more
@@ -42,7 +42,7 @@ pages_put flash cache number bytes are here page c = elim (Contains-put_entries 
 
 -- ---- a block of pages
 
-start_of : (page : ℕ) → page * page_size / page_size ≡ page
+pub start_of : (page : ℕ) → page * page_size / page_size ≡ page
 start_of page = grind arith
 
 range_of_range : (all block bytes : List ℕ) (from end start stop at to : ℕ) → block ≡ slice_range all from end → bytes ≡ slice_range block start stop → from + start ≡ at → from + stop ≡ to → to ≤ end → start ≤ stop → bytes ≡ slice_range all at to

@@ -63,7 +63,7 @@ pub record IsLater (one other : FlashAnswers) : Type 0 where
   pub size : other.extent ≡ one.extent
   pub agrees : (all : List ℕ) → Agrees other all → Agrees one all
 
-since_called : (first old new : FlashState) (calls : List FlashCall) → IsSince first old → new.calls ≡ old.calls ++ calls → drop (length first.calls) new.calls ≡ drop (length first.calls) old.calls ++ calls
+pub since_called : (first old new : FlashState) (calls : List FlashCall) → IsSince first old → new.calls ≡ old.calls ++ calls → drop (length first.calls) new.calls ≡ drop (length first.calls) old.calls ++ calls
 since_called first old new calls since are = ap (drop (length first.calls)) are ∙ drop-append-le (length first.calls) old.calls calls since
 
 -- more calls

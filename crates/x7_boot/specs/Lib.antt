@@ -6,3 +6,4 @@ pub mod BootCourse
 pub mod Image
 pub mod Reads
 pub mod Pages
+pub mod BlockReads

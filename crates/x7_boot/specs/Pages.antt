@@ -1,5 +1,5 @@
 -- Pages of a flash, blocks of pages that are read at once, and the faults of such reads (this project's choice).
-use Rattle.std.specs.Prelude.{◌≡◌, ℕ, ◌+◌, ◌-◌, ◌*◌, ◌/◌, ◌%◌, ◌<◌, ◌≤◌, min, List, [], ◌∷◌, length, slice_range, IsSome, Contains, Vec, nat_eq, Result, Ok, Err, IfOk, OnOk}
+use Rattle.std.specs.Prelude.{◌≡◌, ℕ, ◌+◌, ◌-◌, ◌*◌, ◌/◌, ◌%◌, ◌<◌, ◌≤◌, min, List, [], ◌∷◌, length, slice_range, IsSome, Contains, Vec, nat_eq, Result, Ok, Err, IfOk}
 use Rattle.std.specs.declared.alloc.Global.{Global}
 use Rattle.std.specs.Map.{lookup}
 use Rattle.x7_words.specs.Count.{HasRisen}
@@ -57,11 +57,14 @@ abbrev pub BlockReaches : ℕ → List ℕ → Loaded → Type 0
 BlockReaches place block Cached = Unit {0}
 BlockReaches place block (Read count) = place % page_size < length block
 
--- a call reads from where page `number` begins, at most as many bytes as the most pages that are read at once; the read
--- may have failed
+-- some bytes are read at once: one at least, and at most as many as the most pages that are read at once have
+abbrev pub IsReadLength : ℕ → Type 0
+IsReadLength bytes = (0 < bytes) × (bytes ≤ most_pages_at_once * page_size)
+
+-- a call reads some bytes from where page `number` begins; the read may have failed
 abbrev pub ReadsFromPage : ℕ → FlashCall → Type 0
-ReadsFromPage number (call.Read place bytes) = (place ≡ number * page_size) × (length bytes ≤ most_pages_at_once * page_size)
-ReadsFromPage number (call.ReadFailed place count) = (place ≡ number * page_size) × (count ≤ most_pages_at_once * page_size)
+ReadsFromPage number (call.Read place bytes) = (place ≡ number * page_size) × IsReadLength (length bytes)
+ReadsFromPage number (call.ReadFailed place count) = (place ≡ number * page_size) × IsReadLength count
 ReadsFromPage number other = ⊥
 
 -- one call at most, which reads from where page `number` begins
@@ -82,10 +85,17 @@ abbrev pub LoadsBy : ℕ → List ℕ → Loaded → List FlashCall → Type 0
 LoadsBy number block Cached calls = calls ≡ []
 LoadsBy number block (Read count) calls = calls ≡ call.Read (number * page_size) block ∷ []
 
--- reading a block from page `number` on called for one read at most, and where it succeeded, for one that gave the
--- block
+-- a read from a place on was called for, by how it ended: it gave the block, or failed for as many bytes; or there was
+-- no memory for the block, and no call
+abbrev pub ReadBy : {A : Type 0} → ℕ → List ℕ → Result A BootFault → List FlashCall → Type 0
+ReadBy place block (Ok a) calls = calls ≡ call.Read place block ∷ []
+ReadBy place block (Err Failed) calls = calls ≡ call.ReadFailed place (length block) ∷ []
+ReadBy place block (Err NoMemory) calls = calls ≡ []
+ReadBy place block (Err TooLarge) calls = ⊥
+
+-- reading a block from page `number` on called for one read at most, by how it ended
 abbrev pub BlockCalls : {A : Type 0} → ℕ → List ℕ → Result A BootFault → List FlashCall → Type 0
-BlockCalls number block result calls = ReadsOnce number calls × OnOk result (calls ≡ call.Read (number * page_size) block ∷ [])
+BlockCalls number block result calls = ReadsOnce number calls × ReadBy (number * page_size) block result calls
 
 -- loading page `number` called for one read at most, and where it succeeded, for what its answer says
 abbrev pub LoadCalls : ℕ → List ℕ → Result Loaded BootFault → List FlashCall → Type 0

@@ -3,6 +3,7 @@ ghost use Rattle.std.specs.Prelude.{◌≡◌, ◌<◌, ◌≤◌, ◌↔◌, []
 ghost use Rattle.x7_words.specs.Flash.{FlashFails, FlashState, IfKnown, OnlyReads};
 ghost use Rattle.x7_words.specs.Word.{AreBytes};
 ghost use Rattle.x7_engine.specs.Standing.{NoWordDue};
+ghost use Rattle.x7_boot.specs.BlockReads.{EndsBy, HasRead, HasReadBlocks};
 ghost use Rattle.x7_boot.specs.Boot.{BootsTo, BootedState, IsBoot, ReadsInBoot};
 ghost use Rattle.x7_boot.specs.Image.{flash_limit};
 ghost use Rattle.x7_boot.specs.Pages.{FaultsCounted};
@@ -126,11 +127,14 @@ fn try_all<F: Flash>(
     requires limit { (F.state flash.old).extent ≤ flash_limit }
     requires no_pages { pages.old.pages.entries ≡ [] }
     requires none_tried { attempts.old.items ≡ [] }
+    requires kept_pages { HasRead (answers_since first (F.state flash.old)) pages.old.pages }
     ensures booted { IfOk result (λ end. BootsTo device.old.part (answers_since first (F.state flash.new))
         (record { attempts = attempts.new.items; end = end; device = device.new })) }
     ensures called { HasCalled (ReadsInBoot device.old.part (answers_since first (F.state flash.new))) (F.state flash.old) (F.state flash.new) }
     ensures faults { FaultsCounted (F.state flash.old).faults (F.state flash.new).faults result }
     ensures only_reads { OnlyReads (F.state flash.old) (F.state flash.new) }
+    ensures blocks { HasReadBlocks (answers_since first (F.state flash.new)) }
+    ensures ends { EndsBy result (answers_since first (F.state flash.new)).calls }
 {
     let mut kept = AT_POWER;
     let mut address = 0;
@@ -166,6 +170,8 @@ fn boot_part<F: Flash>(alloc: Global, part: &Part, flash: &mut F) -> Result<Boot
     ensures called { HasCalled (ReadsInBoot part.now (answers_since (F.state flash.old) (F.state flash.new))) (F.state flash.old) (F.state flash.new) }
     ensures faults { FaultsCounted (F.state flash.old).faults (F.state flash.new).faults result }
     ensures only_reads { OnlyReads (F.state flash.old) (F.state flash.new) }
+    ensures blocks { HasReadBlocks (answers_since (F.state flash.old) (F.state flash.new)) }
+    ensures ends { EndsBy result (answers_since (F.state flash.old) (F.state flash.new)).calls }
 {
     let Ok(mut pages) = PageCache::new(alloc) else {
         return Err(BootFault::NoMemory);
@@ -189,6 +195,8 @@ pub fn boot<F: Flash>(alloc: Global, part: &Part, flash: &mut F) -> Result<Boote
     ensures as_read { IfOk result (λ booted. IfAgrees (answers_since (F.state flash.old) (F.state flash.new)) (λ all. AreBytes all → IsBoot part.now all booted)) }
     ensures booted { IfOk result (λ booted. IfKnown (F.state flash.old).bytes (λ all. AreBytes all → IsBoot part.now all booted)) }
     ensures called { HasCalled (ReadsInBoot part.now (answers_since (F.state flash.old) (F.state flash.new))) (F.state flash.old) (F.state flash.new) }
+    ensures blocks { HasReadBlocks (answers_since (F.state flash.old) (F.state flash.new)) }
+    ensures ends { EndsBy result (answers_since (F.state flash.old) (F.state flash.new)).calls }
     ensures part { IfOk result (λ booted. booted.device.part ≡ part.now) }
     ensures no_word_due { IfOk result (λ booted. NoWordDue booted.device) }
     ensures failed { IsErrOf result BootFault.Failed → FlashFails (F.state flash.old) (F.state flash.new) }

@@ -1,7 +1,9 @@
 //! The pages of a flash that were read or used last, so that none of them is read again.
-ghost use Rattle.std.specs.Prelude.{◌≡◌, ◌+◌, ◌*◌, ◌/◌, ◌%◌, ◌<◌, ◌≤◌, ℕ, None, [], length, true, nat_eq, IfOk, OnOk, IsSome};
+ghost use Rattle.std.specs.Prelude.{◌≡◌, ◌+◌, ◌*◌, ◌/◌, ◌%◌, ◌<◌, ◌≤◌, ◌⊎◌, ℕ, None, [], length, true, nat_eq, Contains, IfOk, OnOk, IsSome};
 ghost use Rattle.std.specs.Map.{lookup};
+ghost use Rattle.lru.specs.LruCache.{lru_cache};
 ghost use Rattle.x7_words.specs.Flash.{FlashState, OnlyReads};
+ghost use Rattle.x7_boot.specs.BlockReads.{AreAbsent, EndsBy, HasRead, HasReadBlocks, LoadsInto, TakesPages, kept_pages, numbers_of};
 ghost use Rattle.x7_boot.specs.Image.{flash_limit};
 ghost use Rattle.x7_boot.specs.Pages.{ArePages, FaultsCounted, HasPage, HoldsFrom, IsLoaded, IsRestOfPage, KeepsPages, LoadCalls, BlockReaches, EndsWithBlock, most_pages_at_once, page_size};
 ghost use Rattle.x7_boot.specs.Reads.{FlashAnswers, HasCalled, IsSince, answers_since};
@@ -50,7 +52,7 @@ impl Drop for PageCache {
 impl PageCache {
     /// A cache without pages.
     pub(crate) fn new(alloc: Global) -> Result<PageCache, AllocError>
-        ensures { IfOk result (λ cache. cache.pages.entries ≡ []) }
+        ensures { IfOk result (λ cache. cache.pages ≡ lru_cache [] kept_pages) }
     {
         let pages = LruCache::new(alloc, NonZeroUsize::new(KEPT_PAGES).unwrap())?;
         let block = Vec::with_capacity(alloc, (MOST_PAGES_AT_ONCE * PAGE_SIZE) as usize)?;
@@ -72,12 +74,17 @@ impl PageCache {
         requires attached { (F.state flash.old).attached ≡ true }
         requires within { number * page_size < (F.state flash.old).extent }
         requires limit { (F.state flash.old).extent ≤ flash_limit }
+        requires kept { HasRead (answers_since first (F.state flash.old)) self.old.pages }
         ensures pages { ArePages (answers_since first (F.state flash.new)) self.new.pages.entries }
         ensures there { OnOk result (IsSome (lookup (nat_eq number) self.new.pages.entries)) }
         ensures read { IfOk result (IsLoaded (answers_since first (F.state flash.new)) number self.new.block.items) }
         ensures called { HasCalled (LoadCalls number self.new.block.items result) (F.state flash.old) (F.state flash.new) }
         ensures faults { FaultsCounted (F.state flash.old).faults (F.state flash.new).faults result }
         ensures only_reads { OnlyReads (F.state flash.old) (F.state flash.new) }
+        ensures order { IfOk result (λ loaded. LoadsInto number loaded (numbers_of self.old.pages) (numbers_of self.new.pages)) }
+        ensures kept { OnOk result (HasRead (answers_since first (F.state flash.new)) self.new.pages) }
+        ensures blocks { HasReadBlocks (answers_since first (F.state flash.new)) }
+        ensures ends { EndsBy result (answers_since first (F.state flash.new)).calls }
     {
         if self.pages.promote(&number) {
             return Ok(Loaded::Cached);
@@ -99,6 +106,8 @@ impl PageCache {
         ensures most { result ≤ most_pages_at_once }
         ensures within { (page : ℕ) → page < number + result → page * page_size < size }
         ensures absent { (page : ℕ) → number < page → page < number + result → lookup (nat_eq page) self.now.pages.entries ≡ None }
+        ensures ends { (result ≡ most_pages_at_once)
+            ⊎ ((size ≤ (number + result) * page_size) ⊎ IsSome (lookup (nat_eq (number + result)) self.now.pages.entries)) }
     {
         for page in number + 1..number + MOST_PAGES_AT_ONCE {
             if page * PAGE_SIZE >= size || self.pages.contains(&page) {
@@ -114,8 +123,12 @@ impl PageCache {
         requires most { count ≤ most_pages_at_once }
         requires number { number ≤ flash_limit / page_size }
         requires within { count * page_size < length self.old.block.items + page_size }
+        requires absent { AreAbsent number count (numbers_of self.old.pages) }
+        requires room { 0 < self.old.pages.cap }
+        requires fits { length (numbers_of self.old.pages) ≤ self.old.pages.cap }
         ensures pages { KeepsPages self.old.block.items number count self.old.pages.entries self.new.pages.entries }
         ensures there { OnOk result (IsSome (lookup (nat_eq number) self.new.pages.entries)) }
+        ensures taken { OnOk result (TakesPages number count self.old.pages self.new.pages) }
         ensures block { self.new.block ≡ self.old.block }
     {
         let mut left = count;
@@ -132,8 +145,11 @@ impl PageCache {
         requires number { number ≤ flash_limit / page_size }
         requires index { index < most_pages_at_once }
         requires within { index * page_size < length self.old.block.items }
+        requires absent { Contains (numbers_of self.old.pages) (number + index) → ⊥ }
+        requires room { 0 < self.old.pages.cap }
         ensures pages { (count : ℕ) → index < count → KeepsPages self.old.block.items number count self.old.pages.entries self.new.pages.entries }
         ensures there { OnOk result (IsSome (lookup (nat_eq (number + index)) self.new.pages.entries)) }
+        ensures taken { OnOk result (TakesPages (number + index) 1 self.old.pages self.new.pages) }
         ensures block { self.new.block ≡ self.old.block }
     {
         let start = (index * PAGE_SIZE) as usize;

@@ -1,5 +1,5 @@
 //! An attempt over a flash: a device takes the flash's bytes, page by page.
-ghost use Rattle.std.specs.Prelude.{◌≡◌, ◌≤◌, ℕ, List, true, false, IfOk};
+ghost use Rattle.std.specs.Prelude.{◌≡◌, ◌≤◌, ℕ, List, true, false, IfOk, OnOk};
 ghost use Rattle.x7_regs.specs.declared.boot_status.Kind.TheVariants.{Bench};
 ghost use Rattle.x7_regs.specs.declared.boot_status.Cause.TheVariants.{Wrap};
 ghost use Rattle.x7_words.specs.Flash.{FlashState, OnlyReads};
@@ -8,6 +8,7 @@ ghost use Rattle.x7_part.specs.Part.{PartData};
 ghost use Rattle.x7_engine.specs.declared.kept.Kept.{Kept as KeptData};
 ghost use Rattle.x7_engine.specs.Standing.{DeviceStandsFor, MayWrap, NoWordDue, with_wrap};
 ghost use Rattle.x7_boot.specs.Attempt.{IsUnderWay, AttemptEnds, attempt_at};
+ghost use Rattle.x7_boot.specs.BlockReads.{EndsBy, HasRead, HasReadBlocks};
 ghost use Rattle.x7_boot.specs.Boot.{ReadsInAttempt};
 ghost use Rattle.x7_boot.specs.Image.{flash_limit};
 ghost use Rattle.x7_boot.specs.Pages.{ArePages, FaultsCounted};
@@ -56,6 +57,7 @@ pub(crate) fn try_once<F: Flash>(
     requires limit { (F.state flash.old).extent ≤ flash_limit }
     requires attached { (F.state flash.old).attached ≡ true }
     requires not_on_bench { kept.kind ≡ Bench → ⊥ }
+    requires kept_pages { HasRead (answers_since first (F.state flash.old)) pages.old.pages }
     ensures pages { ArePages (answers_since first (F.state flash.new)) pages.new.pages.entries }
     ensures tried { IfOk result (λ ending. IfAgrees (answers_since first (F.state flash.new)) (λ all. AreBytes all → AttemptEnds (attempt_at device.old.part kept address) all device.new ending)) }
     ensures called { HasCalled (ReadsInAttempt (attempt_at device.old.part kept address) (answers_since first (F.state flash.new))) (F.state flash.old) (F.state flash.new) }
@@ -63,6 +65,9 @@ pub(crate) fn try_once<F: Flash>(
     ensures no_word_due { IfOk result (λ ending. NoWordDue device.new) }
     ensures faults { FaultsCounted (F.state flash.old).faults (F.state flash.new).faults result }
     ensures only_reads { OnlyReads (F.state flash.old) (F.state flash.new) }
+    ensures kept_pages { OnOk result (HasRead (answers_since first (F.state flash.new)) pages.new.pages) }
+    ensures blocks { HasReadBlocks (answers_since first (F.state flash.new)) }
+    ensures ends { EndsBy result (answers_since first (F.state flash.new)).calls }
 {
     let size = flash.size();
     begin(device, kept, address);

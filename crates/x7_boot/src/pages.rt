@@ -1,8 +1,8 @@
 //! Reading a flash by pages.
-ghost use Rattle.std.specs.Prelude.{◌≡◌, ◌*◌, ◌<◌, ◌≤◌, true, OnOk};
+ghost use Rattle.std.specs.Prelude.{◌≡◌, ◌-◌, ◌*◌, ◌<◌, ◌≤◌, length, true, IsErrOf, OnOk};
 ghost use Rattle.x7_words.specs.Flash.{OnlyReads};
 ghost use Rattle.x7_boot.specs.Image.{flash_limit};
-ghost use Rattle.x7_boot.specs.Pages.{IsBlock, BlockCalls, FaultsCounted, most_pages_at_once, page_size};
+ghost use Rattle.x7_boot.specs.Pages.{IsBlock, BlockCalls, FaultsCounted, block_end, most_pages_at_once, page_size};
 ghost use Rattle.x7_boot.specs.Reads.{HasCalled, answers_since};
 
 use crate::fault::BootFault;
@@ -24,10 +24,12 @@ pub(crate) fn read_block<F: Flash>(
 ) -> Result<(), BootFault>
     requires attached { (F.state flash.old).attached ≡ true }
     requires within { number * page_size < (F.state flash.old).extent }
+    requires some { 0 < count }
     requires count { count ≤ most_pages_at_once }
     requires limit { (F.state flash.old).extent ≤ flash_limit }
     ensures read { OnOk result (IsBlock (answers_since (F.state flash.old) (F.state flash.new)) number count block.new.items) }
     ensures called { HasCalled (BlockCalls number block.new.items result) (F.state flash.old) (F.state flash.new) }
+    ensures failed_length { IsErrOf result BootFault.Failed → length block.new.items ≡ block_end number count (F.state flash.old).extent - number * page_size }
     ensures faults { FaultsCounted (F.state flash.old).faults (F.state flash.new).faults result }
     ensures only_reads { OnlyReads (F.state flash.old) (F.state flash.new) }
 {

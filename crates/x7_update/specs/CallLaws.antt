@@ -44,18 +44,21 @@ VerifiesBeforeOpening size first_sector stream =
     (place : ℕ) → update_place first_sector ≤ place → place < size
     → WasRead place (wanted_at (update_place first_sector) stream place) (calls_to_open size first_sector stream (target_in first_sector))
 
--- all of an update with a stream of bytes was done, and a flash that gives what it holds may have answered so: it held
--- `flash` before, and holds `now`
-pub record GaveAllUpdate (stream flash now : List ℕ) (old new : FlashHistory) : Type 0 where
+-- what a flash held before an update, and what it holds now
+pub record HeldBytes : Type 0 where
+  pub before : List ℕ
+  pub now : List ℕ
+
+-- all of an update with a stream of bytes was done, and a flash that gives what it holds may have answered so
+pub record GaveAllUpdate (stream : List ℕ) (held : HeldBytes) (old new : FlashHistory) : Type 0 where
   pub bytes : AreBytes stream
   pub updated : HasUpdated stream old new
-  pub size : length flash ≡ old.size
-  pub gave : IsHistory (update_calls old.size updated.first_sector stream) flash now
+  pub size : length held.before ≡ old.size
+  pub gave : IsHistory (update_calls old.size updated.first_sector stream) held.before held.now
 
--- an update with a stream of bytes was stopped by a fault, and a flash that gives what it holds may have answered so: it
--- held `flash` before, and holds `now`
-pub record GaveUpToStop (stream flash now : List ℕ) (old new : FlashHistory) (fault : UpdateFault) : Type 0 where
+-- an update with a stream of bytes was stopped by a fault, and a flash that gives what it holds may have answered so
+pub record GaveUpToStop (stream : List ℕ) (held : HeldBytes) (old new : FlashHistory) (fault : UpdateFault) : Type 0 where
   pub bytes : AreBytes stream
   pub stopped : HasStopped stream old new fault
-  pub size : length flash ≡ old.size
-  pub gave : IsHistory (Read 0 stopped.first_sector ∷ (stopped.stops.before ++ stopped.stops.call ∷ [])) flash now
+  pub size : length held.before ≡ old.size
+  pub gave : IsHistory (Read 0 stopped.first_sector ∷ (stopped.stops.before ++ stopped.stops.call ∷ [])) held.before held.now

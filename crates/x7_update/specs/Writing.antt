@@ -1,5 +1,5 @@
 -- What the steps of an update do to the flash, and what they compare (this project's choice).
-use Rattle.std.specs.Prelude.{◌≡◌, ◌≢◌, ℕ, ◌+◌, ◌-◌, ◌*◌, ◌%◌, ◌<◌, ◌≤◌, ◌⊎◌, IsTrue, List, length, get_or, Option, Some, None, nat_lt, if◌then◌else◌, true, false}
+use Rattle.std.specs.Prelude.{◌≡◌, ◌≢◌, ℕ, ◌+◌, ◌-◌, ◌*◌, ◌<◌, ◌≤◌, ◌⊎◌, IsTrue, List, length, get_or, Option, Some, None, nat_lt, if◌then◌else◌, true, false}
 use Rattle.x7_words.specs.Flash.{erased_byte, names_asked, BecomesBytes, FlashFails, FlashState, OnlyReads, OnlyWrites, WriteFails}
 use Rattle.x7_words.specs.FlashHistory.{FollowsCalls}
 use Rattle.x7_packets.specs.FlashSlot.{sector_size, flash_slot_size, flash_slot_count}
@@ -42,11 +42,11 @@ pub record CanSwitch (state : FlashState) (slot : ℕ) : Type 0 where
   pub among : slot < flash_slot_count
   pub within : flash_slot_size * slot + switch_size ≤ state.extent
 
--- all from a place on can be erased: the flash is attached, and whole sectors are before the place and up to the end
-pub record CanEraseFrom (state : FlashState) (place : ℕ) : Type 0 where
+-- all from a place on can be written: the flash is attached and of a good size, and an update may stand at the place
+pub record CanWriteFrom (state : FlashState) (place : ℕ) : Type 0 where
   pub attached : state.attached ≡ true
-  pub size : state.extent % sector_size ≡ 0
-  pub begins : place % sector_size ≡ 0
+  pub size : IsUpdatableSize state.extent
+  pub stands : CanStandAt state.extent place
 
 -- nothing of the flash below the place has changed
 pub record KeepsBelow (place : ℕ) (old found : List ℕ) : Type 0 where

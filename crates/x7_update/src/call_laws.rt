@@ -2,7 +2,7 @@
 ghost use Rattle.std.specs.Prelude.{◌≡◌, ℕ, List, [], ◌∷◌, Some, length, slice_range};
 ghost use Rattle.x7_packets.specs.FlashSlot.{flash_slot_count};
 ghost use Rattle.x7_update.specs.After.{IsAfterUpdate};
-ghost use Rattle.x7_update.specs.CallLaws.{GaveAllUpdate, GaveUpToStop, LeavesWithinCalls, TakesUpdate, VerifiesBeforeOpening, WritesOnceAbove, WritesSwitchesBelow};
+ghost use Rattle.x7_update.specs.CallLaws.{GaveAllUpdate, GaveUpToStop, HeldBytes, LeavesWithinCalls, TakesUpdate, VerifiesBeforeOpening, WritesOnceAbove, WritesSwitchesBelow};
 ghost use Rattle.x7_update.specs.Layout.{open_switch, spent_switch, update_place};
 ghost use Rattle.x7_words.specs.declared.flash_call.FlashCall.TheVariants.{Read, Erased, Programmed};
 ghost use Rattle.x7_words.specs.FlashHistory.{IsHistory, FlashHistory};
@@ -31,9 +31,10 @@ pub fn update_calls_write_once()
 /// Of a flash that gives what it holds: where an update ends well it is the updated flash, and no byte that is read to
 /// verify an update differs from the one written.
 pub fn honest_flashes_are_updated()
-    ensures becomes { (stream flash now : List ℕ) (old new : FlashHistory) → GaveAllUpdate stream flash now old new → IsAfterUpdate stream flash now }
-    ensures never_differs { (stream flash now : List ℕ) (old new : FlashHistory) (place wrote read : ℕ)
-        → GaveUpToStop stream flash now old new (Differs place wrote read) → ⊥ }
+    ensures becomes { (stream : List ℕ) (held : HeldBytes) (old new : FlashHistory)
+        → GaveAllUpdate stream held old new → IsAfterUpdate stream held.before held.now }
+    ensures never_differs { (stream : List ℕ) (held : HeldBytes) (old new : FlashHistory) (place wrote read : ℕ)
+        → GaveUpToStop stream held old new (Differs place wrote read) → ⊥ }
 {}
 
 /// The calls of an update with a stream of a flash of three sectors, whose slot 0 is open and slot 1 the next.

@@ -4,6 +4,7 @@ use Rattle.x7_words.specs.Word.{AreBytes}
 use Rattle.x7_regs.specs.declared.boot_status.Kind.TheVariants.{Bench}
 use Rattle.x7_engine.specs.Kept.{is_fallback}
 use Rattle.x7_boot.specs.Attempt.{attempt_at}
+use Rattle.x7_boot.specs.BlockReads.{HasRead}
 use Rattle.x7_boot.specs.Boot.{HasLedTo, ReadsInAttempts, most_iprogs}
 use Rattle.x7_boot.specs.Pages.{ArePages}
 use Rattle.x7_boot.specs.Reads.{HasCalled, IfAgrees, IsSince, answers_since}
@@ -20,6 +21,7 @@ invariant-attempts g l =
       number : l.number ≤ most_iprogs;
       room : is_fallback l.kept.kind ≡ false → l.number < most_iprogs;
       pages : ArePages answers l.pages.pages.entries;
+      read : HasRead answers l.pages.pages;
       since : IsSince g.first (f.state l.flash);
       called : HasCalled (ReadsInAttempts l.fn.device.part answers l.number) (f.state l.fn.flash) (f.state l.flash);
       no_fault : (f.state l.flash).faults ≡ (f.state l.fn.flash).faults;

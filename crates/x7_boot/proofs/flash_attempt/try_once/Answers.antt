@@ -1,10 +1,13 @@
 use Rattle.std.proofs.Common.{ℕ, subst, ◌+◌, length, sym, refl, rules, ◌∙◌, arith}
 use Rattle.x7_words.proofs.FlashLemmas.{reads_at, reads_on}
+use Rattle.x7_boot.specs.declared.attempt.Ending.{Ending}
+use Rattle.x7_boot.specs.declared.cache.Loaded.{Loaded}
 use Rattle.x7_boot.specs.Attempt.{IsUnderWay, attempt_at}
 use Rattle.x7_boot.specs.Pages.{FaultsCounted}
 use Rattle.x7_boot.specs.Reads.{answers_since}
 use Rattle.x7_boot.proofs.PageLemmas.{from_limited, reaches}
 use Rattle.x7_boot.proofs.FlashAttemptLemmas.{ReadsSoFar, ends_here, feeds_later, feeds_on, feeds_ready, load_ends, load_goes, reads_so_far, stops_here, tries_ended, tries_out, tries_stopped}
+use Rattle.x7_boot.proofs.BlockLemmas.{ends_on}
 use Rattle.x7_boot.proofs.ReadLemmas.{called_none, later_on, since_on}
 use Rattle.x7_boot.proofs.flash_attempt.try_once.Goals as goal
 
@@ -15,6 +18,7 @@ pages-init g c =
     record {
       feeds = subst (λ (n : ℕ). IsUnderWay a (answers_since g.first now) c.begin.new.device n) (sym c.from-place.ensures) (c.begin.ensures (answers_since g.first now));
       kept = c.requires.1.0;
+      read = c.requires.1.1.1.1.1.1;
       since = c.requires.1.1.0;
       called = called_none (ReadsSoFar a (answers_since g.first now) c.from-place.result) now (0, λ inside. omega arith, omega arith);
       no_fault = refl;
@@ -23,7 +27,7 @@ pages-init g c =
     }
 
 pub run_out-requires : goal.run_out-requires
-run_out-requires g c = let f = c.pages.invariant.feeds in ends_here c.args.device.now.part c.args.kept c.pages.device f.bytes c.requires.1.1.1.1.1 f.stands f.not_ended f.due
+run_out-requires g c = let f = c.pages.invariant.feeds in ends_here c.args.device.now.part c.args.kept c.pages.device f.bytes c.requires.1.1.1.1.1.0 f.stands f.not_ended f.due
 
 pub returns-then-place-size-clause-tried : goal.returns-then-place-size-clause-tried
 returns-then-place-size-clause-tried g c = λ all agrees fits.
@@ -45,6 +49,7 @@ pages-preserved g c =
     record {
       feeds = feeds_on c.args.device.now.part c.args.kept c.args.address latest c.pages.device c.take_page.new.device c.bytes_from-bytes.result.now c.pages.place (c.pages.place + length c.bytes_from-bytes.result.now) c.take_page.result refl f from.bytes_are t c.in-GoesOn.is;
       kept = c.load.ensures.pages;
+      read = c.in_ok-loaded.ensures.kept;
       since = since_on g.first (s c.pages.flash) (s c.load.new.flash) i.since c.load.ensures.called;
       called = load_goes c.args.device.now.part c.args.kept c.args.address g.first (s c.args.flash.now) (s c.pages.flash) (s c.load.new.flash) c.pages.device c.pages.place i.since i.flash.bytes c.load.ensures.only_reads.extent i.feeds (omega (arith, c.if-place-size.false, i.size)) c.load.new.self.block.items i.called c.in_ok-loaded.loaded c.bytes_from-bytes.result.now c.in_ok-loaded.ensures.called c.in_ok-loaded.ensures.read c.bytes_from-bytes.ensures.ends;
       no_fault = c.in_ok-loaded.ensures.faults ∙ i.no_fault;
@@ -79,7 +84,7 @@ returns-in-Stops-clause-tried g c =
 pub run_out-requires-in-Stops : goal.run_out-requires-in-Stops
 run_out-requires-in-Stops g c =
     let f = c.pages.invariant.feeds in
-    stops_here c.args.device.now.part c.args.kept c.take_page.new.device f.bytes c.bytes_from-bytes.result.now c.take_page.result c.requires.1.1.1.1.1 (c.take_page.ensures c.args.device.now.part c.args.kept f.bytes f.stands f.going f.not_ended) c.in-Stops.is
+    stops_here c.args.device.now.part c.args.kept c.take_page.new.device f.bytes c.bytes_from-bytes.result.now c.take_page.result c.requires.1.1.1.1.1.0 (c.take_page.ensures c.args.device.now.part c.args.kept f.bytes f.stands f.going f.not_ended) c.in-Stops.is
 
 pub take_page-requires : goal.take_page-requires
 take_page-requires g c =
@@ -156,3 +161,39 @@ returns-in-Stops-clause-called g c =
 
 pub returns-in-Stops-clause-only_reads : goal.returns-in-Stops-clause-only_reads
 returns-in-Stops-clause-only_reads g c = reads_on _ _ _ c.pages.invariant.flash c.in_ok-loaded.ensures.only_reads
+
+-- ---- the blocks that were read
+
+pub returns-then-place-size-clause-kept_pages : goal.returns-then-place-size-clause-kept_pages
+returns-then-place-size-clause-kept_pages g c = c.pages.invariant.read
+
+pub returns-then-place-size-clause-blocks : goal.returns-then-place-size-clause-blocks
+returns-then-place-size-clause-blocks g c = let i = c.pages.invariant in i.read.blocks
+
+pub returns-then-place-size-clause-ends : goal.returns-then-place-size-clause-ends
+returns-then-place-size-clause-ends g c = let i = c.pages.invariant in i.read.good
+
+pub returns-in-Ends-clause-kept_pages : goal.returns-in-Ends-clause-kept_pages
+returns-in-Ends-clause-kept_pages g c = c.in_ok-loaded.ensures.kept
+
+pub returns-in-Ends-clause-blocks : goal.returns-in-Ends-clause-blocks
+returns-in-Ends-clause-blocks g c = c.load.ensures.blocks
+
+pub returns-in-Ends-clause-ends : goal.returns-in-Ends-clause-ends
+returns-in-Ends-clause-ends g c = let kept = c.in_ok-loaded.ensures.kept in kept.good
+
+pub returns-in-Stops-clause-kept_pages : goal.returns-in-Stops-clause-kept_pages
+returns-in-Stops-clause-kept_pages g c = c.in_ok-loaded.ensures.kept
+
+pub returns-in-Stops-clause-blocks : goal.returns-in-Stops-clause-blocks
+returns-in-Stops-clause-blocks g c = c.load.ensures.blocks
+
+pub returns-in-Stops-clause-ends : goal.returns-in-Stops-clause-ends
+returns-in-Stops-clause-ends g c = let kept = c.in_ok-loaded.ensures.kept in kept.good
+
+pub returns-in_err-loaded-clause-blocks : goal.returns-in_err-loaded-clause-blocks
+returns-in_err-loaded-clause-blocks g c = c.load.ensures.blocks
+
+pub returns-in_err-loaded-clause-ends : goal.returns-in_err-loaded-clause-ends
+returns-in_err-loaded-clause-ends g c =
+    ends_on Loaded Ending c.from_residual.result c.in_err-loaded.field-0.0 (answers_since g.first (g.F.Flash.state c.load.new.flash)).calls c.from_residual.ensures c.in_err-loaded.ensures.ends

@@ -1,6 +1,7 @@
 use Rattle.std.proofs.Common.{◌≡◌, ◌-◌}
 use Rattle.x7_words.specs.Flash.{OnlyReads}
 use Rattle.x7_boot.specs.Attempt.{IsUnderWay, attempt_at}
+use Rattle.x7_boot.specs.BlockReads.{HasRead}
 use Rattle.x7_boot.specs.Pages.{ArePages}
 use Rattle.x7_boot.specs.Reads.{HasCalled, IsSince, answers_since}
 use Rattle.x7_boot.proofs.FlashAttemptLemmas.{ReadsSoFar}
@@ -13,6 +14,7 @@ invariant-pages g l =
     record {
       feeds : IsUnderWay a (answers_since g.first (f.state l.flash)) l.device l.place;
       kept : ArePages (answers_since g.first (f.state l.flash)) l.pages.pages.entries;
+      read : HasRead (answers_since g.first (f.state l.flash)) l.pages.pages;
       since : IsSince g.first (f.state l.flash);
       called : HasCalled (ReadsSoFar a (answers_since g.first (f.state l.flash)) l.place) (f.state l.fn.flash) (f.state l.flash);
       no_fault : (f.state l.flash).faults ≡ (f.state l.fn.flash).faults;

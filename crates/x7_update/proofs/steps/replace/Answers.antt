@@ -1,4 +1,4 @@
-use Rattle.std.proofs.Common.{◌∙◌, arith, ◌≡◌, ◌/◌, [], ◌∷◌, ◌++◌, OnOk, OnErr, ap, sym, subst}
+use Rattle.std.proofs.Common.{◌∙◌, arith, ◌≡◌, ℕ, ◌/◌, [], ◌∷◌, ◌++◌, OnOk, OnErr, ap, sym, subst}
 use Rattle.x7_packets.specs.FlashSlot.{sector_size}
 use Rattle.x7_words.specs.FlashHistory.{FlashHistory, with_calls, history_of}
 use Rattle.x7_words.specs.declared.flash_call.FlashCall.TheVariants.{Programmed}
@@ -17,15 +17,13 @@ pub write_stream-requires-clause-from : goal.write_stream-requires-clause-from
 write_stream-requires-clause-from g c =
     let found = c.requires.found in
     let only = c.spend_open_slot.ensures.writes.only in
-    record { attached = only.attached ∙ found.attached; size = omega (arith, only.extent, found.fits.sized.whole); begins = found.fits.place.whole }
+    record {
+      attached = only.attached ∙ found.attached;
+      size = subst IsUpdatableSize (sym only.extent) found.fits.sized;
+      stands = subst (λ (n : ℕ). CanStandAt n c.args.target.place) (sym only.extent) found.fits.place;
+    }
 
 -- ---- calls
-
-pub write_stream-requires-clause-size : goal.write_stream-requires-clause-size
-write_stream-requires-clause-size g c = subst IsUpdatableSize (sym (ap (λ (h : FlashHistory). h.size) c.in_ok-spend_open_slot.ensures.spent_calls)) c.requires.found.fits.sized
-
-pub write_stream-requires-clause-place : goal.write_stream-requires-clause-place
-write_stream-requires-clause-place g c = subst (λ n. CanStandAt n c.args.target.place) (sym (ap (λ (h : FlashHistory). h.size) c.in_ok-spend_open_slot.ensures.spent_calls)) c.requires.found.fits.place
 
 pub write_stream-requires-clause-within : goal.write_stream-requires-clause-within
 write_stream-requires-clause-within g c = let same = ap (λ (h : FlashHistory). h.size) c.in_ok-spend_open_slot.ensures.spent_calls in omega (arith, same, c.requires.stream)

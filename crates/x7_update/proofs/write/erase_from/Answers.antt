@@ -62,6 +62,6 @@ pub returns-clause-erased_calls : goal.returns-clause-erased_calls
 returns-clause-erased_calls g c =
     let first = history_of (g.F.Flash.state c.args.flash.now) in
     let from = c.args.place / sector_size in
-    let stands = c.requires.place in
+    let stands = c.requires.from.stands in
     let count : c.loop-sector.sector - from ≡ sectors_from c.args.place first.size = omega (arith, c.size-sector-end.ensures.extent, stands.most) in
     c.loop-sector.invariant.made ∙ ap (λ n. with_calls first (erasing from n)) count

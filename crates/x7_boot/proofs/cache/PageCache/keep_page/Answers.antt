@@ -3,6 +3,7 @@ use Rattle.std.specs.Map.{lookup}
 use Rattle.std.specs.declared.alloc.Global.{Global}
 use Rattle.lru.specs.LruCache.{LruCache}
 use Rattle.x7_boot.specs.Pages.{page_size}
+use Rattle.x7_boot.proofs.BlockLemmas.{takes_one}
 use Rattle.x7_boot.proofs.PageLemmas.{pages_split, there_put}
 use Rattle.x7_boot.proofs.cache.PageCache.keep_page.Goals as goal
 
@@ -27,3 +28,9 @@ pub returns-in-Ok-None-clause-there : goal.returns-in-Ok-None-clause-there
 returns-in-Ok-None-clause-there c =
     subst (λ (k : LruCache ℕ (Vec ℕ Global)). IsSome (lookup (nat_eq (c.args.number + c.args.index)) k.entries)) (sym c.in-Ok-None.ensures.entries)
     (there_put c.args.self.now.pages (c.args.number + c.args.index) c.extend_from_slice.new.self)
+
+pub returns-in-Ok-Some-clause-taken : goal.returns-in-Ok-Some-clause-taken
+returns-in-Ok-Some-clause-taken c = takes_one (c.args.number + c.args.index) c.args.self.now.pages c.push.new.self c.extend_from_slice.new.self c.requires.room c.requires.absent c.in-Ok-Some.ensures.entries
+
+pub returns-in-Ok-None-clause-taken : goal.returns-in-Ok-None-clause-taken
+returns-in-Ok-None-clause-taken c = takes_one (c.args.number + c.args.index) c.args.self.now.pages c.push.new.self c.extend_from_slice.new.self c.requires.room c.requires.absent c.in-Ok-None.ensures.entries
