@@ -4,21 +4,21 @@ use Rattle.std.proofs.Common.{◌≡◌, ◌<◌, ◌≤◌, ℕ, List, Option, 
 use Rattle.x7_svf.specs.Token.{tokens, token_size}
 use Rattle.x7_svf.specs.Reading.{PassesBlanks, ReadsOn, StepsOver}
 use Rattle.x7_svf.specs.Source.{SourceState, left_after, tokens_left}
-use Rattle.x7_svf.specs.Span.{StaysKept}
+use Rattle.x7_svf.specs.Span.{StaysSaved}
 use Rattle.x7_svf.specs.Svf.{tokens_after_end}
 use Rattle.x7_svf.specs.declared.token.NextToken.{NextToken}
 use Rattle.x7_svf.proofs.SpanLemmas.{all_stays, prefix_on}
 
 pub reads_none : (a : SourceState) → ReadsOn a a
 reads_none a = record {
-  prefix = all_stays a.kept a.kept refl;
+  prefix = all_stays a.saved a.saved refl;
   after = refl;
   passed = omega arith;
 }
 
 pub reads_both : (a b c : SourceState) → ReadsOn a b → ReadsOn b c → ReadsOn a c
 reads_both a b c f g = record {
-  prefix = prefix_on a.kept b.kept c.kept f.prefix g.prefix;
+  prefix = prefix_on a.saved b.saved c.saved f.prefix g.prefix;
   after = f.after ∙ g.after;
   passed = omega (arith, f.passed, g.passed);
 }
@@ -30,14 +30,14 @@ left_stepped b c t g = sym (λ i. tokens (g.line i) (g.rest i))
 -- a token of the statement, after blanks
 pub reads_token : (a b c : SourceState) (t : NextToken) → PassesBlanks a b → tokens_after_end (tokens_left a) ≡ tokens_after_end (left_after b t) → StepsOver (token_size t) b c → ReadsOn a c
 reads_token a b c t f after g = record {
-  prefix = subst (λ (k : List ℕ). StaysKept k c.kept) f.kept g.prefix;
+  prefix = subst (λ (k : List ℕ). StaysSaved k c.saved) f.saved g.prefix;
   after = after ∙ ap tokens_after_end (left_stepped b c t g);
   passed = omega (arith, f.passed, ap length g.rest, length-drop (token_size t) b.rest);
 }
 
 pub steps_skipped : (count : ℕ) (b c : SourceState) → c ≡ record b { rest = drop count b.rest } → StepsOver count b c
 steps_skipped count b c e = record {
-  prefix = all_stays b.kept c.kept (ap (λ (s : SourceState). s.kept) e);
+  prefix = all_stays b.saved c.saved (ap (λ (s : SourceState). s.saved) e);
   line = ap (λ (s : SourceState). s.line) e;
   rest = ap (λ (s : SourceState). s.rest) e;
 }

@@ -1,4 +1,4 @@
--- Bytes that are kept at the beginning of a text.
+-- Bytes that are saved at the beginning of a text.
 use Rattle.std.proofs.Common.{◌≡◌, ℕ, ◌+◌, ◌-◌, ◌≤◌, List, ◌++◌, length, take, drop, ap, sym, ◌∙◌, length-append, length-drop, arith}
 use Rattle.std.proofs.lemmas.List.{drop-drop, length-take-le, take_at}
 use Rattle.std.proofs.lemmas.Slice.{drop-append-drop}
@@ -18,8 +18,8 @@ module _ (xs : List ℕ) (k at n : ℕ) where
   shape : copy_within xs at (at + n) k ≡ copied ++ drop (k + n) xs
   shape = let count : at + n - at ≡ n = omega arith in ap (λ (m : ℕ). take k xs ++ take m (drop at xs) ++ drop (k + m) xs) count
 
-  pub kept_more : k ≤ at → at + n ≤ length xs → take (k + n) (copy_within xs at (at + n) k) ≡ copied
-  kept_more l w = ap (take (k + n)) shape ∙ take_at copied (drop (k + n) xs) (k + n) (copied_long l w)
+  pub saved_more : k ≤ at → at + n ≤ length xs → take (k + n) (copy_within xs at (at + n) k) ≡ copied
+  saved_more l w = ap (take (k + n)) shape ∙ take_at copied (drop (k + n) xs) (k + n) (copied_long l w)
 
   pub rest_same : k ≤ at → at + n ≤ length xs → drop (at + n) (copy_within xs at (at + n) k) ≡ drop n (drop at xs)
   rest_same l w =

@@ -1,37 +1,37 @@
--- What is kept stays where more is kept.
+-- What is saved stays where more is saved.
 use Rattle.std.specs.Prelude.{IfSome}
 use Rattle.std.proofs.Common.{◌≡◌, inl, inr, ℕ, ◌+◌, ◌-◌, ◌≤◌, List, [], ◌∷◌, length, take, drop, ◌++◌, Option, Some, None, refl, ap, sym, subst, ◌∙◌, arith}
 use Rattle.std.proofs.lemmas.Bool.{cases_lt}
 use Rattle.std.proofs.lemmas.List.{drop-take, take-append-le, take-take, take_all}
 use Rattle.x7_svf.specs.Bits.{bits_of}
 use Rattle.x7_svf.specs.Fields.{bits_if}
-use Rattle.x7_svf.specs.Span.{AreWordsWithin, StaysKept, bytes_in, digits_if, span_end_if, span_end, words_kept}
+use Rattle.x7_svf.specs.Span.{AreWordsWithin, StaysSaved, bytes_in, digits_if, span_end_if, span_end, words_saved}
 use Rattle.x7_svf.specs.Stored.{AreStoredWithin, IsStored, IsStoredWithin, statement_in, statements_in, stored_if}
 use Rattle.x7_svf.specs.declared.span.Span.{Span}
 use Rattle.x7_svf.specs.declared.statement.Statement.{Statement}
 use Rattle.x7_svf.specs.declared.statement.Statement.TheVariants as statement
 use Rattle.x7_svf.specs.declared.stored.StoredStatement.{StoredStatement}
 use Rattle.x7_svf.specs.declared.stored.StoredStatement.TheVariants as stored
-use Rattle.x7_svf.specs.declared.words.KeptWords.{KeptWords}
-use Rattle.x7_svf.specs.declared.words.KeptWords.TheVariants as words
+use Rattle.x7_svf.specs.declared.words.SavedWords.{SavedWords}
+use Rattle.x7_svf.specs.declared.words.SavedWords.TheVariants as words
 
-pub prefix_long : (a b : List ℕ) → StaysKept a b → length a ≤ length b
+pub prefix_long : (a b : List ℕ) → StaysSaved a b → length a ≤ length b
 prefix_long a b f = elim (cases_lt (length b) (length a)) [
   | inl l ↦ omega (arith, ap length (sym (take_all (length a) b (omega (arith, l))) ∙ f))
   | inr l ↦ omega (arith, l)
 ]
 
--- what is kept stays where nothing more is kept, and where more is put after it
-pub all_stays : (a b : List ℕ) → b ≡ a → StaysKept a b
-all_stays a b e = subst (λ (x : List ℕ). StaysKept a x) (sym e) (take_all (length a) a (omega arith))
+-- what is saved stays where nothing more is saved, and where more is put after it
+pub all_stays : (a b : List ℕ) → b ≡ a → StaysSaved a b
+all_stays a b e = subst (λ (x : List ℕ). StaysSaved a x) (sym e) (take_all (length a) a (omega arith))
 
-pub more_stays : (a b more : List ℕ) → b ≡ a ++ more → StaysKept a b
+pub more_stays : (a b more : List ℕ) → b ≡ a ++ more → StaysSaved a b
 more_stays a b more e = ap (take (length a)) e ∙ take-append-le (length a) a more (omega arith) ∙ take_all (length a) a (omega arith)
 
-pub prefix_on : (a b c : List ℕ) → StaysKept a b → StaysKept b c → StaysKept a c
+pub prefix_on : (a b c : List ℕ) → StaysSaved a b → StaysSaved b c → StaysSaved a c
 prefix_on a b c f g = sym (take-take (length a) (length b) c (prefix_long a b f)) ∙ ap (take (length a)) g ∙ f
 
-module _ (a b : List ℕ) (f : StaysKept a b) where
+module _ (a b : List ℕ) (f : StaysSaved a b) where
   pub bytes_stay : (s : Span) → span_end s ≤ length a → bytes_in b s ≡ bytes_in a s
   bytes_stay s w =
       let m : ℕ = length a - s.from in
@@ -43,7 +43,7 @@ module _ (a b : List ℕ) (f : StaysKept a b) where
   option_stays None w = refl
   option_stays (Some s) w = ap Some (bytes_stay s w)
 
-  pub words_stay : (ws : KeptWords) → AreWordsWithin (length a) ws → words_kept b ws ≡ words_kept a ws
+  pub words_stay : (ws : SavedWords) → AreWordsWithin (length a) ws → words_saved b ws ≡ words_saved a ws
   words_stay words.None w = refl
   words_stay (words.One p) w = ap (λ (x : List ℕ). x ∷ []) (bytes_stay p w)
   words_stay (words.Two p q) w = λ i. bytes_stay p w.0 i ∷ bytes_stay q w.1 i ∷ []
@@ -72,14 +72,14 @@ pub all_stored_more : (n m : ℕ) (ss : List StoredStatement) → n ≤ m → Ar
 all_stored_more n m [] l w = w
 all_stored_more n m (s ∷ ss) l w = (stored_more n m s l w.0, all_stored_more n m ss l w.1)
 
-pub words_more : (n m : ℕ) (ws : KeptWords) → n ≤ m → AreWordsWithin n ws → AreWordsWithin m ws
+pub words_more : (n m : ℕ) (ws : SavedWords) → n ≤ m → AreWordsWithin n ws → AreWordsWithin m ws
 words_more n m words.None l w = w
 words_more n m (words.One p) l w = omega (arith, l, w)
 words_more n m (words.Two p q) l w = (omega (arith, l, w.0), omega (arith, l, w.1))
 words_more n m (words.Three p q r) l w = (omega (arith, l, w.0), omega (arith, l, w.1), omega (arith, l, w.2))
 words_more n m (words.Four p q r s) l w = (omega (arith, l, w.0), omega (arith, l, w.1), omega (arith, l, w.2), omega (arith, l, w.3))
 
--- what is stored where nothing is kept is stored anywhere
-pub stored_anywhere : (kept : List ℕ) (o : Option StoredStatement) (s : Option Statement) → stored_if [] o ≡ s → IfSome o (IsStoredWithin 0) → IsStored kept o s
-stored_anywhere kept None s e w = (e, w)
-stored_anywhere kept (Some x) s e w = (ap Some (statement_stays [] kept refl x w) ∙ e, stored_more 0 (length kept) x (omega arith) w)
+-- what is stored where nothing is saved is stored anywhere
+pub stored_anywhere : (saved : List ℕ) (o : Option StoredStatement) (s : Option Statement) → stored_if [] o ≡ s → IfSome o (IsStoredWithin 0) → IsStored saved o s
+stored_anywhere saved None s e w = (e, w)
+stored_anywhere saved (Some x) s e w = (ap Some (statement_stays [] saved refl x w) ∙ e, stored_more 0 (length saved) x (omega arith) w)

@@ -1,4 +1,4 @@
--- The words after a keyword, one by one; no statement whose words are kept has more than four.
+-- The words after a keyword, one by one; no statement whose words are saved has more than four.
 use Rattle.std.proofs.Common.{◌≡◌, ℕ, ◌||◌, ◌≤◌, Bool, true, false, if◌then◌else◌, List, [], ◌∷◌, ◌++◌, length, take, Option, Some, None, codes, refl, ap, sym, ◌∙◌, append_assoc, append-nil, arith}
 use Rattle.std.specs.Char.{to_ascii_lowercase}
 use Rattle.std.specs.List.{list_all}
@@ -7,15 +7,15 @@ use Rattle.std.proofs.lemmas.Grind.{common_steps}
 use Rattle.std.proofs.lemmas.Bool.{and_left}
 use Rattle.x7_svf.specs.Token.{Token, TokenOnLine, token_of}
 use Rattle.x7_svf.specs.Source.{SourceState, left_after}
-use Rattle.x7_svf.specs.Span.{words_kept}
+use Rattle.x7_svf.specs.Span.{words_saved}
 use Rattle.x7_svf.specs.Words.{is_free_token, is_keyword, runtest_statement, statement_if_words, statement_of_words, word_before, words_of}
 use Rattle.x7_svf.specs.Svf.{tokens_before_end}
 use Rattle.x7_svf.specs.declared.token.NextToken.{NextToken}
 use Rattle.x7_svf.specs.declared.token.NextToken.TheVariants as next_token
 use Rattle.x7_svf.specs.declared.span.Span.{Span}
 use Rattle.x7_svf.specs.declared.statement.Statement.{Statement}
-use Rattle.x7_svf.specs.declared.words.KeptWords.{KeptWords}
-use Rattle.x7_svf.specs.declared.words.KeptWords.TheVariants as words
+use Rattle.x7_svf.specs.declared.words.SavedWords.{SavedWords}
+use Rattle.x7_svf.specs.declared.words.SavedWords.TheVariants as words
 use Rattle.x7_words.proofs.CaseLemmas.{both_true}
 
 -- words after words
@@ -70,7 +70,7 @@ all_said key ms ws tokens same e = ap (statement_if_words key) (same ∙ ap (λ 
 pub free_on : (m : Token) (ms : List Token) → is_free_token m ≡ true → list_all is_free_token (m ∷ ms) ≡ list_all is_free_token ms
 free_on m ms e = rw e refl
 
--- ---- words that are kept
+-- ---- words that are saved
 
 -- a word that is RUNTEST isn't STATE
 other_value : (n : ℕ) → nat_eq n 114 ≡ true → nat_eq n 115 ≡ false
@@ -92,13 +92,13 @@ pub runtest_said : (k : List ℕ) (ws : List (List ℕ)) → is_keyword k (codes
 runtest_said k ws h = second (is_keyword k (codes "STATE")) (is_keyword k (codes "RUNTEST")) _ _ _ (not_state k h) h
 
 -- no RUNTEST is said by fewer words than two
-pub no_runtest : (kept : List ℕ) (ws : KeptWords) → ((a b : Span) → ws ≡ words.Two a b → ⊥) → ((a b c : Span) → ws ≡ words.Three a b c → ⊥) → ((a b c d : Span) → ws ≡ words.Four a b c d → ⊥)
-    → None ≡ runtest_statement (words_kept kept ws)
-no_runtest kept words.None two three four = refl
-no_runtest kept (words.One a) two three four = refl
-no_runtest kept (words.Two a b) two three four = absurd (two a b refl)
-no_runtest kept (words.Three a b c) two three four = absurd (three a b c refl)
-no_runtest kept (words.Four a b c d) two three four = absurd (four a b c d refl)
+pub no_runtest : (saved : List ℕ) (ws : SavedWords) → ((a b : Span) → ws ≡ words.Two a b → ⊥) → ((a b c : Span) → ws ≡ words.Three a b c → ⊥) → ((a b c d : Span) → ws ≡ words.Four a b c d → ⊥)
+    → None ≡ runtest_statement (words_saved saved ws)
+no_runtest saved words.None two three four = refl
+no_runtest saved (words.One a) two three four = refl
+no_runtest saved (words.Two a b) two three four = absurd (two a b refl)
+no_runtest saved (words.Three a b c) two three four = absurd (three a b c refl)
+no_runtest saved (words.Four a b c d) two three four = absurd (four a b c d refl)
 
 unless_runtest : (b : Bool) (x y : Option Statement) → b ≡ false → y ≡ None → (if b then x else y) ≡ None
 unless_runtest true x y e f = absurd cc
@@ -112,9 +112,9 @@ nothing_said k x h =
     (none_if (is_keyword k (codes "HIR") || is_keyword k (codes "HDR") || is_keyword k (codes "TIR") || is_keyword k (codes "TDR")) _ (none_if (is_keyword k (codes "TRST")) None refl))))
 
 -- another keyword says nothing but with one word
-pub not_one : (k kept : List ℕ) (ws : KeptWords) → is_keyword k (codes "RUNTEST") ≡ false → ((a : Span) → ws ≡ words.One a → ⊥) → None ≡ statement_of_words k (words_kept kept ws)
-not_one k kept words.None h one = sym (nothing_said k _ h)
-not_one k kept (words.One a) h one = absurd (one a refl)
-not_one k kept (words.Two a b) h one = sym (nothing_said k _ h)
-not_one k kept (words.Three a b c) h one = sym (nothing_said k _ h)
-not_one k kept (words.Four a b c d) h one = sym (nothing_said k _ h)
+pub not_one : (k saved : List ℕ) (ws : SavedWords) → is_keyword k (codes "RUNTEST") ≡ false → ((a : Span) → ws ≡ words.One a → ⊥) → None ≡ statement_of_words k (words_saved saved ws)
+not_one k saved words.None h one = sym (nothing_said k _ h)
+not_one k saved (words.One a) h one = absurd (one a refl)
+not_one k saved (words.Two a b) h one = sym (nothing_said k _ h)
+not_one k saved (words.Three a b c) h one = sym (nothing_said k _ h)
+not_one k saved (words.Four a b c d) h one = sym (nothing_said k _ h)

@@ -1,4 +1,4 @@
--- A text that is read from its first byte on, and the bytes that are kept of it (this project's choice).
+-- A text that is read from its first byte on, and the bytes that are saved of it (this project's choice).
 use Rattle.std.specs.Prelude.{ℕ, ◌^◌, List, ◌∷◌, drop}
 use Rattle.x7_svf.specs.Token.{TokenOnLine, token_of, tokens, token_size}
 use Rattle.x7_svf.specs.declared.token.NextToken.{NextToken}
@@ -7,9 +7,9 @@ use Rattle.x7_svf.specs.declared.token.NextToken.{NextToken}
 abbrev pub svf_text_limit : ℕ
 svf_text_limit = 2 ^ 29
 
--- the bytes kept of what was read, and the rest with the line, from 1, on which it begins
+-- the bytes saved of what was read, and the rest with the line, from 1, on which it begins
 pub record SourceState : Type 0 where
-  pub kept : List ℕ
+  pub saved : List ℕ
   pub line : ℕ
   pub rest : List ℕ
 

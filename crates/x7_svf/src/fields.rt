@@ -28,11 +28,11 @@ pub(crate) enum ScanField {
 pub(crate) enum ScannerPlace {
     Between,
     Named(ScanField),
-    /// Inside the brackets of a field, whose digits are the bytes kept from here on.
+    /// Inside the brackets of a field, whose digits are the bytes saved from here on.
     Inside(ScanField, usize),
 }
 
-/// Where the digits of each field are kept; `None` for a field that is left out.
+/// Where the digits of each field are saved; `None` for a field that is left out.
 #[derive(Clone, Copy)]
 pub(crate) struct FieldSpans {
     pub(crate) tdi: Option<Span>,
@@ -90,7 +90,7 @@ fn are_hex(word: &[u8]) -> bool
 
 /// The fields with one more; none where that field is among them already.
 fn with_field(spans: FieldSpans, field: ScanField, digits: Span) -> Option<FieldSpans>
-    ensures fields { (kept : List ℕ) → fields_if kept result ≡ with_field (fields_of kept spans) field (bytes_in kept digits) }
+    ensures fields { (saved : List ℕ) → fields_if saved result ≡ with_field (fields_of saved spans) field (bytes_in saved digits) }
     ensures within { (n : ℕ) → AreWithin n spans → span_end digits ≤ n → IfSome result (AreWithin n) }
 {
     match field {
@@ -114,7 +114,7 @@ fn with_field(spans: FieldSpans, field: ScanField, digits: Span) -> Option<Field
     }
 }
 
-/// The fields with the one whose digits were kept from `from` on; none where that field has no digit, or is among them
+/// The fields with the one whose digits were saved from `from` on; none where that field has no digit, or is among them
 /// already.
 fn closed_field(
     source: &Source,
@@ -122,24 +122,24 @@ fn closed_field(
     field: ScanField,
     from: usize,
 ) -> Option<FieldSpans>
-    requires from { from ≤ length source.now.kept }
-    ensures fields { fields_if source.now.kept result ≡ closed_field (fields_of source.now.kept spans) field (drop from source.now.kept) }
-    ensures within { AreWithin (length source.now.kept) spans → IfSome result (AreWithin (length source.now.kept)) }
+    requires from { from ≤ length source.now.saved }
+    ensures fields { fields_if source.now.saved result ≡ closed_field (fields_of source.now.saved spans) field (drop from source.now.saved) }
+    ensures within { AreWithin (length source.now.saved) spans → IfSome result (AreWithin (length source.now.saved)) }
 {
-    let end = source.kept().len();
+    let end = source.saved().len();
     if from == end {
         return None;
     }
     with_field(spans, field, Span::new(from, end))
 }
 
-/// The reader of a scan after one token more: the token is passed, or kept where it is digits. `None` where no scan has
+/// The reader of a scan after one token more: the token is passed, or saved where it is digits. `None` where no scan has
 /// such a token there; what was read of the source is then not promised.
 fn scan_step(source: &mut Source, scanner: Scanner, token: NextToken) -> Option<Scanner>
     requires token { token_size token ≤ length source.old.rest }
-    requires within { IsWithin (length source.old.kept) scanner }
-    ensures scans { scanning_of source.new.kept result ≡ scan_step (scan_place_of source.old.kept scanner.place) (fields_of source.old.kept scanner.spans) (token_of token source.old.rest) }
-    ensures within { IfSome result (IsWithin (length source.new.kept)) }
+    requires within { IsWithin (length source.old.saved) scanner }
+    ensures scans { scanning_of source.new.saved result ≡ scan_step (scan_place_of source.old.saved scanner.place) (fields_of source.old.saved scanner.spans) (token_of token source.old.rest) }
+    ensures within { IfSome result (IsWithin (length source.new.saved)) }
     ensures steps { IfSome result (λ s. StepsOver (token_size token) source.old source.new) }
 {
     let spans = scanner.spans;
@@ -155,7 +155,7 @@ fn scan_step(source: &mut Source, scanner: Scanner, token: NextToken) -> Option<
         (ScannerPlace::Named(field), NextToken::Open) => {
             source.skip(1);
             Some(Scanner {
-                place: ScannerPlace::Inside(field, source.kept().len()),
+                place: ScannerPlace::Inside(field, source.saved().len()),
                 spans,
             })
         }
@@ -163,7 +163,7 @@ fn scan_step(source: &mut Source, scanner: Scanner, token: NextToken) -> Option<
             if !are_hex(&source.rest()[..length]) {
                 return None;
             }
-            source.keep(length);
+            source.save(length);
             Some(scanner)
         }
         (ScannerPlace::Inside(field, from), NextToken::Close) => {
@@ -179,10 +179,10 @@ fn scan_step(source: &mut Source, scanner: Scanner, token: NextToken) -> Option<
 }
 
 /// The fields of a scan that come next, up to its `;`; none where anything but fields comes, or a field comes twice.
-/// Their digits are kept.
+/// Their digits are saved.
 pub(crate) fn fields(source: &mut Source) -> Option<FieldSpans>
-    ensures fields { fields_if source.new.kept result ≡ scan_fields (tokens_before_end (tokens_left source.old)) }
-    ensures within { IfSome result (AreWithin (length source.new.kept)) }
+    ensures fields { fields_if source.new.saved result ≡ scan_fields (tokens_before_end (tokens_left source.old)) }
+    ensures within { IfSome result (AreWithin (length source.new.saved)) }
     ensures reads_on { IfSome result (λ g. ReadsOn source.old source.new) }
 {
     let mut scanner = Scanner {

@@ -7,7 +7,7 @@ ghost use Rattle.x7_svf.specs.Token.{token_of, token_size};
 ghost use Rattle.x7_svf.specs.Reading.{ReadsOn, StepsOver};
 ghost use Rattle.x7_svf.specs.Source.{tokens_left};
 ghost use Rattle.x7_svf.specs.Scanner.{AreHexFields, AreHexIf, IsWidth};
-ghost use Rattle.x7_svf.specs.Span.{AreWithin, StaysKept, bytes_in, digits_if, span_end_if, span_end, fields_of};
+ghost use Rattle.x7_svf.specs.Span.{AreWithin, StaysSaved, bytes_in, digits_if, span_end_if, span_end, fields_of};
 ghost use Rattle.x7_svf.specs.Statement.{statement_by, statement_of};
 ghost use Rattle.x7_svf.specs.Stored.{IsStored};
 ghost use Rattle.x7_svf.specs.Svf.{first_statement, tokens_before_end, tokens_after_end};
@@ -23,7 +23,7 @@ use crate::statement::ScannedRegister;
 use crate::stored::{StoredScan, StoredStatement};
 use crate::token::{NextToken, next_within, pass_end};
 use crate::words::{
-    KeptWords, is_free_word, is_keyword, number_within, statement_of_kept, with_word,
+    SavedWords, is_free_word, is_keyword, number_within, statement_of_saved, with_word,
 };
 
 /// The most bits of a scan.
@@ -43,7 +43,7 @@ fn is_free_token(token: NextToken, text: &[u8]) -> bool
 /// The statement of tokens without meaning that come next, which are passed: brackets, and words without 0D; none where
 /// a word has 0D.
 fn free_statement(source: &mut Source) -> Option<StoredStatement>
-    ensures says { IsStored source.new.kept result (some_if (list_all is_free_token (tokens_before_end (tokens_left source.old))) StatementData.Nothing) }
+    ensures says { IsStored source.new.saved result (some_if (list_all is_free_token (tokens_before_end (tokens_left source.old))) StatementData.Nothing) }
     ensures reads_on { IfSome result (λ s. ReadsOn source.old source.new) }
 {
     while let Some(token) = next_within(source) {
@@ -55,37 +55,37 @@ fn free_statement(source: &mut Source) -> Option<StoredStatement>
     Some(StoredStatement::Nothing)
 }
 
-/// Keeps the word of this many bytes that comes next, and says where.
-fn keep_word(source: &mut Source, size: usize) -> Span
+/// Saves the word of this many bytes that comes next, and says where.
+fn save_word(source: &mut Source, size: usize) -> Span
     requires { size ≤ length source.old.rest }
-    ensures word { bytes_in source.new.kept result ≡ take size source.old.rest }
-    ensures within { span_end result ≤ length source.new.kept }
+    ensures word { bytes_in source.new.saved result ≡ take size source.old.rest }
+    ensures within { span_end result ≤ length source.new.saved }
     ensures steps { StepsOver size source.old source.new }
 {
-    let from = source.kept().len();
-    source.keep(size);
-    Span::new(from, source.kept().len())
+    let from = source.saved().len();
+    source.save(size);
+    Span::new(from, source.saved().len())
 }
 
-/// The statement of a keyword, which is kept, and of the words that come next, which are kept too; none where a bracket
+/// The statement of a keyword, which is saved, and of the words that come next, which are saved too; none where a bracket
 /// stands among them or the profile has no such statement.
 fn words_statement(source: &mut Source, key: Span) -> Option<StoredStatement>
-    requires key { span_end key ≤ length source.old.kept }
-    ensures says { IsStored source.new.kept result (if_words (bytes_in source.old.kept key) (words_of (tokens_before_end (tokens_left source.old)))) }
+    requires key { span_end key ≤ length source.old.saved }
+    ensures says { IsStored source.new.saved result (if_words (bytes_in source.old.saved key) (words_of (tokens_before_end (tokens_left source.old)))) }
     ensures reads_on { IfSome result (λ s. ReadsOn source.old source.new) }
 {
-    let mut words = KeptWords::None;
+    let mut words = SavedWords::None;
     while let Some(token) = next_within(source) {
         let NextToken::Word(size) = token else {
             return None;
         };
-        let word = keep_word(source, size);
+        let word = save_word(source, size);
         match with_word(words, word) {
             Some(more) => words = more,
             None => return None,
         }
     }
-    statement_of_kept(source.kept(), key, words)
+    statement_of_saved(source.saved(), key, words)
 }
 
 /// How many bits the value of a digit has.
@@ -132,42 +132,42 @@ fn width(digits: &[u8]) -> u128
 }
 
 /// Whether the value of digits, if there are any, fits `count` bits.
-fn fits(kept: &[u8], count: u32, digits: Option<Span>) -> bool
-    requires within { span_end_if digits ≤ length kept.now }
-    requires hex { AreHexIf (digits_if kept.now digits) }
-    ensures { result ≡ fits count (digits_if kept.now digits) }
+fn fits(saved: &[u8], count: u32, digits: Option<Span>) -> bool
+    requires within { span_end_if digits ≤ length saved.now }
+    requires hex { AreHexIf (digits_if saved.now digits) }
+    ensures { result ≡ fits count (digits_if saved.now digits) }
 {
     match digits {
-        Some(digits) => width(digits.bytes_in(kept)) <= u128::from(count),
+        Some(digits) => width(digits.bytes_in(saved)) <= u128::from(count),
         None => true,
     }
 }
 
 /// Whether the values of all fields fit `count` bits.
-fn fields_fit(kept: &[u8], count: u32, spans: FieldSpans) -> bool
-    requires within { AreWithin (length kept.now) spans }
-    requires hex { AreHexFields (fields_of kept.now spans) }
-    ensures { result ≡ fields_fit count (fields_of kept.now spans) }
+fn fields_fit(saved: &[u8], count: u32, spans: FieldSpans) -> bool
+    requires within { AreWithin (length saved.now) spans }
+    requires hex { AreHexFields (fields_of saved.now spans) }
+    ensures { result ≡ fields_fit count (fields_of saved.now spans) }
 {
-    fits(kept, count, spans.tdi)
-        && fits(kept, count, spans.tdo)
-        && fits(kept, count, spans.mask)
-        && fits(kept, count, spans.smask)
+    fits(saved, count, spans.tdi)
+        && fits(saved, count, spans.tdo)
+        && fits(saved, count, spans.mask)
+        && fits(saved, count, spans.smask)
 }
 
-/// The scan of this many bits with these fields, whose digits are kept; none where the value of one doesn't fit, or TDI
+/// The scan of this many bits with these fields, whose digits are saved; none where the value of one doesn't fit, or TDI
 /// is left out.
 fn scan_of_fields(
-    kept: &[u8],
+    saved: &[u8],
     register: ScannedRegister,
     count: u32,
     spans: FieldSpans,
 ) -> Option<StoredStatement>
-    requires within { AreWithin (length kept.now) spans }
-    requires hex { AreHexFields (fields_of kept.now spans) }
-    ensures { IsStored kept.now result (scan_by register count (Some (fields_of kept.now spans))) }
+    requires within { AreWithin (length saved.now) spans }
+    requires hex { AreHexFields (fields_of saved.now spans) }
+    ensures { IsStored saved.now result (scan_by register count (Some (fields_of saved.now spans))) }
 {
-    if !fields_fit(kept, count, spans) {
+    if !fields_fit(saved, count, spans) {
         return None;
     }
     let tdi = spans.tdi?;
@@ -197,23 +197,23 @@ fn scan_count(source: &mut Source) -> Option<u32>
     Some(count)
 }
 
-/// The scan whose keyword was passed, up to its `;`; none where it is bad. Its digits are kept.
+/// The scan whose keyword was passed, up to its `;`; none where it is bad. Its digits are saved.
 fn scan(source: &mut Source, register: ScannedRegister) -> Option<StoredStatement>
-    ensures says { IsStored source.new.kept result (scan_of register (tokens_before_end (tokens_left source.old))) }
+    ensures says { IsStored source.new.saved result (scan_of register (tokens_before_end (tokens_left source.old))) }
     ensures reads_on { IfSome result (λ s. ReadsOn source.old source.new) }
 {
     let count = scan_count(source)?;
     let spans = fields(source)?;
-    scan_of_fields(source.kept(), register, count, spans)
+    scan_of_fields(source.saved(), register, count, spans)
 }
 
-/// The statement of a keyword, which is kept, and of what comes next, up to its `;`; none where it is bad.
+/// The statement of a keyword, which is saved, and of what comes next, up to its `;`; none where it is bad.
 fn statement_by(source: &mut Source, key: Span) -> Option<StoredStatement>
-    requires key { span_end key ≤ length source.old.kept }
-    ensures says { IsStored source.new.kept result (statement_by (bytes_in source.old.kept key) (tokens_before_end (tokens_left source.old))) }
+    requires key { span_end key ≤ length source.old.saved }
+    ensures says { IsStored source.new.saved result (statement_by (bytes_in source.old.saved key) (tokens_before_end (tokens_left source.old))) }
     ensures reads_on { IfSome result (λ s. ReadsOn source.old source.new) }
 {
-    let word = key.bytes_in(source.kept());
+    let word = key.bytes_in(source.saved());
     if is_keyword(word, b"SIR") {
         return scan(source, ScannedRegister::Instruction);
     }
@@ -227,23 +227,23 @@ fn statement_by(source: &mut Source, key: Span) -> Option<StoredStatement>
 }
 
 /// The statement that comes next, up to its `;`; none where it is bad. Its keyword, and the digits of a scan or the
-/// words of another but FREQUENCY, are kept.
+/// words of another but FREQUENCY, are saved.
 fn statement(source: &mut Source) -> Option<StoredStatement>
-    ensures says { IsStored source.new.kept result (statement_of (tokens_before_end (tokens_left source.old))) }
+    ensures says { IsStored source.new.saved result (statement_of (tokens_before_end (tokens_left source.old))) }
     ensures reads_on { IfSome result (λ s. ReadsOn source.old source.new) }
     ensures passed { IfSome result (λ s. length source.new.rest < length source.old.rest) }
 {
     let NextToken::Word(size) = next_within(source)? else {
         return None;
     };
-    let key = keep_word(source, size);
+    let key = save_word(source, size);
     statement_by(source, key)
 }
 
 /// The statement that comes next, with its `;`; none where it is bad or lacks its `;`.
 pub(crate) fn first_statement(source: &mut Source) -> Option<StoredStatement>
-    ensures says { IsStored source.new.kept result (first_statement (tokens_left source.old)) }
-    ensures prefix { IfSome result (λ s. StaysKept source.old.kept source.new.kept) }
+    ensures says { IsStored source.new.saved result (first_statement (tokens_left source.old)) }
+    ensures prefix { IfSome result (λ s. StaysSaved source.old.saved source.new.saved) }
     ensures after_end { IfSome result (λ s. tokens_after_end (tokens_left source.old) ≡ Some (tokens_left source.new)) }
     ensures passed { IfSome result (λ s. length source.new.rest + 2 ≤ length source.old.rest) }
 {

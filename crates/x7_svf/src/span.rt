@@ -1,9 +1,9 @@
-//! Where bytes are kept.
+//! Where bytes are saved.
 ghost use Rattle.std.specs.Prelude.{◌≡◌, ◌≤◌, ◌-◌, length};
 ghost use Rattle.x7_svf.specs.Source.{svf_text_limit};
 ghost use Rattle.x7_svf.specs.Span.{bytes_in, span_end};
 
-/// Bytes that are kept one after another: how many come before them, and how many they are.
+/// Bytes that are saved one after another: how many come before them, and how many they are.
 #[derive(Clone, Copy)]
 pub(crate) struct Span {
     from: u32,
@@ -24,12 +24,12 @@ impl Span {
         }
     }
 
-    /// The bytes themselves, among those kept.
-    pub(crate) fn bytes_in(self, kept: &[u8]) -> &[u8]
-        requires { span_end self ≤ length kept.now }
-        ensures { result.now ≡ bytes_in kept.now self }
+    /// The bytes themselves, among those saved.
+    pub(crate) fn bytes_in(self, saved: &[u8]) -> &[u8]
+        requires { span_end self ≤ length saved.now }
+        ensures { result.now ≡ bytes_in saved.now self }
     {
         let from = self.from as usize;
-        &kept[from..from + self.count as usize]
+        &saved[from..from + self.count as usize]
     }
 }

@@ -1,4 +1,4 @@
-//! Statements whose digits are kept apart.
+//! Statements whose digits are saved apart.
 ghost use Rattle.std.specs.Prelude.{◌≡◌, ◌≤◌, length};
 ghost use Rattle.x7_svf.specs.Fields.{bits_if};
 ghost use Rattle.x7_svf.specs.Span.{digits_if, span_end_if};
@@ -8,7 +8,7 @@ use crate::bits::Bits;
 use crate::span::Span;
 use crate::statement::{Scan, ScannedRegister, Statement};
 
-/// A statement in few bytes, as a long text has many statements. The digits of a scan are kept apart.
+/// A statement in few bytes, as a long text has many statements. The digits of a scan are saved apart.
 #[derive(Clone, Copy)]
 pub(crate) enum StoredStatement {
     Reset,
@@ -18,7 +18,7 @@ pub(crate) enum StoredStatement {
     Nothing,
 }
 
-/// A scan: how many bits each of its fields has, and where the digits of each but SMASK are kept.
+/// A scan: how many bits each of its fields has, and where the digits of each but SMASK are saved.
 #[derive(Clone, Copy)]
 pub(crate) struct StoredScan {
     pub(crate) register: ScannedRegister,
@@ -29,20 +29,20 @@ pub(crate) struct StoredScan {
 }
 
 /// The `count` lowest bits of a field; none where it is left out.
-fn bits_if(kept: &[u8], count: u32, digits: Option<Span>) -> Option<Bits<'_>>
-    requires { span_end_if digits ≤ length kept.now }
-    ensures { result ≡ bits_if count (digits_if kept.now digits) }
+fn bits_if(saved: &[u8], count: u32, digits: Option<Span>) -> Option<Bits<'_>>
+    requires { span_end_if digits ≤ length saved.now }
+    ensures { result ≡ bits_if count (digits_if saved.now digits) }
 {
     match digits {
-        Some(digits) => Some(Bits::new(count, digits.bytes_in(kept))),
+        Some(digits) => Some(Bits::new(count, digits.bytes_in(saved))),
         None => None,
     }
 }
 
-/// A statement with its digits, which are among those kept.
-pub(crate) fn statement_of<'t>(stored: &StoredStatement, kept: &'t [u8]) -> Statement<'t>
-    requires { IsStoredWithin (length kept.now) stored.now }
-    ensures { result ≡ statement_in kept.now stored.now }
+/// A statement with its digits, which are among those saved.
+pub(crate) fn statement_of<'t>(stored: &StoredStatement, saved: &'t [u8]) -> Statement<'t>
+    requires { IsStoredWithin (length saved.now) stored.now }
+    ensures { result ≡ statement_in saved.now stored.now }
 {
     match stored {
         StoredStatement::Reset => Statement::Reset,
@@ -50,9 +50,9 @@ pub(crate) fn statement_of<'t>(stored: &StoredStatement, kept: &'t [u8]) -> Stat
         StoredStatement::IdleClocks(count) => Statement::IdleClocks(*count),
         StoredStatement::Scan(scan) => Statement::Scan(Scan {
             register: scan.register,
-            tdi: Bits::new(scan.bit_count, scan.tdi.bytes_in(kept)),
-            tdo: bits_if(kept, scan.bit_count, scan.tdo),
-            mask: bits_if(kept, scan.bit_count, scan.mask),
+            tdi: Bits::new(scan.bit_count, scan.tdi.bytes_in(saved)),
+            tdo: bits_if(saved, scan.bit_count, scan.tdo),
+            mask: bits_if(saved, scan.bit_count, scan.mask),
         }),
         StoredStatement::Nothing => Statement::Nothing,
     }

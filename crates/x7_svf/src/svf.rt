@@ -69,15 +69,15 @@ impl Svf {
 }
 
 /// The statements of a text without comments, or the line on which the first bad one begins; `NoMemory` only where the
-/// text begins with a statement. The digits of their scans are kept.
+/// text begins with a statement. The digits of their scans are saved.
 fn statements(alloc: Global, source: &mut Source) -> Result<Vec<StoredStatement>, SvfFault>
-    requires none_kept { source.old.kept ≡ [] }
+    requires none_saved { source.old.saved ≡ [] }
     requires within_limit { length source.old.rest ≤ svf_text_limit }
-    ensures says { MatchResult result (λ s. outcome (tokens_left source.old) ≡ Ok (statements_in source.new.kept s.items))
+    ensures says { MatchResult result (λ s. outcome (tokens_left source.old) ≡ Ok (statements_in source.new.saved s.items))
         (λ fault. (fault ≡ FaultData.NoMemory) ⊎ (outcome (tokens_left source.old) ≡ Err fault)) }
     ensures memory { IfErr result (λ fault. fault ≡ FaultData.NoMemory → BeginWithStatement (tokens_left source.old)) }
     ensures two_bytes_each { IfOk result (λ s. 2 * length s.items ≤ length source.old.rest) }
-    ensures within { IfOk result (λ s. AreStoredWithin (length source.new.kept) s.items) }
+    ensures within { IfOk result (λ s. AreStoredWithin (length source.new.saved) s.items) }
 {
     let mut out = Vec::new(alloc);
     while let Some(_) = next(source) {
@@ -107,7 +107,7 @@ pub fn svf_from(alloc: Global, text: Vec<u8>) -> Result<Svf, SvfFault>
     let statements = statements(alloc, &mut source)?;
     Ok(Svf {
         statements,
-        digits: source.into_kept(),
+        digits: source.into_saved(),
     })
 }
 

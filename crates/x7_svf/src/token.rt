@@ -129,7 +129,7 @@ pub(crate) fn next_within(source: &mut Source) -> Option<NextToken>
 pub(crate) fn pass_end(source: &mut Source) -> bool
     ensures found { result ≡ true → tokens_after_end (tokens_left source.old) ≡ Some (tokens_left source.new) }
     ensures no_end { result ≡ false → tokens_after_end (tokens_left source.old) ≡ None }
-    ensures kept { source.new.kept ≡ source.old.kept }
+    ensures saved { source.new.saved ≡ source.old.saved }
     ensures passed { result ≡ true → length source.new.rest + 1 ≤ length source.old.rest }
 {
     while let Some(token) = next(source) {

@@ -3,7 +3,7 @@ ghost use Rattle.std.specs.Prelude.{◌≡◌, ◌<◌, ◌&&◌, ◌||◌, ◌�
 ghost use Rattle.x7_words.specs.Characters.{is_decimal_digit};
 ghost use Rattle.x7_svf.specs.Words.{is_free_byte, is_free_word, is_keyword, is_time, is_time_byte, most_idle_clocks, number_within, idle_clocks_by, idle_clocks_if, runtest_statement, some_if, state_statement, statement_of_words};
 ghost use Rattle.x7_svf.specs.declared.statement.Statement.{Statement as StatementData};
-ghost use Rattle.x7_svf.specs.Span.{AreWordsWithin, bytes_in, span_end, words_kept};
+ghost use Rattle.x7_svf.specs.Span.{AreWordsWithin, bytes_in, span_end, words_saved};
 ghost use Rattle.x7_svf.specs.Stored.{IsStored};
 ghost use Rattle.std.specs.List.{list_all};
 
@@ -189,9 +189,9 @@ fn statement_of_word(key: &[u8], word: &[u8]) -> Option<StoredStatement>
     }
 }
 
-/// The words after a keyword by where they are kept. No statement whose words are kept has more than four.
+/// The words after a keyword by where they are saved. No statement whose words are saved has more than four.
 #[derive(Clone, Copy)]
-pub(crate) enum KeptWords {
+pub(crate) enum SavedWords {
     None,
     One(Span),
     Two(Span, Span),
@@ -200,55 +200,55 @@ pub(crate) enum KeptWords {
 }
 
 /// The words with one more after them; none where there are four already.
-pub(crate) fn with_word(words: KeptWords, word: Span) -> Option<KeptWords>
-    ensures one_more { (kept : List ℕ) → IfSome result (λ r. words_kept kept r ≡ words_kept kept words ++ bytes_in kept word ∷ []) }
-    ensures full_at_four { (kept : List ℕ) → IfNone result (length (words_kept kept words) ≡ 4) }
+pub(crate) fn with_word(words: SavedWords, word: Span) -> Option<SavedWords>
+    ensures one_more { (saved : List ℕ) → IfSome result (λ r. words_saved saved r ≡ words_saved saved words ++ bytes_in saved word ∷ []) }
+    ensures full_at_four { (saved : List ℕ) → IfNone result (length (words_saved saved words) ≡ 4) }
     ensures within { (n : ℕ) → AreWordsWithin n words → span_end word ≤ n → IfSome result (AreWordsWithin n) }
 {
     match words {
-        KeptWords::None => Some(KeptWords::One(word)),
-        KeptWords::One(first) => Some(KeptWords::Two(first, word)),
-        KeptWords::Two(first, second) => Some(KeptWords::Three(first, second, word)),
-        KeptWords::Three(first, second, third) => Some(KeptWords::Four(first, second, third, word)),
-        KeptWords::Four(_, _, _, _) => None,
+        SavedWords::None => Some(SavedWords::One(word)),
+        SavedWords::One(first) => Some(SavedWords::Two(first, word)),
+        SavedWords::Two(first, second) => Some(SavedWords::Three(first, second, word)),
+        SavedWords::Three(first, second, third) => Some(SavedWords::Four(first, second, third, word)),
+        SavedWords::Four(_, _, _, _) => None,
     }
 }
 
-/// The statement of the words after RUNTEST, which are kept; none where the profile has no such statement.
-fn runtest_statement(kept: &[u8], words: KeptWords) -> Option<StoredStatement>
-    requires { AreWordsWithin (length kept.now) words }
-    ensures { IsStored [] result (runtest_statement (words_kept kept.now words)) }
+/// The statement of the words after RUNTEST, which are saved; none where the profile has no such statement.
+fn runtest_statement(saved: &[u8], words: SavedWords) -> Option<StoredStatement>
+    requires { AreWordsWithin (length saved.now) words }
+    ensures { IsStored [] result (runtest_statement (words_saved saved.now words)) }
 {
     match words {
-        KeptWords::Two(count, unit) => idle_clocks_or_time(
-            count.bytes_in(kept),
-            unit.bytes_in(kept),
+        SavedWords::Two(count, unit) => idle_clocks_or_time(
+            count.bytes_in(saved),
+            unit.bytes_in(saved),
         ),
-        KeptWords::Three(state, count, unit) => {
-            let is_runtest = are_idle_clocks(state.bytes_in(kept), unit.bytes_in(kept));
-            idle_clocks_if(is_runtest, count.bytes_in(kept))
+        SavedWords::Three(state, count, unit) => {
+            let is_runtest = are_idle_clocks(state.bytes_in(saved), unit.bytes_in(saved));
+            idle_clocks_if(is_runtest, count.bytes_in(saved))
         }
-        KeptWords::Four(count, unit, time, second) => {
-            let time = time.bytes_in(kept);
-            let is_runtest = are_timed_clocks(unit.bytes_in(kept), time, second.bytes_in(kept));
-            idle_clocks_if(is_runtest, count.bytes_in(kept))
+        SavedWords::Four(count, unit, time, second) => {
+            let time = time.bytes_in(saved);
+            let is_runtest = are_timed_clocks(unit.bytes_in(saved), time, second.bytes_in(saved));
+            idle_clocks_if(is_runtest, count.bytes_in(saved))
         }
         _ => None,
     }
 }
 
-/// The statement of a keyword and the words after it, which are kept; none where the profile has no such statement.
-pub(crate) fn statement_of_kept(kept: &[u8], key: Span, words: KeptWords) -> Option<StoredStatement>
-    requires key { span_end key ≤ length kept.now }
-    requires words { AreWordsWithin (length kept.now) words }
-    ensures { IsStored [] result (statement_of_words (bytes_in kept.now key) (words_kept kept.now words)) }
+/// The statement of a keyword and the words after it, which are saved; none where the profile has no such statement.
+pub(crate) fn statement_of_saved(saved: &[u8], key: Span, words: SavedWords) -> Option<StoredStatement>
+    requires key { span_end key ≤ length saved.now }
+    requires words { AreWordsWithin (length saved.now) words }
+    ensures { IsStored [] result (statement_of_words (bytes_in saved.now key) (words_saved saved.now words)) }
 {
-    let key = key.bytes_in(kept);
+    let key = key.bytes_in(saved);
     if is_keyword(key, b"RUNTEST") {
-        return runtest_statement(kept, words);
+        return runtest_statement(saved, words);
     }
     match words {
-        KeptWords::One(word) => statement_of_word(key, word.bytes_in(kept)),
+        SavedWords::One(word) => statement_of_word(key, word.bytes_in(saved)),
         _ => None,
     }
 }

@@ -9,8 +9,8 @@ use Rattle.x7_svf.proofs.fields.fields.Given as goal
 
 abbrev pub invariant-loop-token : goal.invariant-loop-token
 invariant-loop-token l = record {
-  same : scan_fields (tokens_before_end (tokens_left l.fn.source)) ≡ scan_from (scan_place_of l.source.kept l.scanner.place) (fields_of l.source.kept l.scanner.spans) (tokens_before_end (tokens_left l.source));
-  within : IsWithin (length l.source.kept) l.scanner;
+  same : scan_fields (tokens_before_end (tokens_left l.fn.source)) ≡ scan_from (scan_place_of l.source.saved l.scanner.place) (fields_of l.source.saved l.scanner.spans) (tokens_before_end (tokens_left l.source));
+  within : IsWithin (length l.source.saved) l.scanner;
   reads_on : ReadsOn l.fn.source l.source;
 }
 

@@ -10,4 +10,4 @@ returns-in-Some c =
     ap (λ (n : ℕ). nat_le c.width.result n) c.from.ensures
     ∙ width_test (hex_value c.bytes_in.result.now) c.width.result c.args.count c.width.ensures
     ∙ ap (λ (ds : List ℕ). nat_lt (hex_value ds) (2 ^ c.args.count)) c.bytes_in.ensures
-    ∙ sym (ap (λ (o : Option Span). fits c.args.count (digits_if c.args.kept.now o)) c.in-Some.is)
+    ∙ sym (ap (λ (o : Option Span). fits c.args.count (digits_if c.args.saved.now o)) c.in-Some.is)

@@ -7,9 +7,9 @@ use Rattle.x7_svf.proofs.svf.statements.Given as goal
 
 abbrev pub invariant-loop-source : goal.invariant-loop-source
 invariant-loop-source l = record {
-  says : outcome (tokens_left l.fn.source) ≡ after_all (statements_in l.source.kept l.out.items) (outcome (tokens_left l.source));
+  says : outcome (tokens_left l.fn.source) ≡ after_all (statements_in l.source.saved l.out.items) (outcome (tokens_left l.source));
   begins : (length l.out.items ≡ 0) × (tokens_left l.source ≡ tokens_left l.fn.source) ⊎ BeginWithStatement (tokens_left l.fn.source);
-  within : AreStoredWithin (length l.source.kept) l.out.items;
+  within : AreStoredWithin (length l.source.saved) l.out.items;
   few : 2 * length l.out.items + length l.source.rest ≤ length l.fn.source.rest;
 }
 

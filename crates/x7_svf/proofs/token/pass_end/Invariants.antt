@@ -6,7 +6,7 @@ use Rattle.x7_svf.proofs.token.pass_end.Given as goal
 abbrev pub invariant-loop-token : goal.invariant-loop-token
 invariant-loop-token l = record {
   same : tokens_after_end (tokens_left l.fn.source) ≡ tokens_after_end (tokens_left l.source);
-  kept : l.source.kept ≡ l.fn.source.kept;
+  saved : l.source.saved ≡ l.fn.source.saved;
   within : length l.source.rest ≤ length l.fn.source.rest;
 }
 

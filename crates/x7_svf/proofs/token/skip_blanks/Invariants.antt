@@ -5,7 +5,7 @@ use Rattle.x7_svf.proofs.token.skip_blanks.Given as goal
 abbrev pub invariant-loop-source : goal.invariant-loop-source
 invariant-loop-source l = record {
   same : tokens_left l.fn.source ≡ tokens_left l.source;
-  kept : l.source.kept ≡ l.fn.source.kept;
+  saved : l.source.saved ≡ l.fn.source.saved;
   within : length l.source.rest ≤ length l.fn.source.rest;
 }
 
