@@ -35,6 +35,11 @@ pub record AreOfPart (part : PartData) (p : PipelineData) (frames : List (List �
   pub pipeline_fits : IsPipelineOf part p
   pub frames_fit : AreFramesOf part frames
 
+-- a call changed neither the pipeline nor the memory's frames, each old before and new after it
+pub record ChangedNothing (old new : PipelineData) (old_frames new_frames : List (List ℕ)) : Type 0 where
+  pub unchanged : new ≡ old
+  pub same_memory : new_frames ≡ old_frames
+
 -- how many words a readback gave after `n` more, counted up to where there are zeros alone
 abbrev pub given_after : PartData → PipelineData → ℕ → ℕ
 given_after part p n = min (p.given + n) (p.width * (1 + length (slots_from part p.base)))

@@ -13,7 +13,7 @@ ghost use Rattle.x7_pipeline.specs.Copies.{is_wcfg, is_mfw, source_with};
 ghost use Rattle.x7_pipeline.specs.Readback.{readback_at, word_at};
 ghost use Rattle.x7_pipeline.specs.Fault.{write_fault, readback_fault, drop_fault};
 ghost use Rattle.x7_pipeline.specs.Place.{StartsAt};
-ghost use Rattle.x7_pipeline.specs.Pipeline.{AreOfPart, PipelineData, IsPipelineOf, with_words_passed};
+ghost use Rattle.x7_pipeline.specs.Pipeline.{AreOfPart, ChangedNothing, PipelineData, IsPipelineOf, with_words_passed};
 ghost use Rattle.x7_pipeline.specs.Flow.{AreWordsTaken, pairs_copied_by, fault_of_copy, FlowGoesOn, FramesLand, FramesLandUpToFault, HoldsFlow, ForEachFlow, PutsNewest, after_reads, after_words, begun_at, begun_by, first_flow, with_run, flow_written};
 
 mod saved;
@@ -176,8 +176,7 @@ impl Pipeline {
         ensures part { AreOfPart part.now self.new memory.new }
 
         // After a fault.
-        ensures unchanged { OnErr result (self.new ≡ self.old) }
-        ensures same_memory { OnErr result (memory.new ≡ memory.old) }
+        ensures refused { OnErr result (ChangedNothing self.old self.new memory.old memory.new) }
     {
         if self.writes_nowhere(part) {
             return Err(RunFault::Address(self.base));
@@ -245,8 +244,7 @@ impl Pipeline {
         ensures passes { IfOk result (λ taken. ForEachFlow part.now self.old (λ f. (flow_written part.now f (words_of_bytes (take taken bytes.now))).fault ≡ None)) }
         ensures fault { IfErr result (λ fault. ForEachFlow part.now self.old (λ f. Some fault ≡ write_fault part.now f.base f.run)) }
         ensures part { AreOfPart part.now self.new memory.new }
-        ensures unchanged { OnErr result (self.new ≡ self.old) }
-        ensures same_memory { OnErr result (memory.new ≡ memory.old) }
+        ensures refused { OnErr result (ChangedNothing self.old self.new memory.old memory.new) }
     {
         let frame_size = 4 * self.width as usize;
         if frame_size <= bytes.len() && self.takes_frame(part) {

@@ -1,10 +1,10 @@
 -- The boot of a flash that was left in an update, where the golden stream is the full stream of a
 -- plan: that is a golden stream that starts.
-use Rattle.std.proofs.Common.{List, ℕ, get_or, ap, sym, subst, ◌∙◌}
+use Rattle.std.proofs.Common.{List, ℕ, ap, sym, subst, ◌∙◌}
 use Rattle.x7_memory.specs.FrameMap.{HaveSameFrames, FrameMap}
 use Rattle.x7_memory.specs.Plan.{total}
 use Rattle.x7_regs.specs.declared.register.Reg.TheVariants.{Bootsts}
-use Rattle.x7_engine.specs.Shown.{with_values}
+use Rattle.x7_engine.specs.Shown.{with_values, word_in}
 use Rattle.x7_engine.specs.declared.snapshot.Snapshot.{Snapshot}
 use Rattle.x7_boot.specs.Attempt.{BootAttempt}
 use Rattle.x7_boot.specs.Boot.{BootedState, IsBoot}
@@ -21,7 +21,7 @@ planned_starts u t c p s = record {
   attempts_are = s.attempts_are;
   started = s.started;
   memory = subst (λ (m : FrameMap). HaveSameFrames m (total u.part u.golden)) (sym s.memory) p.memory;
-  bootsts = ap (λ (r : Snapshot). (get_or r.registers 12 (Bootsts, 0)).1) s.registers ∙ p.bootsts;
+  bootsts = ap (λ (r : Snapshot). word_in Bootsts r.registers) s.registers ∙ p.bootsts;
 }
 
 pub found_boots : (u : Updating) (found : List ℕ) (b : BootedState) → IsPrepared u → MayBeLeft u.stream u.flash found → IsBoot u.part found b → BootsAs u found b

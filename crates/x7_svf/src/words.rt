@@ -209,7 +209,9 @@ pub(crate) fn with_word(words: SavedWords, word: Span) -> Option<SavedWords>
         SavedWords::None => Some(SavedWords::One(word)),
         SavedWords::One(first) => Some(SavedWords::Two(first, word)),
         SavedWords::Two(first, second) => Some(SavedWords::Three(first, second, word)),
-        SavedWords::Three(first, second, third) => Some(SavedWords::Four(first, second, third, word)),
+        SavedWords::Three(first, second, third) => Some(SavedWords::Four(
+            first, second, third, word,
+        )),
         SavedWords::Four(_, _, _, _) => None,
     }
 }
@@ -238,7 +240,11 @@ fn runtest_statement(saved: &[u8], words: SavedWords) -> Option<StoredStatement>
 }
 
 /// The statement of a keyword and the words after it, which are saved; none where the profile has no such statement.
-pub(crate) fn statement_of_saved(saved: &[u8], key: Span, words: SavedWords) -> Option<StoredStatement>
+pub(crate) fn statement_of_saved(
+    saved: &[u8],
+    key: Span,
+    words: SavedWords,
+) -> Option<StoredStatement>
     requires key { span_end key ≤ length saved.now }
     requires words { AreWordsWithin (length saved.now) words }
     ensures { IsStored [] result (statement_of_words (bytes_in saved.now key) (words_saved saved.now words)) }

@@ -44,7 +44,7 @@ returns-in-Err-clause-stands c = λ f s.
     let r = c.pieces.invariant.goes f.command f.base f.run f.source f.given s in
     let e = refused_here c.args.part.now f.base f.run r.longer (words_of_bytes c.args.bytes.now) c.args.bytes.now c.pieces.at c.in-Err.fault r.later whole (omega arith)
     (c.in-Err.ensures.fault (with_run r.longer f) r.stands) in
-    rw (ap (λ (w : RunWritten). w.run) e, c.in-Err.ensures.unchanged) r.stands
+    rw (ap (λ (w : RunWritten). w.run) e, c.in-Err.ensures.refused.unchanged) r.stands
 
 pub returns-in-Err-clause-lands : goal.returns-in-Err-clause-lands
 returns-in-Err-clause-lands c = λ f s.
@@ -55,7 +55,7 @@ returns-in-Err-clause-lands c = λ f s.
     let r = c.pieces.invariant.goes f.command f.base f.run f.source f.given s in
     let e = refused_here c.args.part.now f.base f.run r.longer (words_of_bytes c.args.bytes.now) c.args.bytes.now c.pieces.at c.in-Err.fault r.later whole (omega arith)
     (c.in-Err.ensures.fault (with_run r.longer f) r.stands) in
-    rw (ap (λ (w : RunWritten). w.run) e, c.in-Err.ensures.same_memory) r.lands
+    rw (ap (λ (w : RunWritten). w.run) e, c.in-Err.ensures.refused.same_memory) r.lands
 
 pub returns-in-Err-clause-count : goal.returns-in-Err-clause-count
 returns-in-Err-clause-count c = λ f s.
