@@ -5,7 +5,7 @@ use Rattle.std.specs.Str.{bytes_eq}
 use Rattle.std.proofs.lemmas.Bool.Decides.{nat_tests}
 use Rattle.std.proofs.lemmas.List.{drop-take, length-take, length-take-le, take-take, drop_all}
 use Rattle.x7_words.specs.Count.{HasRisen}
-use Rattle.x7_words.specs.Input.{InputsState, AsksForName, AtEnd, MissesInput, RestIsWhole, InputsStay, StillKnown, TakenBy, TakesInput, preceded}
+use Rattle.x7_words.specs.Input.{InputsState, AsksForName, AtEnd, MissesInput, RestIsWhole, InputsStay, NoInputFault, StillKnown, TakenBy, TakesInput, preceded}
 use Rattle.x7_words.specs.Input.{MapLacks}
 use Rattle.x7_words.specs.Word.{AreBytes}
 use Rattle.x7_words.proofs.CountLemmas.{risen_from}
@@ -25,6 +25,16 @@ use Rattle.x7_forms.proofs.HeadLemmas.{data_more}
 use Rattle.x7_forms.specs.Step.{Among, AnswersAs, AnswersBy, CameIn, DueBy, FailsAmong, IsCaused, IsCausedBy, IsDecided, IsDue, IsFromOutside, IsOneUnplayed, IsPossible, IsUnplayed, IsUnread, LacksAmong, step_over}
 use Rattle.std.proofs.Math.Seq.{take-append-add}
 use Rattle.x7_words.proofs.ListLemmas.{same_by_test, same_as_itself}
+
+-- ---- no fault of an input
+
+-- where nothing happened, no fault was counted
+pub no_fault_at : (s : InputsState) → NoInputFault s s
+no_fault_at s = record { faults = refl; absences = refl }
+
+-- where no fault was counted over one call, nor over the next, none was over both
+pub no_fault_on : (a b c : InputsState) → NoInputFault a b → NoInputFault b c → NoInputFault a c
+no_fault_on a b c p q = record { faults = q.faults ∙ p.faults; absences = q.absences ∙ p.absences }
 
 -- ---- what was taken
 

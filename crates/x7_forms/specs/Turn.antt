@@ -101,13 +101,6 @@ UnreadToEnd old name new left event =
     ((event ≡ reading_failed name) × BreaksWithin old (left + 1) new)
     ⊎ ((event ≡ too_large name) × ((piece : List ℕ) × (TakenBy new.contents old.rest piece new.rest × (length piece ≡ left + 1))))
 
--- a turn of at most `size` bytes of the open input wasn't read: the input failed before `size` bytes were given, or the
--- turn passed the limit, of which `left` bytes were left
-pub record StopsTurn (old : InputsState) (name : List ℕ) (left size : ℕ) (new : InputsState) (event : Event) : Type 0 where
-  pub unread : UnreadToEnd old name new left event
-  pub fails_early : event ≡ reading_failed name → new.given < old.given + size
-  pub over : event ≡ too_large name → left < size
-
 -- the rest of the open input, the bytes `more`, was read to its end
 abbrev pub ReadsRest : InputsState → InputsState → List ℕ → Type 0
 ReadsRest old new more = TakenBy new.contents old.rest more new.rest × AtEnd new.rest

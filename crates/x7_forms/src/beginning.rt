@@ -1,5 +1,6 @@
 //! The beginning of a stream that is listed, up to where its header is judged.
-ghost use Rattle.std.specs.Prelude.{◌≡◌, ◌≤◌, ◌+◌, ◌⊎◌, ℕ, length, true, false, IfErr, IfOk, MatchOption};
+ghost use Rattle.std.specs.Prelude.{◌≡◌, ◌≤◌, ◌+◌, ◌⊎◌, ℕ, length, true, false, IfErr, IfOk, MatchOption, OnOk};
+ghost use Rattle.x7_words.specs.Input.{NoInputFault};
 ghost use Rattle.x7_header.specs.Header.{fixed_size};
 ghost use Rattle.x7_forms.specs.Event.{bad_input, event_of, no_memory};
 ghost use Rattle.x7_forms.specs.Known.{stream_limit};
@@ -89,6 +90,7 @@ pub fn read_beginning<'w, I: Inputs>(
     requires selected { (I.state inputs.old).selected ≡ true }
     ensures begins { IfOk result (λ first. ReadsBeginning (beginning_data first) (I.state inputs.old) (I.state inputs.new)) }
     ensures refused { IfErr result (λ r. UnreadBeginning (I.state inputs.old) stream_name.now (I.state inputs.new) (event_of r)) }
+    ensures no_fault { OnOk result (NoInputFault (I.state inputs.old) (I.state inputs.new)) }
     ensures gives_few { GivesWithinLimit (I.state inputs.old) stream_limit (I.state inputs.new) }
     ensures short { (I.state inputs.new).given ≤ (I.state inputs.old).given + longest_beginning }
 {

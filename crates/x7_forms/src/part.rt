@@ -1,5 +1,6 @@
 //! The part of a part file.
-ghost use Rattle.std.specs.Prelude.{◌≡◌, [], ◌∷◌, IfErr, true};
+ghost use Rattle.std.specs.Prelude.{◌≡◌, [], ◌∷◌, IfErr, OnOk, true};
+ghost use Rattle.x7_words.specs.Input.{NoInputFault};
 ghost use Rattle.x7_forms.specs.Event.{event_of, no_memory};
 ghost use Rattle.x7_forms.specs.Known.{part_event, part_known, part_limit};
 ghost use Rattle.x7_forms.specs.Turn.{AsksOnlyFor};
@@ -34,6 +35,7 @@ pub fn read_part<'w, I: Inputs>(
     ensures caused { AnswersAs (step_over (name.now ∷ []) (I.state inputs.old) (I.state inputs.new))
         (λ known. part_known known name.now) (result_by (λ part. part) result) }
     ensures named { IfErr result (λ r. IsNoPart name.now (event_of r)) }
+    ensures no_fault { OnOk result (NoInputFault (I.state inputs.old) (I.state inputs.new)) }
     ensures memory { IfErr result (λ r. event_of r ≡ no_memory → (I.state inputs.new).selected ≡ true) }
     ensures asks { AsksOnlyFor (I.state inputs.old) name.now part_limit (I.state inputs.new) }
 {

@@ -1,9 +1,9 @@
 //! Reading an input in turns: each reads up to as many bytes as a buffer holds, which are used before the next turn.
 ghost use Rattle.std.specs.Prelude.{◌≡◌, ◌+◌, ◌<◌, ◌≤◌, ◌⊎◌, ℕ, List, drop, length, true, vec_len, IfErr, IfOk, OnErr, OnOk};
-ghost use Rattle.x7_words.specs.Input.{AtEnd, OpensInput};
-ghost use Rattle.x7_forms.specs.Event.{bad_input, event_of, no_memory};
+ghost use Rattle.x7_words.specs.Input.{AtEnd, NoInputFault, OpensInput};
+ghost use Rattle.x7_forms.specs.Event.{bad_input, event_of, no_memory, reading_failed, too_large};
 ghost use Rattle.x7_forms.specs.Known.{data_in};
-ghost use Rattle.x7_forms.specs.Turn.{AppendsRest, AsksFor, AsksOnlyFor, BreaksWithin, FillsBuffer, GivesAtMost, GivesWithinLimit, ReadsRest, ReadsTurn, StopsTurn, Unopened, UnreadRest};
+ghost use Rattle.x7_forms.specs.Turn.{AppendsRest, AsksFor, AsksOnlyFor, BreaksWithin, FillsBuffer, GivesAtMost, GivesWithinLimit, ReadsRest, ReadsTurn, Unopened, UnreadRest, UnreadToEnd};
 ghost use Rattle.x7_forms.specs.Step.{IsUnread, ReadsWhole, result_by};
 ghost use Rattle.x7_forms.specs.declared.bad_input.InputFault.TheVariants as input;
 
@@ -47,6 +47,7 @@ fn fill<I: Inputs>(inputs: &mut I, buffer: &mut [u8]) -> Result<usize, Failed>
     requires { (I.state inputs.old).selected ≡ true }
     ensures fills { IfOk result (λ n. FillsBuffer (I.state inputs.old) n buffer.new (I.state inputs.new)) }
     ensures failed { OnErr result (BreaksWithin (I.state inputs.old) (length buffer.old) (I.state inputs.new)) }
+    ensures no_fault { OnOk result (NoInputFault (I.state inputs.old) (I.state inputs.new)) }
     ensures gives { GivesAtMost (I.state inputs.old) (length buffer.old) (I.state inputs.new) }
     ensures length { length buffer.new ≡ length buffer.old }
 {
@@ -69,6 +70,7 @@ fn fill<I: Inputs>(inputs: &mut I, buffer: &mut [u8]) -> Result<usize, Failed>
 pub fn open<'w, I: Inputs>(inputs: &mut I, name: &'w str) -> Result<(), Refusal<'w>>
     ensures opened { OnOk result (OpensInput (I.state inputs.old) name.now (I.state inputs.new)) }
     ensures refused { IfErr result (λ r. Unopened (I.state inputs.old) name.now (I.state inputs.new) (event_of r)) }
+    ensures no_fault { OnOk result (NoInputFault (I.state inputs.old) (I.state inputs.new)) }
     ensures asks { AsksFor (I.state inputs.old) name.now (I.state inputs.new) }
 {
     match inputs.select(name) {
@@ -104,7 +106,10 @@ pub fn next_turn<'w, I: Inputs>(
     requires selected { (I.state inputs.old).selected ≡ true }
     requires not_empty { 0 < length buffer.old }
     ensures reads { IfOk result (λ turn. ReadsTurn (I.state inputs.old) left turn buffer.new (I.state inputs.new)) }
-    ensures refused { IfErr result (λ r. StopsTurn (I.state inputs.old) name.now left (length buffer.old) (I.state inputs.new) (event_of r)) }
+    ensures refused { IfErr result (λ r. UnreadToEnd (I.state inputs.old) name.now (I.state inputs.new) left (event_of r)) }
+    ensures fails_early { IfErr result (λ r. event_of r ≡ reading_failed name.now → (I.state inputs.new).given < (I.state inputs.old).given + length buffer.old) }
+    ensures over { IfErr result (λ r. event_of r ≡ too_large name.now → left < length buffer.old) }
+    ensures no_fault { OnOk result (NoInputFault (I.state inputs.old) (I.state inputs.new)) }
     ensures length { length buffer.new ≡ length buffer.old }
     ensures gives_few { GivesWithinLimit (I.state inputs.old) left (I.state inputs.new) }
     ensures gives_a_turn { GivesAtMost (I.state inputs.old) (length buffer.old) (I.state inputs.new) }
@@ -139,6 +144,7 @@ fn read_rest<'w, I: Inputs>(
     requires selected { (I.state inputs.old).selected ≡ true }
     ensures read { OnOk result (AppendsRest (I.state inputs.old) (I.state inputs.new) limit onto.old.items onto.new.items) }
     ensures refused { IfErr result (λ r. (event_of r ≡ no_memory) ⊎ UnreadRest (I.state inputs.old) name.now (I.state inputs.new) limit (event_of r)) }
+    ensures no_fault { OnOk result (NoInputFault (I.state inputs.old) (I.state inputs.new)) }
     ensures open { OnOk result ((I.state inputs.new).selected ≡ true) }
     ensures memory { IfErr result (λ r. event_of r ≡ no_memory → (I.state inputs.new).selected ≡ true) }
     ensures gives_few { GivesWithinLimit (I.state inputs.old) limit (I.state inputs.new) }
@@ -165,6 +171,7 @@ pub fn read_whole<'w, I: Inputs>(
 ) -> Result<Vec<u8>, Refusal<'w>>
     ensures caused { ReadsWhole (I.state inputs.old) (I.state inputs.new) limit name.now (result_by (λ whole. whole.items) result) }
     ensures named { IfErr result (λ r. IsUnread name.now (event_of r)) }
+    ensures no_fault { OnOk result (NoInputFault (I.state inputs.old) (I.state inputs.new)) }
     ensures open { OnOk result ((I.state inputs.new).selected ≡ true) }
     ensures memory { IfErr result (λ r. event_of r ≡ no_memory → (I.state inputs.new).selected ≡ true) }
     ensures within { IfOk result (λ whole. vec_len whole ≤ limit) }
@@ -191,6 +198,7 @@ pub fn skip_rest<'w, I: Inputs>(
     requires end { last ≡ true → AtEnd (I.state inputs.old).rest }
     ensures read { OnOk result ((more : List ℕ) × (length more ≤ limit) × ReadsRest (I.state inputs.old) (I.state inputs.new) more) }
     ensures refused { IfErr result (λ r. UnreadRest (I.state inputs.old) name.now (I.state inputs.new) limit (event_of r)) }
+    ensures no_fault { OnOk result (NoInputFault (I.state inputs.old) (I.state inputs.new)) }
     ensures length { length buffer.new ≡ length buffer.old }
     ensures gives_few { GivesWithinLimit (I.state inputs.old) limit (I.state inputs.new) }
     ensures no_end_read { last ≡ true → (I.state inputs.new).ends ≤ (I.state inputs.old).ends }

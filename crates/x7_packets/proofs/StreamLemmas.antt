@@ -2,7 +2,7 @@
 use Rattle.std.proofs.Common.{Option, ◌≡◌, ◌≢◌, ℕ, ◌+◌, ◌*◌, ◌-◌, ◌<◌, ◌≤◌, ◌↔◌, Bool, true, false, List, [], ◌∷◌, ◌++◌, length, take, drop, Bor, inl, inr, refl, ap, sym, subst, ◌∙◌, append_assoc, append-nil, arith, length-append, length-take, if◌then◌else◌, ◌⊎◌, suc}
 use Rattle.std.specs.Bool.{⊤}
 use Rattle.std.proofs.lemmas.List.{drop-drop, drop-take, take-append-drop, take-take, take_all, take_at, drop_all}
-use Rattle.x7_words.specs.Input.{AsksForNoInput, AtEnd, InputsState, InputsStay, TakenBy}
+use Rattle.x7_words.specs.Input.{AsksForNoInput, AtEnd, InputsState, InputsStay, NoInputFault, TakenBy}
 use Rattle.x7_words.proofs.InputLemmas.{taken_before, taken_none, taken_on}
 use Rattle.x7_words.specs.Word.{words_of_bytes}
 use Rattle.x7_packets.specs.SyncWord.{sync_bytes}
@@ -431,6 +431,14 @@ asks_once first mid now a b = record { asked = b.asked ∙ a.asked; selects = b.
 
 pub asks_not : (first now : InputsState) → AsksToReadOn first now → AsksForNoInput first now
 asks_not first now a = record { asked = a.asked; selects = a.selects; ends = omega (arith, a.ends) }
+
+-- where nothing was read, no fault was counted
+pub no_fault_at : (now : InputsState) → NoInputFault now now
+no_fault_at now = record { faults = refl; absences = refl }
+
+-- no fault was counted up to a read, nor in it
+pub no_fault_on : (first mid now : InputsState) → NoInputFault first mid → NoInputFault mid now → NoInputFault first now
+no_fault_on first mid now a b = record { faults = b.faults ∙ a.faults; absences = b.absences ∙ a.absences }
 
 -- where a run was ready before the call, none of its cuts needs more bytes
 pub never_waits : {A : Type 0} (first old now : PacketsState) (s : CutsNext old now false) → (RunIsReady first → (old ≡ first) × A) → RunIsReady first → ⊥

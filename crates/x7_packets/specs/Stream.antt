@@ -3,7 +3,7 @@
 use Rattle.std.specs.Prelude.{◌≡◌, ℕ, ◌+◌, ◌<◌, ◌≤◌, ◌↔◌, List, [], ◌++◌, length, take, drop, Bool, true, false, if◌then◌else◌, Option, Result, Ok, Err, OnErr, OnOk, ◌⊎◌}
 use Rattle.std.specs.Borrow.{Bor, Fml, MutBor}
 use Rattle.std.specs.Io.BufRead.{Rests}
-use Rattle.x7_words.specs.Input.{AsksForNoInput, AtEnd, InputsFail, InputsState, InputsStay, TakenBy, taken_bytes_limit}
+use Rattle.x7_words.specs.Input.{AsksForNoInput, AtEnd, InputsFail, InputsState, InputsStay, NoInputFault, TakenBy, taken_bytes_limit}
 use Rattle.x7_words.specs.declared.input.Failed.{Failed}
 use Rattle.x7_packets.specs.Reading.{Place, Searching, Synced, EndedSession, IsReading, tail_of}
 use Rattle.x7_packets.specs.Cutter.{CompletesNone, CutterStandsFor, CutsRun, IsLent, IsNeed, SkipsAll}
@@ -146,10 +146,11 @@ pub record MayCall (p : PacketsState) (input : InputsState) : Type 0 where
   pub count : p.taken ≤ taken_bytes_limit
 
 -- What holds of the inputs and of a call's result: every name keeps its bytes, no input is asked for, and at most one
--- read gave nothing. An input is still selected after a run. The call fails only where a read failed in it or an earlier
--- call failed; after an earlier failure it always fails.
+-- read gave nothing. After a run an input is still selected, and the call counted no fault. The call fails only
+-- where a read failed in it or an earlier call failed; after an earlier failure it always fails.
 pub record IsCallResult {T : Type 0} (p : PacketsState) (old new : InputsState) (result : Result T Failed) : Type 0 where
   pub failed : OnErr result ((p.has_failed ≡ true) ⊎ InputsFail old new)
+  pub no_fault : OnOk result (NoInputFault old new)
   pub selected : OnOk result (new.selected ≡ true)
   pub stays : p.has_failed ≡ true → OnOk result ⊥
   pub asks : AsksForNoInput old new

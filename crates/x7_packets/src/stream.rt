@@ -1,6 +1,6 @@
 //! Packets over an input: its runs, one after another, lent out of one buffer (this project's choice).
 ghost use Rattle.std.specs.Prelude.{◌≡◌, ◌≢◌, ◌≤◌, ◌<◌, ◌+◌, ◌^◌, ◌⊎◌, ℕ, List, [], length, take, vec_len, true, false, IfNone, IfOk, IfSome, OnErr, OnOk};
-ghost use Rattle.x7_words.specs.Input.{AsksForNoInput, AtEnd, InputsFail, InputsStay, taken_bytes_limit};
+ghost use Rattle.x7_words.specs.Input.{AsksForNoInput, AtEnd, InputsFail, InputsStay, NoInputFault, taken_bytes_limit};
 ghost use Rattle.x7_packets.specs.Cutter.{IsNeed};
 ghost use Rattle.x7_packets.specs.Mode.{Mode};
 ghost use Rattle.x7_packets.specs.FoundRun.{FoundRun, found_of};
@@ -150,6 +150,7 @@ impl Packets {
         requires count { self.old.taken ≤ taken_bytes_limit }
         ensures* next { sem 𝓛 (EndsNextCall self.entry (I.state inputs.old) (I.state inputs.new) result) }
         ensures failed { OnErr result ((self.old.has_failed ≡ true) ⊎ InputsFail (I.state inputs.old) (I.state inputs.new)) }
+        ensures no_fault { OnOk result (NoInputFault (I.state inputs.old) (I.state inputs.new)) }
         ensures selected { OnOk result ((I.state inputs.new).selected ≡ true) }
         ensures stays_failed { self.old.has_failed ≡ true → OnOk result ⊥ }
         ensures asks { AsksForNoInput (I.state inputs.old) (I.state inputs.new) }
@@ -237,6 +238,7 @@ impl Packets {
         ensures fills { IfOk result (λ gave_bytes. ReadsPiece self.old self.new (I.state inputs.old) (I.state inputs.new) gave_bytes) }
         ensures loses_bytes { OnErr result (self.new ≡ record self.old { bytes = []; has_failed = true }) }
         ensures failed { OnErr result (InputsFail (I.state inputs.old) (I.state inputs.new)) }
+        ensures no_fault { OnOk result (NoInputFault (I.state inputs.old) (I.state inputs.new)) }
         ensures selected { OnOk result ((I.state inputs.new).selected ≡ true) }
         ensures asks { AsksForNoInput (I.state inputs.old) (I.state inputs.new) }
         ensures no_end { IfOk result (λ gave_bytes. gave_bytes ≡ true → (I.state inputs.new).ends ≤ (I.state inputs.old).ends) }

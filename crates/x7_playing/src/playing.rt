@@ -1,6 +1,6 @@
 //! Playing the data of streams while they are read.
-ghost use Rattle.std.specs.Prelude.{◌≡◌, ◌<◌, ◌≤◌, ◌⊎◌, true, length, map, string_bytes, Ok, Err, IfErr, IfOk};
-ghost use Rattle.x7_words.specs.Input.{AsksAtMost, AtEnd, InputsStay};
+ghost use Rattle.std.specs.Prelude.{◌≡◌, ◌<◌, ◌≤◌, ◌⊎◌, true, length, map, string_bytes, Ok, Err, IfErr, IfOk, OnOk};
+ghost use Rattle.x7_words.specs.Input.{AsksAtMost, AtEnd, InputsStay, NoInputFault};
 ghost use Rattle.x7_forms.specs.Event.{event_of, no_memory};
 ghost use Rattle.x7_forms.specs.Known.{stream_limit};
 ghost use Rattle.x7_playing.specs.Playing.{MayPlay, PlaysOn, PlaysRest, PlaysStream, PlaysStreams};
@@ -34,6 +34,7 @@ fn play_rest<'w, I: Inputs>(
     requires may_play { MayPlay player.old limit }
     ensures played { IfOk result (λ left. PlaysRest limit left (PlaysOn player.old player.new) (ReadsRest (I.state inputs.old) (I.state inputs.new))) }
     ensures refused { IfErr result (λ r. (event_of r ≡ no_memory) ⊎ UnreadRest (I.state inputs.old) name.now (I.state inputs.new) limit (event_of r)) }
+    ensures no_fault { OnOk result (NoInputFault (I.state inputs.old) (I.state inputs.new)) }
     ensures length { length piece.new ≡ length piece.old }
     ensures gives_few { GivesWithinLimit (I.state inputs.old) limit (I.state inputs.new) }
     ensures no_end_read { last ≡ true → (I.state inputs.new).ends ≤ (I.state inputs.old).ends }
@@ -68,6 +69,7 @@ fn play_stream<'w, I: Inputs>(
     ensures played { IfOk result (λ left. PlaysStream limit left (PlaysOn player.old player.new) (ReadsStream (I.state inputs.old) (I.state inputs.new) limit name.now)) }
     ensures refused { IfErr result (λ r. ReadsStream (I.state inputs.old) (I.state inputs.new) limit name.now (Err (event_of r))) }
     ensures named { IfErr result (λ r. IsUnplayed name.now (event_of r)) }
+    ensures no_fault { OnOk result (NoInputFault (I.state inputs.old) (I.state inputs.new)) }
     ensures asks { AsksOnlyFor (I.state inputs.old) name.now limit (I.state inputs.new) }
     ensures length { length piece.new ≡ length piece.old }
 {
@@ -101,6 +103,7 @@ pub fn play_streams<'w, I: Inputs>(
     ensures played { IfOk result (λ player. PlaysStreams part.now player (I.state inputs.old) (I.state inputs.new) (map string_bytes streams.now)) }
     ensures refused { IfErr result (λ r. ReadsStreams (I.state inputs.old) (I.state inputs.new) (map string_bytes streams.now) (Err (event_of r))) }
     ensures named { IfErr result (λ r. IsOneUnplayed (map string_bytes streams.now) (event_of r)) }
+    ensures no_fault { OnOk result (NoInputFault (I.state inputs.old) (I.state inputs.new)) }
     ensures stops { IfErr result (λ r. StopsAmong (limited_together (I.state inputs.new).contents stream_limit (map string_bytes streams.now))
         (I.state inputs.old) (I.state inputs.new) (event_of r)) }
     ensures asks { AsksAtMost (I.state inputs.old) (length streams.now) (I.state inputs.new) }

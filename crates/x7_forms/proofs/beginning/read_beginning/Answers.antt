@@ -8,6 +8,7 @@ use Rattle.x7_forms.specs.Turn.{IsJudged, turn_size}
 use Rattle.std.proofs.lemmas.List.{take-append-le}
 use Rattle.x7_forms.proofs.BeginningLemmas.{found_none, found_some, beginning_read, joined_taken, none_given, piece_of, reads_by, refused_soon, unread_turn}
 use Rattle.x7_forms.proofs.AskedLemmas.{gives_on}
+use Rattle.x7_forms.proofs.ReadLemmas.{no_fault_on}
 use Rattle.x7_forms.proofs.ResultLemmas.{handed_on}
 use Rattle.x7_forms.proofs.beginning.read_beginning.Goals as goal
 
@@ -71,10 +72,10 @@ returns-in_err-turn-clause-refused g c = rw (handed_on c.from_residual.result c.
     let old = c.loop-bytes.bytes.items in
     unread_turn (i.state c.args.inputs.now) (i.state c.loop-bytes.inputs) (i.state c.next_turn.new.inputs) c.args.stream_name.now old (stream_limit - c.len-left.result) (event_of c.in_err-turn.field-0.0)
     (reads_by (i.state c.args.inputs.now) (i.state c.loop-bytes.inputs) old v.selected v.taken v.given v.asked v.inputs v.selects) (omega (arith, v.few, c.len-left.ensures)) c.next_turn.ensures.gives_few.asked
-    (λ e. absurd (omega (arith, c.in_err-turn.ensures.refused.over e, v.few, c.len-left.ensures, v.piece, c.min-count.ensures, length-take-le c.min-count.result c.loop-bytes.piece (omega (arith, c.min-count.ensures, v.piece)))))
+    (λ e. absurd (omega (arith, c.in_err-turn.ensures.over e, v.few, c.len-left.ensures, v.piece, c.min-count.ensures, length-take-le c.min-count.result c.loop-bytes.piece (omega (arith, c.min-count.ensures, v.piece)))))
     (λ e. none_given (i.state c.args.inputs.now) (i.state c.loop-bytes.inputs) (i.state c.next_turn.new.inputs) old c.deref.result.now c.wanted.result (length (take c.min-count.result c.loop-bytes.piece)) c.wanted.ensures.not_zero
     (omega (arith, c.min-count.ensures, length-take-le c.min-count.result c.loop-bytes.piece (omega (arith, c.min-count.ensures, v.piece)))) c.deref.ensures.value c.wanted.ensures.fixed c.wanted.ensures.waits v.waiting c.next_turn.ensures.gives_few.stays
-    (reads_by (i.state c.args.inputs.now) (i.state c.loop-bytes.inputs) old v.selected v.taken v.given v.asked v.inputs v.selects) (c.in_err-turn.ensures.refused.fails_early e)) c.in_err-turn.ensures.refused.unread)
+    (reads_by (i.state c.args.inputs.now) (i.state c.loop-bytes.inputs) old v.selected v.taken v.given v.asked v.inputs v.selects) (c.in_err-turn.ensures.fails_early e)) c.in_err-turn.ensures.refused)
 
 pub loop-bytes-preserved : goal.loop-bytes-preserved
 loop-bytes-preserved g c =
@@ -93,6 +94,7 @@ loop-bytes-preserved g c =
     record {
       selected = c.in_ok-turn.ensures.reads.takes.selected;
       inputs = stays_on _ _ _ v.inputs c.next_turn.ensures.gives_few.stays;
+      no_fault = no_fault_on _ _ _ v.no_fault c.in_ok-turn.ensures.no_fault;
       piece = omega (arith, length-append buf (drop c.min-count.result c.loop-bytes.piece), length-drop c.min-count.result c.loop-bytes.piece, c.next_turn.ensures.length, asked_for, v.piece, c.min-count.ensures);
       few = omega (arith, none.1, ap length c.deref-in-loop-bytes.ensures.value);
       waiting = λ some. subst EndsInHeader c.deref-in-loop-bytes.ensures.value none.2;
@@ -102,6 +104,9 @@ loop-bytes-preserved g c =
       given = omega (arith, v.given, c.in_ok-turn.ensures.reads.takes.given, ap length joined, length-append old piece);
       taken = joined_taken (i.state c.args.inputs.now) (i.state c.loop-bytes.inputs) (i.state c.next_turn.new.inputs) old piece mid mid c.next_turn.ensures.gives_few.stays v.taken c.in_ok-turn.ensures.reads.takes.taken joined refl;
     }
+
+pub returns-in-Some-clause-no_fault : goal.returns-in-Some-clause-no_fault
+returns-in-Some-clause-no_fault g c = no_fault_on _ _ _ c.loop-bytes.invariant.no_fault c.in_ok-turn.ensures.no_fault
 
 pub returns-in_err-turn-clause-gives_few : goal.returns-in_err-turn-clause-gives_few
 returns-in_err-turn-clause-gives_few g c =

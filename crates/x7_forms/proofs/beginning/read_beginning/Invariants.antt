@@ -1,6 +1,6 @@
 use Rattle.std.proofs.Common.{◌≡◌, ◌≤◌, ◌<◌, ◌+◌, ◌-◌, length, true}
 use Rattle.x7_header.specs.Header.{EndsInHeader, longest_header}
-use Rattle.x7_words.specs.Input.{InputsStay, TakenBy}
+use Rattle.x7_words.specs.Input.{InputsStay, NoInputFault, TakenBy}
 use Rattle.x7_forms.specs.Known.{stream_limit}
 use Rattle.x7_forms.specs.Turn.{turn_size}
 use Rattle.x7_forms.proofs.beginning.read_beginning.Given as goal
@@ -11,6 +11,7 @@ invariant-loop-bytes g l =
     record {
       selected : (i.state l.inputs).selected ≡ true;
       inputs : InputsStay (i.state l.fn.inputs) (i.state l.inputs);
+      no_fault : NoInputFault (i.state l.fn.inputs) (i.state l.inputs);
       piece : length l.piece ≡ turn_size;
       few : length l.bytes.items ≤ longest_header;
       waiting : 0 < length l.bytes.items → EndsInHeader l.bytes.items;

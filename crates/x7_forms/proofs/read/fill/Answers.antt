@@ -2,7 +2,7 @@ use Rattle.std.proofs.Common.{◌+◌, ◌-◌, ◌∙◌, length, length-take-l
 use Rattle.std.proofs.lemmas.Slice.{overwrites, take-put_mid}
 use Rattle.x7_words.proofs.CountLemmas.{risen_from}
 use Rattle.x7_words.proofs.InputLemmas.{stays_on, takes_as, takes_on}
-use Rattle.x7_forms.proofs.ReadLemmas.{filled}
+use Rattle.x7_forms.proofs.ReadLemmas.{filled, no_fault_on}
 use Rattle.x7_forms.proofs.read.fill.Goals as goal
 
 pub loop-at-preserved : goal.loop-at-preserved
@@ -18,6 +18,7 @@ loop-at-preserved g c =
       asked = c.read.ensures.asks.asked ∙ i.asked;
       ends = omega (arith, i.ends, read.no_end (omega arith));
       inputs = stays_on _ _ _ i.inputs read.stays;
+      no_fault = no_fault_on _ _ _ i.no_fault read.no_fault;
     }
 
 pub returns-in-Err-clause-failed : goal.returns-in-Err-clause-failed

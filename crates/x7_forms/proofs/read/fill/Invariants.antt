@@ -1,5 +1,5 @@
 use Rattle.std.proofs.Common.{◌≡◌, ◌≤◌, ◌-◌, length, take}
-use Rattle.x7_words.specs.Input.{InputsStay, TakesInput}
+use Rattle.x7_words.specs.Input.{InputsStay, NoInputFault, TakesInput}
 use Rattle.x7_forms.proofs.read.fill.Given as goal
 
 abbrev pub invariant-loop-at : goal.invariant-loop-at
@@ -12,6 +12,7 @@ invariant-loop-at g l =
       asked : (i.state l.inputs).asked ≡ (i.state l.fn.inputs).asked;
       ends : (i.state l.inputs).ends ≤ (i.state l.fn.inputs).ends;
       inputs : InputsStay (i.state l.fn.inputs) (i.state l.inputs);
+      no_fault : NoInputFault (i.state l.fn.inputs) (i.state l.inputs);
     }
 
 abbrev pub decreases-loop-at : goal.decreases-loop-at

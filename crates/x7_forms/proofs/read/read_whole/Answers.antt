@@ -3,7 +3,7 @@ use Rattle.x7_words.proofs.InputLemmas.{rest_on}
 use Rattle.x7_forms.specs.Event.{event_of}
 use Rattle.x7_forms.specs.Step.{CameIn, IsCaused, step_over}
 use Rattle.x7_forms.specs.Known.{whole_known, with_inputs}
-use Rattle.x7_forms.proofs.ReadLemmas.{open_refused, unopened_named, unopened_unread, want_unread, whole_read, whole_refused}
+use Rattle.x7_forms.proofs.ReadLemmas.{no_fault_on, open_refused, unopened_named, unopened_unread, want_unread, whole_read, whole_refused}
 use Rattle.x7_forms.proofs.AskedLemmas.{asks_opened, asks_read}
 use Rattle.x7_forms.proofs.ResultLemmas.{handed_on}
 use Rattle.x7_forms.proofs.read.read_whole.Goals as goal
@@ -40,6 +40,9 @@ returns-in_err-open-clause-named g c = rw (handed_on c.from_residual.result c.in
 pub returns-in_err-read_rest-clause-named : goal.returns-in_err-read_rest-clause-named
 returns-in_err-read_rest-clause-named g c = rw (handed_on c.from_residual-in_err-read_rest.result c.in_err-read_rest.field-0.0 c.from_residual-in_err-read_rest.ensures) (let i = g.I.Inputs in
     want_unread (i.state c.open.new.inputs) (i.state c.read_rest.new.inputs) c.args.name.now c.args.limit (event_of c.in_err-read_rest.field-0.0) c.in_err-read_rest.ensures.refused)
+
+pub returns-clause-no_fault : goal.returns-clause-no_fault
+returns-clause-no_fault g c = no_fault_on _ _ _ c.in_ok-open.ensures.no_fault c.in_ok-read_rest.ensures.no_fault
 
 pub returns-in_err-open-clause-asks : goal.returns-in_err-open-clause-asks
 returns-in_err-open-clause-asks g c = asks_opened _ _ c.args.name.now c.args.limit c.open.ensures.asks

@@ -1,7 +1,7 @@
 use Rattle.std.proofs.Common.{◌≡◌, [], refl, ◌++◌, length, take, length-append, length-take-le, arith, ◌∙◌, false, true, sym}
 use Rattle.x7_words.proofs.InputLemmas.{stays_at, stays_on}
 use Rattle.x7_forms.specs.Event.{event_of}
-use Rattle.x7_forms.proofs.ReadLemmas.{reads_none, reads_on, rest_unread}
+use Rattle.x7_forms.proofs.ReadLemmas.{no_fault_at, no_fault_on, reads_none, reads_on, rest_unread}
 use Rattle.x7_forms.proofs.AskedLemmas.{gives_on}
 use Rattle.x7_forms.proofs.ResultLemmas.{handed_on}
 use Rattle.x7_forms.proofs.read.skip_rest.Goals as goal
@@ -10,7 +10,7 @@ pub returns-in_err-turn-clause-refused : goal.returns-in_err-turn-clause-refused
 returns-in_err-turn-clause-refused g c = rw (handed_on c.from_residual.result c.in_err-turn.field-0.0 c.from_residual.ensures) (let i = g.I.Inputs in
     let v = c.loop-turn.invariant in
     rest_unread (i.state c.args.inputs.now) (i.state c.loop-turn.inputs) (i.state c.next_turn.new.inputs) c.args.name.now v.known.0 c.args.limit c.loop-turn.left (event_of c.in_err-turn.field-0.0)
-    c.next_turn.ensures.gives_few.stays v.known.1.1 v.known.1.0 c.in_err-turn.ensures.refused.unread c.next_turn.ensures.gives_few.asked)
+    c.next_turn.ensures.gives_few.stays v.known.1.1 v.known.1.0 c.in_err-turn.ensures.refused c.next_turn.ensures.gives_few.asked)
 
 pub returns-then-turn-clause-read : goal.returns-then-turn-clause-read
 returns-then-turn-clause-read g c =
@@ -33,6 +33,7 @@ loop-turn-preserved g c =
     record {
       selected = c.in_ok-turn.ensures.reads.takes.selected;
       inputs = stays_on _ _ _ v.inputs c.next_turn.ensures.gives_few.stays;
+      no_fault = no_fault_on _ _ _ v.no_fault c.in_ok-turn.ensures.no_fault;
       ends = omega (arith, v.ends, c.in_ok-turn.ensures.reads.no_end_read c.if-turn.false);
       left = omega (arith, v.left);
       buffer = c.next_turn.ensures.length ∙ v.buffer;
@@ -40,7 +41,7 @@ loop-turn-preserved g c =
     }
 
 pub loop-turn-init : goal.loop-turn-init
-loop-turn-init g c = record { selected = c.requires.selected; inputs = stays_at _; ends = omega arith; left = omega arith; buffer = refl; known = ([], (omega arith, reads_none (g.I.Inputs.state c.args.inputs.now) c.requires.selected)) }
+loop-turn-init g c = record { selected = c.requires.selected; inputs = stays_at _; no_fault = no_fault_at _; ends = omega arith; left = omega arith; buffer = refl; known = ([], (omega arith, reads_none (g.I.Inputs.state c.args.inputs.now) c.requires.selected)) }
 
 pub returns-in_err-turn-clause-gives_few : goal.returns-in_err-turn-clause-gives_few
 returns-in_err-turn-clause-gives_few g c =
@@ -53,6 +54,9 @@ returns-then-turn-clause-gives_few g c =
     let i = g.I.Inputs in
     let v = c.loop-turn.invariant in
     gives_on (i.state c.args.inputs.now) (i.state c.loop-turn.inputs) (i.state c.next_turn.new.inputs) v.known.0 c.args.limit c.loop-turn.left v.known.1.1 v.known.1.0 v.ends c.next_turn.ensures.gives_few
+
+pub returns-then-turn-clause-no_fault : goal.returns-then-turn-clause-no_fault
+returns-then-turn-clause-no_fault g c = no_fault_on _ _ _ c.loop-turn.invariant.no_fault c.in_ok-turn.ensures.no_fault
 
 pub returns-in_err-turn-clause-no_end_read : goal.returns-in_err-turn-clause-no_end_read
 returns-in_err-turn-clause-no_end_read g c = λ e. let never : false ≡ true = sym c.if-last.false ∙ e in absurd cc

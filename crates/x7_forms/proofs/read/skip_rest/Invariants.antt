@@ -1,5 +1,5 @@
 use Rattle.std.proofs.Common.{◌≡◌, ℕ, List, ◌+◌, ◌≤◌, length, true}
-use Rattle.x7_words.specs.Input.{InputsStay}
+use Rattle.x7_words.specs.Input.{InputsStay, NoInputFault}
 use Rattle.x7_forms.specs.Turn.{ReadsBytes}
 use Rattle.x7_forms.proofs.read.skip_rest.Given as goal
 
@@ -9,6 +9,7 @@ invariant-loop-turn g l =
     record {
       selected : (i.state l.inputs).selected ≡ true;
       inputs : InputsStay (i.state l.fn.inputs) (i.state l.inputs);
+      no_fault : NoInputFault (i.state l.fn.inputs) (i.state l.inputs);
       ends : (i.state l.inputs).ends ≤ (i.state l.fn.inputs).ends;
       left : l.left ≤ l.limit;
       buffer : length l.buffer ≡ length l.fn.buffer;

@@ -1,5 +1,5 @@
 use Rattle.std.proofs.Common.{◌≡◌, ℕ, List, ◌+◌, ◌≤◌, length, true}
-use Rattle.x7_words.specs.Input.{InputsStay}
+use Rattle.x7_words.specs.Input.{InputsStay, NoInputFault}
 use Rattle.x7_forms.specs.Turn.{ReadsBytes, play_turn_size}
 use Rattle.x7_playing.specs.Playing.{MayPlay, PlaysOn}
 use Rattle.x7_playing.proofs.playing.play_rest.Given as goal
@@ -10,6 +10,7 @@ invariant-loop-turn g l =
     record {
       selected : (i.state l.inputs).selected ≡ true;
       inputs : InputsStay (i.state l.fn.inputs) (i.state l.inputs);
+      no_fault : NoInputFault (i.state l.fn.inputs) (i.state l.inputs);
       ends : (i.state l.inputs).ends ≤ (i.state l.fn.inputs).ends;
       left : l.left ≤ l.limit;
       piece : length l.piece ≡ play_turn_size;

@@ -1,6 +1,7 @@
 use Rattle.std.proofs.Common.{◌≡◌, ℕ, List, [], ◌∷◌, ◌++◌, ◌-◌, ◌≤◌, false, Ok, drop, length, length-append, length-take-le, take, ap, arith, inl, inr, subst, sym, ◌∙◌}
 use Rattle.x7_header.specs.Header.{longest_header}
 use Rattle.std.proofs.lemmas.List.{length-take}
+use Rattle.std.proofs.lemmas.Result.{on_ok_weaker}
 use Rattle.x7_words.specs.Input.{preceded}
 use Rattle.x7_words.proofs.InputLemmas.{rest_on, stays_on}
 use Rattle.x7_words.specs.Word.{AreBytes}
@@ -10,7 +11,7 @@ use Rattle.x7_playing.specs.Playing.{PlaysOn}
 use Rattle.x7_forms.specs.Step.{CameIn, IsCaused, step_over}
 use Rattle.x7_forms.proofs.ResultLemmas.{handed_on, err_weaker, ok_weaker, from_ok}
 use Rattle.x7_playing.proofs.PlayerLemmas.{may_less, may_on, on_on}
-use Rattle.x7_forms.proofs.ReadLemmas.{header_refused, reads_first, slice_of, stream_read, stream_refused, stream_unopened, stream_unread, turn_unread, unopened_unread, want_or_rest, want_unread, whole_later}
+use Rattle.x7_forms.proofs.ReadLemmas.{header_refused, no_fault_on, reads_first, slice_of, stream_read, stream_refused, stream_unopened, stream_unread, turn_unread, unopened_unread, want_or_rest, want_unread, whole_later}
 use Rattle.x7_forms.proofs.AskedLemmas.{asks_opened, asks_read, asks_rest}
 use Rattle.x7_playing.proofs.playing.play_stream.Goals as goal
 
@@ -70,7 +71,7 @@ pub returns-in_err-first-clause-refused : goal.returns-in_err-first-clause-refus
 returns-in_err-first-clause-refused g c = rw (handed_on c.from_residual-in_err-first.result c.in_err-first.field-0.0 c.from_residual-in_err-first.ensures) (λ flash.
     let i = g.I.Inputs in
     stream_unread (i.state c.args.inputs.now) (i.state c.open.new.inputs) (i.state c.next_turn.new.inputs) flash c.args.name.now c.args.limit (event_of c.in_err-first.field-0.0)
-    c.open.ensures.asks.stays c.next_turn.ensures.gives_few.stays c.in_ok-open.ensures.opened.found c.open.ensures.asks.named (inr (c.in_err-first.ensures.refused.unread, c.next_turn.ensures.gives_few.asked)))
+    c.open.ensures.asks.stays c.next_turn.ensures.gives_few.stays c.in_ok-open.ensures.opened.found c.open.ensures.asks.named (inr (c.in_err-first.ensures.refused, c.next_turn.ensures.gives_few.asked)))
 
 pub returns-else-is_err-clause-refused : goal.returns-else-is_err-clause-refused
 returns-else-is_err-clause-refused g c =
@@ -123,7 +124,7 @@ returns-in_err-open-clause-named g c = rw (handed_on c.from_residual.result c.in
 
 pub returns-in_err-first-clause-named : goal.returns-in_err-first-clause-named
 returns-in_err-first-clause-named g c = rw (handed_on c.from_residual-in_err-first.result c.in_err-first.field-0.0 c.from_residual-in_err-first.ensures) (let i = g.I.Inputs in
-    inl (turn_unread (i.state c.open.new.inputs) (i.state c.next_turn.new.inputs) c.args.name.now c.args.limit (event_of c.in_err-first.field-0.0) c.in_err-first.ensures.refused.unread))
+    inl (turn_unread (i.state c.open.new.inputs) (i.state c.next_turn.new.inputs) c.args.name.now c.args.limit (event_of c.in_err-first.field-0.0) c.in_err-first.ensures.refused))
 
 pub returns-else-is_err-clause-named : goal.returns-else-is_err-clause-named
 returns-else-is_err-clause-named g c =
@@ -137,6 +138,12 @@ returns-in_err-skip_rest-in-Err-clause-named g c = rw (handed_on c.from_residual
 pub returns-in_ok-skip_rest-in-Err-clause-named : goal.returns-in_ok-skip_rest-in-Err-clause-named
 returns-in_ok-skip_rest-in-Err-clause-named g c =
     header_refused c.args.name.now (take c.in_ok-first.first.count c.next_turn.new.buffer) (event_of c.in-Err.refusal) c.in-Err.ensures.data
+
+pub returns-else-is_err-clause-no_fault : goal.returns-else-is_err-clause-no_fault
+returns-else-is_err-clause-no_fault g c =
+    let i = g.I.Inputs in
+    let turned = no_fault_on (i.state c.args.inputs.now) (i.state c.open.new.inputs) (i.state c.next_turn.new.inputs) c.in_ok-open.ensures.no_fault c.in_ok-first.ensures.no_fault in
+    on_ok_weaker c.play_rest.result (λ n. no_fault_on (i.state c.args.inputs.now) (i.state c.next_turn.new.inputs) (i.state c.play_rest.new.inputs) turned n) c.play_rest.ensures.no_fault
 
 pub returns-in_err-open-clause-asks : goal.returns-in_err-open-clause-asks
 returns-in_err-open-clause-asks g c = asks_opened _ _ c.args.name.now c.args.limit c.open.ensures.asks

@@ -3,7 +3,7 @@ use Rattle.x7_words.proofs.InputLemmas.{few_at, few_more, few_on, stays_at, stay
 use Rattle.x7_forms.specs.Event.{event_of}
 use Rattle.x7_forms.specs.Known.{StreamRead, stream_limit}
 use Rattle.x7_forms.specs.Step.{CameIn, step_over}
-use Rattle.x7_forms.proofs.ReadLemmas.{one_unplayed, rests_all, rests_none, stream_err, stream_next}
+use Rattle.x7_forms.proofs.ReadLemmas.{no_fault_at, no_fault_on, one_unplayed, rests_all, rests_none, stream_err, stream_next}
 use Rattle.x7_forms.specs.ReadingStops.{limited_together}
 use Rattle.x7_forms.proofs.AskedLemmas.{limits_first, limits_later, limits_next, limits_stop, room_left}
 use Rattle.x7_forms.proofs.ResultLemmas.{handed_on}
@@ -14,6 +14,7 @@ loop-name-init g c =
     let i = g.I.Inputs in
     record {
       inputs = stays_at _;
+      no_fault = no_fault_at _;
       asks = few_at _;
       within = omega arith;
       limits = limits_first (i.state c.args.inputs.now).contents stream_limit (map string_bytes c.args.streams.now);
@@ -47,6 +48,7 @@ loop-name-preserved g c =
     c.play_stream.ensures.asks.stays.map c.loop-name-test.true c.name-item.is c.as_str.ensures.value v.played.1.2 p.reads in
     record {
       inputs = stays_on _ _ _ v.inputs c.play_stream.ensures.asks.stays;
+      no_fault = no_fault_on _ _ _ v.no_fault c.in_ok-left.ensures.no_fault;
       asks = few_on _ _ _ c.loop-name.name-index 1 v.asks c.play_stream.ensures.asks.once;
       within = omega (arith, c.loop-name-test.true);
       limits = limits_next string_bytes (limited_together now stream_limit (map string_bytes c.args.streams.now)) now c.args.streams.now c.loop-name.name-index c.loop-name.left c.in_ok-left.left c.name-item.result name

@@ -192,15 +192,15 @@ returns-in_err-turn-clause-answered g c = rw (handed_on c.from_residual-in_err-t
     record {
       ends = list_ends stream old new (Err event)
           (unread_end old.inputs (i.state c.loop-lister.inputs) new.inputs old.flash.bytes stream v.known.0 c.loop-lister.lister c.loop-lister.left (SinkFails old.out new.out) old.out.written new.out.written event
-          v.inputs c.next_turn.ensures.gives_few.stays v.known.1.0 v.known.1.3 v.known.1.1 v.known.1.2 c.in_err-turn.ensures.refused.unread c.next_turn.ensures.gives_few.asked)
+          v.inputs c.next_turn.ensures.gives_few.stays v.known.1.0 v.known.1.3 v.known.1.1 v.known.1.2 c.in_err-turn.ensures.refused c.next_turn.ensures.gives_few.asked)
           (stays_near event stream old new (unread_near new.inputs.contents stream new.inputs.rest old.out.written new.out.written (i.state c.loop-lister.inputs) new.inputs stream v.known.0 c.loop-lister.lister c.loop-lister.left event refl refl c.next_turn.ensures.gives_few.stays v.known.1.0 t
-          (omega (arith, v.known.1.3.given, c.next_turn.ensures.gives_a_turn.given, v.piece)) (λ e. omega (arith, c.in_err-turn.ensures.refused.over e, v.piece)) (same_now (o.state c.loop-lister.out)) c.in_err-turn.ensures.refused.unread));
+          (omega (arith, v.known.1.3.given, c.next_turn.ensures.gives_a_turn.given, v.piece)) (λ e. omega (arith, c.in_err-turn.ensures.over e, v.piece)) (same_now (o.state c.loop-lister.out)) c.in_err-turn.ensures.refused));
       stops = let v = c.loop-lister.invariant in first_stops (form.List c.args.stream_name.now) (limited stream_limit c.args.stream_name.now) [] (g.I.Inputs.state c.args.inputs.now)
           (g.I.Inputs.state c.next_turn.new.inputs) (event_of c.in_err-turn.field-0.0) refl
           asks.last asks.once
           (unread_about c.args.stream_name.now (event_of c.in_err-turn.field-0.0)
           (turn_unread (g.I.Inputs.state c.loop-lister.inputs) (g.I.Inputs.state c.next_turn.new.inputs) c.args.stream_name.now c.loop-lister.left
-          (event_of c.in_err-turn.field-0.0) c.in_err-turn.ensures.refused.unread));
+          (event_of c.in_err-turn.field-0.0) c.in_err-turn.ensures.refused));
       judges = tt;
       asks = asks.once;
       stays = asks.stays;

@@ -3,7 +3,7 @@ use Rattle.x7_words.proofs.CountLemmas.{risen_from}
 use Rattle.x7_words.proofs.InputLemmas.{stays_at, stays_on, taken_before, taken_none, taken_on}
 use Rattle.x7_packets.specs.PacketsState.{PacketsState}
 use Rattle.x7_packets.specs.Stream.{TookBytes, CutsNext}
-use Rattle.x7_packets.proofs.StreamLemmas.{asks_nothing, asks_not, asks_on, asks_once, gives_again, gives_end, gives_up, most_read, never_waits, reads_none, reads_on, room_none, room_on, run_is_not_last, tells_run, turns_fewer}
+use Rattle.x7_packets.proofs.StreamLemmas.{asks_nothing, asks_not, asks_on, asks_once, gives_again, gives_end, gives_up, most_read, never_waits, no_fault_at, no_fault_on, reads_none, reads_on, room_none, room_on, run_is_not_last, tells_run, turns_fewer}
 use Rattle.x7_packets.proofs.stream.Packets.advance.Goals as goal
 
 pub returns-then-self-clause-gives_up : goal.returns-then-self-clause-gives_up
@@ -20,6 +20,7 @@ loop-self-init g c =
     record {
       selected = c.requires.selected good;
       inputs = stays_at _;
+      no_fault = no_fault_at _;
       good = good;
       on = sym (ap (λ (p : PacketsState). p.is_done) c.self.view_is) ∙ c.if-self-2.false;
       reads = ([], taken_none (g.I.Inputs.state c.args.inputs.now).contents (g.I.Inputs.state c.args.inputs.now).rest, reads_none c.args.self.now);
@@ -71,6 +72,7 @@ loop-self-preserved g c =
     record {
       selected = o.selected;
       inputs = stays_on _ _ _ i.inputs o.inputs;
+      no_fault = no_fault_on _ _ _ i.no_fault o.no_fault;
       good = ap (λ (p : PacketsState). p.has_failed) f.is ∙ s.failed ∙ i.good;
       on = ap (λ (p : PacketsState). p.is_done) f.is ∙ s.done ∙ i.on;
       reads = (
@@ -92,6 +94,7 @@ loop-self-smaller g c =
 pub returns-then-self-clause-call : goal.returns-then-self-clause-call
 returns-then-self-clause-call g c = record {
   failed = inl (sym (ap (λ (p : PacketsState). p.has_failed) c.self.view_is) ∙ c.if-self.true);
+  no_fault = tt;
   selected = tt;
   stays = λ e. tt;
   asks = asks_not _ _ (asks_nothing _);
@@ -103,6 +106,7 @@ returns-then-self-2-clause-call g c =
     let good : c.args.self.now.has_failed ≡ false = sym (ap (λ (p : PacketsState). p.has_failed) c.self.view_is) ∙ c.if-self.false in
     record {
       failed = tt;
+      no_fault = no_fault_at _;
       selected = c.requires.selected good;
       stays = λ e. absurd (let both : true ≡ false = sym e ∙ good in cc);
       asks = asks_not _ _ (asks_nothing _);
@@ -114,6 +118,7 @@ returns-then-cut_next-clause-call g c =
     let good : c.args.self.now.has_failed ≡ false = sym (ap (λ (p : PacketsState). p.has_failed) c.self.view_is) ∙ c.if-self.false in
     record {
       failed = tt;
+      no_fault = c.loop-self.invariant.no_fault;
       selected = c.loop-self.invariant.selected;
       stays = λ e. absurd (let both : true ≡ false = sym e ∙ good in cc);
       asks = asks_not _ _ c.loop-self.invariant.asks;
@@ -125,6 +130,7 @@ returns-then-not-more-clause-call g c =
     let good : c.args.self.now.has_failed ≡ false = sym (ap (λ (p : PacketsState). p.has_failed) c.self.view_is) ∙ c.if-self.false in
     record {
       failed = tt;
+      no_fault = no_fault_on _ _ _ c.loop-self.invariant.no_fault c.in-Ok.ensures.no_fault;
       selected = c.in-Ok.ensures.selected;
       stays = λ e. absurd (let both : true ≡ false = sym e ∙ good in cc);
       asks = asks_once _ _ _ c.loop-self.invariant.asks c.in-Ok.ensures.asks;
@@ -134,6 +140,7 @@ returns-then-not-more-clause-call g c =
 pub returns-in-Err-clause-call : goal.returns-in-Err-clause-call
 returns-in-Err-clause-call g c = record {
   failed = inr (risen_from _ _ _ c.loop-self.invariant.inputs.faults c.in-Err.ensures.failed);
+  no_fault = tt;
   selected = tt;
   stays = λ e. tt;
   asks = asks_once _ _ _ c.loop-self.invariant.asks c.in-Err.ensures.asks;

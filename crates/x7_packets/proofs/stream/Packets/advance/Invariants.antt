@@ -1,5 +1,5 @@
 use Rattle.std.proofs.Common.{◌≡◌, ℕ, List, true, false}
-use Rattle.x7_words.specs.Input.{InputsStay, TakenBy}
+use Rattle.x7_words.specs.Input.{InputsStay, NoInputFault, TakenBy}
 use Rattle.x7_packets.specs.Stream.{RunIsReady, TookBytes}
 use Rattle.x7_packets.proofs.StreamLemmas.{AsksToReadOn, HasRoom, turns_left}
 use Rattle.x7_packets.proofs.stream.Packets.advance.Given as goal
@@ -10,6 +10,7 @@ invariant-loop-self g l =
     record {
       selected : (i.state l.inputs).selected ≡ true;
       inputs : InputsStay (i.state l.fn.inputs) (i.state l.inputs);
+      no_fault : NoInputFault (i.state l.fn.inputs) (i.state l.inputs);
       asks : AsksToReadOn (i.state l.fn.inputs) (i.state l.inputs);
       good : l.self.has_failed ≡ false;
       on : l.self.is_done ≡ false;
