@@ -1,7 +1,7 @@
 //! The command `debug`.
 ghost use Rattle.x7_forms.specs.ReadingStops.{StopsAmong};
-ghost use Rattle.std.specs.Prelude.{◌≡◌, ◌⊎◌, Ok, Err, IfErr, IfOk};
-ghost use Rattle.x7_words.specs.Input.{AsksAtMost, InputsStay};
+ghost use Rattle.std.specs.Prelude.{◌≡◌, ◌⊎◌, Ok, Err, IfErr, IfOk, OnOk};
+ghost use Rattle.x7_words.specs.Input.{AsksAtMost, InputsStay, NoInputFault};
 ghost use Rattle.x7_debug.specs.Script.{IsScriptOf};
 ghost use Rattle.x7_debug.specs.declared.fault.ScriptFault.{ScriptFault as FaultData};
 ghost use Rattle.x7_device_forms.specs.Debug.{ReadsDebug, debug_given, debug_limits, debug_names};
@@ -57,6 +57,7 @@ fn read_given<'w, I: Inputs>(
         (I.state inputs.new) (event_of r)) }
     ensures asks { AsksAtMost (I.state inputs.old) 3 (I.state inputs.new) }
     ensures inputs { InputsStay (I.state inputs.old) (I.state inputs.new) }
+    ensures no_fault { OnOk result (NoInputFault (I.state inputs.old) (I.state inputs.new)) }
 {
     let part = read_part(alloc, inputs, part_name)?;
     let stream = read_data(alloc, inputs, stream_name)?;

@@ -1,7 +1,7 @@
 //! The command `svf`.
 ghost use Rattle.x7_forms.specs.ReadingStops.{StopsAmong};
-ghost use Rattle.std.specs.Prelude.{◌≡◌, ◌⊎◌, ◌≤◌, ◌||◌, Ok, Err, IfErr, IfOk, is_some, vec_len};
-ghost use Rattle.x7_words.specs.Input.{AsksAtMost, InputsStay};
+ghost use Rattle.std.specs.Prelude.{◌≡◌, ◌⊎◌, ◌≤◌, ◌||◌, Ok, Err, IfErr, IfOk, OnOk, is_some, vec_len};
+ghost use Rattle.x7_words.specs.Input.{AsksAtMost, InputsStay, NoInputFault};
 ghost use Rattle.x7_forms.specs.Event.{event_of, no_memory};
 ghost use Rattle.x7_forms.specs.Step.{result_by};
 ghost use Rattle.x7_forms.specs.AskedForm as form;
@@ -56,6 +56,7 @@ fn read_given<'w, I: Inputs>(
     ensures within { IfOk result (λ given. vec_len given.text ≤ text_limit) }
     ensures asks { AsksAtMost (I.state inputs.old) 2 (I.state inputs.new) }
     ensures inputs { InputsStay (I.state inputs.old) (I.state inputs.new) }
+    ensures no_fault { OnOk result (NoInputFault (I.state inputs.old) (I.state inputs.new)) }
 {
     let part = read_part(alloc, inputs, part_name)?;
     let text = read_whole(alloc, inputs, text_name, TEXT_LIMIT)?;

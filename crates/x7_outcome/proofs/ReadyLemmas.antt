@@ -1,5 +1,5 @@
 -- What a last step that reads nothing comes to: an end that is due, or want of memory.
-use Rattle.std.proofs.Common.{◌≡◌, ℕ, List, Result, Err, ap, subst, sym, inl, inr, ◌⊎◌}
+use Rattle.std.proofs.Common.{◌≡◌, ℕ, List, OnOk, Result, Ok, Err, ap, subst, sym, inl, inr, ◌⊎◌}
 use Rattle.x7_forms.specs.declared.bad_input.InputFault.{InputFault}
 use Rattle.x7_forms.specs.Event.{Event, bad_input, no_memory}
 use Rattle.x7_forms.specs.Known.{Answer}
@@ -17,3 +17,8 @@ bad_due Due name fault event e h = inr (subst (λ (x : Event). IsPossible {A = A
 -- want of memory, by its event
 pub want_due : (Due : Result Answer Event → Type 0) (event : Event) → no_memory ≡ event → EndsDue Due (Err event)
 want_due Due event e = inl (sym (ap (λ (x : Event). Err x) e))
+
+-- what holds whatever the result is, holds where it is a value
+pub at_ok : {A B P : Type 0} (r : Result A B) → P → OnOk r P
+at_ok (Ok a) p = p
+at_ok (Err b) p = tt

@@ -1,8 +1,8 @@
 -- What may end a command, what its output holds and what is so of its flash then, and what a text that is made ready,
 -- or the event in place of it, has as its cause (this project's choice).
-use Rattle.std.specs.Prelude.{◌≡◌, ◌<◌, ◌≤◌, ℕ, List, [], ◌∷◌, ◌++◌, length, Option, None, Some, Result, Ok, Err, Bool, true, false, ◌⊎◌}
+use Rattle.std.specs.Prelude.{◌≡◌, ◌<◌, ◌≤◌, ℕ, List, [], ◌∷◌, ◌++◌, length, Option, None, Some, OnOk, Result, Ok, Err, Bool, true, false, ◌⊎◌}
 use Rattle.x7_words.specs.Flash.{FlashState, IfKnown}
-use Rattle.x7_words.specs.Input.{AsksAtMost, InputsState, InputsStay}
+use Rattle.x7_words.specs.Input.{AsksAtMost, InputsState, InputsStay, NoInputFault}
 use Rattle.x7_boot.specs.Image.{flash_limit}
 use Rattle.x7_boot.specs.Reads.{IfAgrees, answers_since}
 use Rattle.x7_words.specs.Sink.{PutsAll, PutsPrefix, PutsSome, SinkFails, SinkState}
@@ -220,14 +220,15 @@ CommandEndsAs form old new (Ok stopped) = (text : List ℕ) × CommandEnds form 
 CommandEndsAs form old new (Err event) = CommandEnds form old new (Err event)
 
 -- What a form did, up to the line that is said of its end: how it ended, where reading stopped, and that an update and
--- a boot touched flash and stream in the order of `JudgesFlash`. Then how often inputs were asked for, and that every
--- input keeps its bytes.
+-- a boot touched flash and stream in the order of `JudgesFlash`. Then how often inputs were asked for, that every input
+-- keeps its bytes, and that a form with a whole text met no fault of an input and no absence.
 pub record Answered (form : AskedForm) (old new : Outside) (got : Result Bool Event) : Type 0 where
   pub ends : CommandEndsAs (Some form) old new got
   pub stops : StopsReading (Some form) old.inputs new.inputs got
   pub judges : JudgesFlash (Some form) (sources old.inputs old.flash) (sources new.inputs new.flash) got
   pub asks : AsksAtMost old.inputs (length (names_of (Some form))) new.inputs
   pub stays : InputsStay old.inputs new.inputs
+  pub no_fault : OnOk got (NoInputFault old.inputs new.inputs)
 
 -- what a form that writes no text did, whatever the sinks hold, if the output is the same before and after
 abbrev pub AnsweredSilently : AskedForm → Sources → Sources → Result Bool Event → Type 0
@@ -261,12 +262,13 @@ AnswersForm form old new got = AnswersBy (step_over (names_of (Some form)) old n
 
 -- A form that reads inputs alone made its text ready, or not: the text, or the event in place of it, has its cause.
 -- Reading stopped where an input ends the form, no more inputs were asked for than the form names, and every input
--- keeps its bytes.
+-- keeps its bytes. A text that is ready met no fault of an input and no absence.
 pub record MakesReady (form : AskedForm) (old new : InputsState) (got : Result Answer Event) : Type 0 where
   pub caused : AnswersForm form old new got
   pub stops : StopsReading (Some form) old new got
   pub asks : AsksAtMost old (length (names_of (Some form))) new
   pub stays : InputsStay old new
+  pub no_fault : OnOk got (NoInputFault old new)
 
 -- A form that reads a flash too made its text ready, or not: the text, or the event in place of it, has its cause in
 -- inputs and flash. The flash's size and its faults fit the answer, the flash was touched as `JudgesFlash` says, and
@@ -280,6 +282,7 @@ pub record MakesReadyFrom (form : AskedForm) (old new : Sources) (got : Result A
   pub judges : JudgesFlash (Some form) old new got
   pub asks : AsksAtMost old.inputs (length (names_of (Some form))) new.inputs
   pub stays : InputsStay old.inputs new.inputs
+  pub no_fault : OnOk got (NoInputFault old.inputs new.inputs)
 
 -- the flash of a name isn't there, or it failed: it was asked for by that name, and its count of absences, or of faults,
 -- rose

@@ -1,6 +1,6 @@
 //! Texts that are read line by line while they come.
-ghost use Rattle.std.specs.Prelude.{◌≢◌, ℕ, ◌<◌, List, [], ◌++◌, length, Ok, Err, IfOk, IfErr, ◌+◌};
-ghost use Rattle.x7_words.specs.Input.{taken_bytes_limit};
+ghost use Rattle.std.specs.Prelude.{◌≢◌, ℕ, ◌<◌, List, [], ◌++◌, length, Ok, Err, IfOk, IfErr, OnOk, ◌+◌};
+ghost use Rattle.x7_words.specs.Input.{NoInputFault, taken_bytes_limit};
 ghost use Rattle.x7_forms.specs.Event.{event_of, no_memory};
 ghost use Rattle.x7_forms.specs.Step.{IsUnread, ReadsWhole};
 ghost use Rattle.x7_forms.specs.Turn.{AsksOnlyFor};
@@ -53,6 +53,7 @@ pub fn feed_whole<'w, I: Inputs, T: TakesLines>(
     ensures named { IfErr result (λ r. IsUnread name.now (event_of r)) }
     ensures memory { IfErr result (λ r. event_of r ≢ no_memory) }
     ensures asks { AsksOnlyFor (I.state inputs.old) name.now text_limit (I.state inputs.new) }
+    ensures no_fault { OnOk result (NoInputFault (I.state inputs.old) (I.state inputs.new)) }
 {
     open(inputs, name)?;
     let mut piece = [0u8; TURN_SIZE];

@@ -1,5 +1,6 @@
 //! Streams that are read whole, each with a limit of its own, of `STREAM_LIMIT` bytes.
-ghost use Rattle.std.specs.Prelude.{◌≡◌, ◌≤◌, [], ◌∷◌, IfErr, IfOk, Ok, length, true};
+ghost use Rattle.std.specs.Prelude.{◌≡◌, ◌≤◌, [], ◌∷◌, IfErr, IfOk, OnOk, Ok, length, true};
+ghost use Rattle.x7_words.specs.Input.{NoInputFault};
 ghost use Rattle.x7_outcome.specs.Outcome.{stream_data};
 ghost use Rattle.x7_forms.specs.Known.{stream_limit};
 ghost use Rattle.x7_forms.specs.Event.{event_of, no_memory};
@@ -34,6 +35,7 @@ pub fn read_stream<'w, I: Inputs>(
     ensures whole { IfOk result (λ stream. ReadsWhole (I.state inputs.old) (I.state inputs.new) stream_limit name.now (Ok stream.bytes.items)) }
     ensures within { IfOk result (λ stream. stream.start ≤ length stream.bytes.items) }
     ensures asks { AsksOnlyFor (I.state inputs.old) name.now stream_limit (I.state inputs.new) }
+    ensures no_fault { OnOk result (NoInputFault (I.state inputs.old) (I.state inputs.new)) }
 {
     let bytes = read_whole(alloc, inputs, name, STREAM_LIMIT)?;
     let start = data_start(name, &bytes)?;
@@ -67,6 +69,7 @@ pub fn read_data<'w, I: Inputs>(
     ensures named { IfErr result (λ r. IsUnplayed name.now (event_of r)) }
     ensures memory { IfErr result (λ r. event_of r ≡ no_memory → (I.state inputs.new).selected ≡ true) }
     ensures asks { AsksOnlyFor (I.state inputs.old) name.now stream_limit (I.state inputs.new) }
+    ensures no_fault { OnOk result (NoInputFault (I.state inputs.old) (I.state inputs.new)) }
 {
     let stream = read_stream(alloc, inputs, name)?;
     Ok(into_data(stream))

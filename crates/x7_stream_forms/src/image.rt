@@ -1,7 +1,7 @@
 //! The command `image`: the flash image of a golden and an update stream.
 ghost use Rattle.x7_forms.specs.ReadingStops.{IsAbout, StopsAmong, limited};
-ghost use Rattle.std.specs.Prelude.{◌≡◌, ◌⊎◌, ◌≤◌, [], ◌∷◌, Ok, Err, IfOk, IfErr, length};
-ghost use Rattle.x7_words.specs.Input.{AsksAtMost, InputsStay};
+ghost use Rattle.std.specs.Prelude.{◌≡◌, ◌⊎◌, ◌≤◌, [], ◌∷◌, Ok, Err, OnOk, IfOk, IfErr, length};
+ghost use Rattle.x7_words.specs.Input.{AsksAtMost, InputsStay, NoInputFault};
 ghost use Rattle.x7_forms.specs.Known.{stream_limit};
 ghost use Rattle.x7_forms.specs.Turn.{IsLastAsked};
 ghost use Rattle.x7_forms.specs.Event.{bad_input, event_of, no_memory};
@@ -51,6 +51,7 @@ fn read_streams<'w, I: Inputs>(
     ensures update { IfOk result (λ streams. streams.update.start ≤ length streams.update.bytes.items) }
     ensures asks { AsksAtMost (I.state inputs.old) 2 (I.state inputs.new) }
     ensures inputs { InputsStay (I.state inputs.old) (I.state inputs.new) }
+    ensures no_fault { OnOk result (NoInputFault (I.state inputs.old) (I.state inputs.new)) }
 {
     let golden = read_stream(alloc, inputs, golden_name)?;
     let update = read_stream(alloc, inputs, update_name)?;

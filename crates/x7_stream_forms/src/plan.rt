@@ -1,7 +1,7 @@
 //! The commands `plan full`, `plan partial` and `plan read`: streams for plans.
 ghost use Rattle.x7_forms.specs.ReadingStops.{IsAbout, StopsAmong, limited};
-ghost use Rattle.std.specs.Prelude.{◌≡◌, ◌⊎◌, ◌∷◌, [], Ok, Err, IfOk, IfErr};
-ghost use Rattle.x7_words.specs.Input.{AsksAtMost, InputsStay};
+ghost use Rattle.std.specs.Prelude.{◌≡◌, ◌⊎◌, ◌∷◌, [], Ok, Err, OnOk, IfOk, IfErr};
+ghost use Rattle.x7_words.specs.Input.{AsksAtMost, InputsStay, NoInputFault};
 ghost use Rattle.x7_part.specs.Part.{frame_words};
 ghost use Rattle.x7_forms.specs.Event.{event_of, no_memory};
 ghost use Rattle.x7_outcome.specs.Outcome.{PlannedRead, frames_event, planner_event};
@@ -68,6 +68,7 @@ fn read_plan<'w, I: Inputs>(
     ensures stops { IfErr result (λ r. StopsAmong (limited text_limit name.now ∷ []) (I.state inputs.old) (I.state inputs.new) (event_of r)) }
     ensures asks { AsksAtMost (I.state inputs.old) 1 (I.state inputs.new) }
     ensures inputs { InputsStay (I.state inputs.old) (I.state inputs.new) }
+    ensures no_fault { OnOk result (NoInputFault (I.state inputs.old) (I.state inputs.new)) }
 {
     let Ok(lines) = FrameLines::new(alloc, part) else {
         return Err(Refusal::unnamed(Why::NoMemory));

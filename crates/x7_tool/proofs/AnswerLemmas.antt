@@ -1,7 +1,7 @@
 -- How a form is answered, and how its answer is carried out.
-use Rattle.std.proofs.Common.{◌≡◌, ◌∙◌, Bool, List, ℕ, Option, None, Some, Result, Ok, Err, ap, inl, inr, refl, subst, sym}
+use Rattle.std.proofs.Common.{◌≡◌, ◌∙◌, Bool, List, ℕ, Option, None, Some, OnOk, Result, Ok, Err, ap, inl, inr, refl, subst, sym}
 use Rattle.x7_words.specs.Flash.{FlashState}
-use Rattle.x7_words.specs.Input.{InputsState}
+use Rattle.x7_words.specs.Input.{InputsState, NoInputFault}
 use Rattle.x7_words.specs.Sink.{SinkState, PutsOrFails}
 use Rattle.x7_words.proofs.InputLemmas.{few_at, stays_at}
 use Rattle.x7_forms.specs.declared.status.Status.{Status}
@@ -27,6 +27,13 @@ as_asked form asks old new got e a = subst (λ (f : AskedForm). Answered f old n
 pub silent_answered : (form asks : AskedForm) (old new : Outside) (got done : Result Bool Event) → form ≡ asks → got ≡ done → Answered asks old new done → Answered form old new got
 silent_answered form asks old new got done e same a = as_asked form asks old new got e (subst (λ (r : Result Bool Event). Answered asks old new r) (sym same) a)
 
+-- what holds where a text is ready holds where it was written
+puts_on : (P : Type 0) (whole : Result Answer Event) (old new : SinkState) (got : Result Bool Event) → PutsAnswer whole old new got → OnOk whole P → OnOk got P
+puts_on P (Ok answer) old new (Ok stopped) p h = h
+puts_on P (Ok answer) old new (Err event) p h = tt
+puts_on P (Err event) old new (Ok stopped) p h = let same : Ok stopped ≡ Err event = p.0 in absurd (cc)
+puts_on P (Err event) old new (Err other) p h = tt
+
 -- a form that reads inputs alone, and whose text, ready or not, was written
 pub ready_answered : (form asks : AskedForm) (old new : Outside) (whole : Result Answer Event) (got : Result Bool Event) → form ≡ asks → streamed (listed_by (Some asks)) (updated_by (Some asks)) ≡ None → flash_use (Some asks) ≡ Unused
     → MakesReady asks old.inputs new.inputs whole → PutsAnswer whole old.out new.out got → Answered form old new got
@@ -37,6 +44,7 @@ ready_answered form asks old new whole got e l u r p =
       judges = unused_judges asks (sources old.inputs old.flash) (sources new.inputs new.flash) got u;
       asks = r.asks;
       stays = r.stays;
+      no_fault = puts_on (NoInputFault old.inputs new.inputs) whole old.out new.out got p r.no_fault;
     })
 
 -- a form that reads a flash too, and whose text, ready or not, was written
@@ -50,6 +58,7 @@ flash_answered form asks old new whole got e l j r d p =
       judges = j;
       asks = r.asks;
       stays = r.stays;
+      no_fault = puts_on (NoInputFault old.inputs new.inputs) whole old.out new.out got p r.no_fault;
     })
 
 -- an output that a form doesn't use
@@ -82,6 +91,7 @@ ran_done form asks old new s stopped e t w a =
       judges = done_judges asks (sources old.inputs old.flash) (sources new.inputs new.flash) (record { stopped = stopped; text = a.ends.0 });
       asks = a.asks;
       stays = a.stays;
+      no_fault = a.no_fault;
     })
 
 -- a form that has no whole text
@@ -97,6 +107,7 @@ ran_refused form asks old new s event e t w a =
       judges = refused_judges asks (sources old.inputs old.flash) (sources new.inputs new.flash) event a.judges;
       asks = a.asks;
       stays = a.stays;
+      no_fault = tt;
     })
 
 -- words without a form
@@ -112,4 +123,5 @@ ran_none form old err s e t w =
       judges = tt;
       asks = few_at old.inputs;
       stays = stays_at old.inputs;
+      no_fault = tt;
     })

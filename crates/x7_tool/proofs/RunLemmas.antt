@@ -1,9 +1,9 @@
 -- From how a command ended to what its run comes to: its status, its outcome, texts that lead back, and promises.
-use Rattle.std.proofs.Common.{◌≡◌, ◌≤◌, arith, length, ℕ, List, Bool, true, false, Option, None, Some, Result, Ok, Err, refl, ap, subst, sym, ◌∙◌, inl, inr, ◌⊎◌}
+use Rattle.std.proofs.Common.{◌≡◌, ◌≤◌, arith, length, ℕ, List, Bool, true, false, Option, None, Some, OnOk, Result, Ok, Err, refl, ap, subst, sym, ◌∙◌, inl, inr, ◌⊎◌}
 use Rattle.std.specs.Prelude.{nat_lt}
 use Rattle.std.proofs.lemmas.Bool.Decides.{nat_tests}
 use Rattle.x7_words.specs.Flash.{FlashState}
-use Rattle.x7_words.specs.Input.{AsksAtMost, InputsState, InputsStay}
+use Rattle.x7_words.specs.Input.{AsksAtMost, InputsState, InputsStay, NoInputFault}
 use Rattle.x7_words.specs.Sink.{SinkState, PutsSome}
 use Rattle.x7_listing.specs.Assembly.{IsAsm}
 use Rattle.x7_listing.proofs.OutcomeLemmas.{one_outcome}
@@ -157,6 +157,7 @@ pub record RanAs (form : Option AskedForm) (old new : Outside) (s : Status) : Ty
   pub judges : JudgesFlash form (sources old.inputs old.flash) (sources new.inputs new.flash) end
   pub asks : AsksAtMost old.inputs (length (names_of form)) new.inputs
   pub stays : InputsStay old.inputs new.inputs
+  pub no_fault : OnOk end (NoInputFault old.inputs new.inputs)
 
 -- how a command ended, and what its form did with the flash and the output, is what its run comes to
 pub runs : (form : Option AskedForm) (old new : Outside) (s : Status) → RanAs form old new s → UsesFlash form (sources new.inputs old.flash) new.flash → OutputFailsLast old.out new.out s → Runs form old new s
@@ -172,7 +173,7 @@ runs form old new s r f o =
       cause = r.ends.cause;
       said = r.said;
       output = record { wrote = r.ends.wrote; near = subst (λ (x : Status). StaysNear x form old new) (sym r.ends_as) r.ends.near; failed_last = o };
-      inputs = record { stops = r.stops; asks = r.asks; stays = r.stays };
+      inputs = record { stops = r.stops; asks = r.asks; stays = r.stays; no_fault = r.no_fault };
       flash = record {
         keeps = f.keeps;
         follows = f.follows;

@@ -1,7 +1,7 @@
 -- What a run comes to: how it ended and why, its status, and what the outside holds then (this project's choice).
-use Rattle.std.specs.Prelude.{◌≡◌, ◌≤◌, ℕ, length, List, Option, None, Some, ◌⊎◌, Bool, false, Result, Ok, Err}
+use Rattle.std.specs.Prelude.{◌≡◌, ◌≤◌, ℕ, length, List, Option, None, Some, ◌⊎◌, Bool, false, OnOk, Result, Ok, Err}
 use Rattle.x7_words.specs.FlashHistory.{FollowsCalls}
-use Rattle.x7_words.specs.Input.{AsksAtMost, InputsStay}
+use Rattle.x7_words.specs.Input.{AsksAtMost, InputsStay, NoInputFault}
 use Rattle.x7_words.specs.Sink.{PutsOrFails, SinkState}
 use Rattle.x7_words.specs.Word.{AreBytes}
 use Rattle.x7_listing.specs.StreamListing.{stream_listing}
@@ -97,6 +97,8 @@ pub record UsesInputs (form : Option AskedForm) (old new : Outside) (end : Resul
   pub asks : AsksAtMost old.inputs (length (names_of form)) new.inputs
   -- every input keeps its bytes, and the counts of faults and of absences of inputs don't fall
   pub stays : InputsStay old.inputs new.inputs
+  -- a run that ends with a whole text met no fault of an input and no absence: no call that failed was made once more
+  pub no_fault : OnOk end (NoInputFault old.inputs new.inputs)
 
 -- What was done with the flash, of every type of flash, a file of the system too.
 pub record UsesItsFlash (form : Option AskedForm) (old new : Outside) (end : Result Answer Event) : Type 0 where

@@ -9,6 +9,7 @@ use Rattle.x7_forms.specs.Known.{part_limit}
 use Rattle.x7_device_forms.proofs.StopLemmas.{boot_stops, comes_judges, untouched_judges}
 use Rattle.x7_words.proofs.FollowLemmas.{follow_none}
 use Rattle.x7_outcome.proofs.FlashLemmas.{leaves_same}
+use Rattle.x7_outcome.proofs.ReadyLemmas.{at_ok}
 use Rattle.x7_outcome.proofs.StopLemmas.{first_stops}
 use Rattle.x7_forms.proofs.AskedLemmas.{no_part_about}
 use Rattle.x7_forms.specs.ReadingStops.{limited}
@@ -35,6 +36,7 @@ returns-clause-ready g c =
       judges = comes_judges part_name name part old new first last made c.boot_from.ensures.caused;
       asks = c.read_part.ensures.asks.once;
       stays = c.read_part.ensures.asks.stays;
+      no_fault = at_ok made c.in_ok-part.ensures.no_fault;
     }
 
 pub returns-in_err-part-clause-ready : goal.returns-in_err-part-clause-ready
@@ -53,6 +55,7 @@ returns-in_err-part-clause-ready g c = rw (handed_on c.from_residual.result c.in
       judges = untouched_judges part_name name old new flash event;
       asks = c.read_part.ensures.asks.once;
       stays = c.read_part.ensures.asks.stays;
+      no_fault = tt;
     })
 
 pub returns-in_err-part-clause-left : goal.returns-in_err-part-clause-left

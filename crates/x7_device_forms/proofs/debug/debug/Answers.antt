@@ -11,6 +11,7 @@ use Rattle.x7_outcome.specs.Ready.{text_answer}
 use Rattle.x7_forms.specs.Step.{result_by}
 use Rattle.x7_device_forms.proofs.ReadyLemmas.{debug_due}
 use Rattle.x7_device_forms.proofs.StopLemmas.{debug_about}
+use Rattle.x7_outcome.proofs.ReadyLemmas.{at_ok}
 use Rattle.x7_outcome.proofs.StopLemmas.{result_stops, among_stops, third_stops}
 use Rattle.x7_device_forms.proofs.debug.debug.Goals as goal
 
@@ -30,6 +31,7 @@ returns g c =
           c.text_of.ensures.refused);
       asks = c.read_given.ensures.asks;
       stays = c.read_given.ensures.inputs;
+      no_fault = at_ok (result_by text_answer made) c.in_ok-given.ensures.no_fault;
     }
 
 pub returns-in_err-given : goal.returns-in_err-given
@@ -44,4 +46,5 @@ returns-in_err-given g c = rw (handed_on c.from_residual.result c.in_err-given.f
       stops = among_stops (form.Debug part stream script) old new event c.in_err-given.ensures.stops;
       asks = c.read_given.ensures.asks;
       stays = c.read_given.ensures.inputs;
+      no_fault = tt;
     })

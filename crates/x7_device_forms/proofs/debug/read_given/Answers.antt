@@ -2,7 +2,7 @@ use Rattle.std.proofs.Common.{ℕ, List, [], ◌∷◌, Result, Ok, Err, arith, 
 use Rattle.x7_forms.specs.Event.{Event, event_of}
 use Rattle.x7_part.specs.Part.{PartData}
 use Rattle.x7_forms.specs.Known.{and_so, part_known, whole_known, part_limit, stream_limit, script_limit}
-use Rattle.x7_forms.proofs.ReadLemmas.{answers_end, answers_go, answers_stop, first_of, part_steady, whole_steady}
+use Rattle.x7_forms.proofs.ReadLemmas.{answers_end, answers_go, answers_stop, first_of, no_fault_on, part_steady, whole_steady}
 use Rattle.x7_outcome.specs.Outcome.{DebugInputs, stream_data}
 use Rattle.x7_outcome.proofs.StreamLemmas.{stream_steady}
 use Rattle.x7_forms.proofs.AskedLemmas.{about_among, no_part_about, unplayed_about, unread_about}
@@ -116,3 +116,6 @@ returns-clause-inputs g c = stays_on _ _ _ (stays_on _ _ _ c.read_part.ensures.a
 
 pub returns-clause-last_asked : goal.returns-clause-last_asked
 returns-clause-last_asked g c = c.read_whole.ensures.asks.last
+
+pub returns-clause-no_fault : goal.returns-clause-no_fault
+returns-clause-no_fault g c = no_fault_on _ _ _ (no_fault_on _ _ _ c.in_ok-part.ensures.no_fault c.in_ok-stream.ensures.no_fault) c.in_ok-script.ensures.no_fault

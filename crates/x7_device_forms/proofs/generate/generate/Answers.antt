@@ -10,6 +10,7 @@ use Rattle.x7_forms.proofs.AskedLemmas.{no_part_about}
 use Rattle.x7_outcome.specs.Outcome.{gen_answer}
 use Rattle.x7_outcome.specs.Ready.{bytes_answer}
 use Rattle.x7_device_forms.proofs.ReadyLemmas.{made_due}
+use Rattle.x7_outcome.proofs.ReadyLemmas.{at_ok}
 use Rattle.x7_outcome.proofs.StopLemmas.{want_only, first_stops}
 use Rattle.x7_forms.proofs.ResultLemmas.{handed_on}
 use Rattle.x7_device_forms.proofs.generate.generate.Goals as goal
@@ -25,6 +26,7 @@ returns-in_err-part g c = rw (handed_on c.from_residual.result c.in_err-part.fie
       stops = first_stops (form.Gen name seed) (limited part_limit name) [] old new event refl c.read_part.ensures.asks.last c.read_part.ensures.asks.once (no_part_about name event c.in_err-part.ensures.named);
       asks = c.read_part.ensures.asks.once;
       stays = c.read_part.ensures.asks.stays;
+      no_fault = tt;
     })
 
 pub returns : goal.returns
@@ -40,4 +42,5 @@ returns g c =
       stops = want_only bytes_answer (form.Gen name seed) old new made c.summary_of.ensures.refused;
       asks = c.read_part.ensures.asks.once;
       stays = c.read_part.ensures.asks.stays;
+      no_fault = at_ok (result_by bytes_answer made) c.in_ok-part.ensures.no_fault;
     }

@@ -5,10 +5,11 @@ use Rattle.x7_forms.specs.Known.{Answer, and_so, streams_known, part_known, stre
 use Rattle.x7_outcome.specs.Play.{reported, play_answer}
 use Rattle.x7_forms.specs.Step.{result_by}
 use Rattle.x7_device_forms.proofs.PlayLemmas.{text_ends}
-use Rattle.x7_forms.proofs.ReadLemmas.{answers_end, answers_go, answers_stop, data_steady, first_of, part_steady}
+use Rattle.x7_forms.proofs.ReadLemmas.{answers_end, answers_go, answers_stop, data_steady, first_of, no_fault_on, part_steady}
 use Rattle.x7_forms.specs.AskedForm as form
 use Rattle.x7_forms.proofs.ResultLemmas.{handed_on, err_weaker}
 use Rattle.x7_words.proofs.InputLemmas.{stays_on}
+use Rattle.x7_outcome.proofs.ReadyLemmas.{at_ok}
 use Rattle.x7_outcome.proofs.StopLemmas.{first_asked, first_stops}
 use Rattle.x7_device_forms.proofs.StopLemmas.{streams_asked, reads_only, streams_stop}
 use Rattle.x7_forms.specs.ReadingStops.{limited_together, limited}
@@ -28,6 +29,7 @@ returns-in_err-part g c = rw (handed_on c.from_residual.result c.in_err-part.fie
           (no_part_about c.args.part_name.now (event_of c.in_err-part.field-0.0) c.in_err-part.ensures.named);
       asks = first_asked c.args.part_name.now (map string_bytes c.args.streams.now) (g.I.Inputs.state c.args.inputs.now) (g.I.Inputs.state c.read_part.new.inputs) c.read_part.ensures.asks.once;
       stays = c.read_part.ensures.asks.stays;
+      no_fault = tt;
     })
 
 pub returns-in_err-player : goal.returns-in_err-player
@@ -43,6 +45,7 @@ returns-in_err-player g c = rw (handed_on c.from_residual-in_err-player.result c
           (g.I.Inputs.state c.play_streams.new.inputs) (event_of c.in_err-player.field-0.0) c.read_part.ensures.asks.once c.in_err-player.ensures.stops;
       asks = streams_asked string_bytes c.args.part_name.now c.args.streams.now (g.I.Inputs.state c.args.inputs.now) (g.I.Inputs.state c.read_part.new.inputs) (g.I.Inputs.state c.play_streams.new.inputs) c.read_part.ensures.asks.once c.play_streams.ensures.asks;
       stays = stays_on _ _ _ c.read_part.ensures.asks.stays c.play_streams.ensures.inputs;
+      no_fault = tt;
     })
 
 pub returns : goal.returns
@@ -61,4 +64,5 @@ returns g c =
           (g.I.Inputs.state c.play_streams.new.inputs) c.text_of.result (err_weaker c.text_of.result (λ r h. elim h [ inl e ↦ inl e | inr e ↦ inr e.0 ]) c.text_of.ensures.refused);
       asks = streams_asked string_bytes c.args.part_name.now c.args.streams.now (g.I.Inputs.state c.args.inputs.now) (g.I.Inputs.state c.read_part.new.inputs) (g.I.Inputs.state c.play_streams.new.inputs) c.read_part.ensures.asks.once c.play_streams.ensures.asks;
       stays = stays_on _ _ _ c.read_part.ensures.asks.stays c.play_streams.ensures.inputs;
+      no_fault = at_ok (result_by play_answer c.text_of.result) (no_fault_on _ _ _ c.in_ok-part.ensures.no_fault c.in_ok-player.ensures.no_fault);
     }

@@ -2,7 +2,7 @@ use Rattle.std.proofs.Common.{[], ◌∷◌, Ok, arith, refl}
 use Rattle.x7_part.specs.Part.{PartData}
 use Rattle.x7_forms.specs.Event.{event_of}
 use Rattle.x7_forms.specs.Known.{and_so, part_known, whole_known, part_limit, text_limit}
-use Rattle.x7_forms.proofs.ReadLemmas.{answers_stop, first_of}
+use Rattle.x7_forms.proofs.ReadLemmas.{answers_stop, first_of, no_fault_on}
 use Rattle.x7_outcome.proofs.TextLemmas.{texts_read, texts_unread}
 use Rattle.x7_outcome.specs.Outcome.{PartAndText}
 use Rattle.x7_forms.proofs.AskedLemmas.{about_among, no_part_about, unread_about}
@@ -61,3 +61,6 @@ returns-clause-inputs g c = stays_on _ _ _ c.read_part.ensures.asks.stays c.read
 
 pub returns-clause-last_asked : goal.returns-clause-last_asked
 returns-clause-last_asked g c = c.read_whole.ensures.asks.last
+
+pub returns-clause-no_fault : goal.returns-clause-no_fault
+returns-clause-no_fault g c = no_fault_on _ _ _ c.in_ok-part.ensures.no_fault c.in_ok-text.ensures.no_fault

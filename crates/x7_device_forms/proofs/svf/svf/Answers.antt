@@ -10,6 +10,7 @@ use Rattle.x7_outcome.specs.Outcome.{PartAndText, PlayedSvf, part_and_text}
 use Rattle.x7_outcome.specs.Play.{play_answer}
 use Rattle.x7_device_forms.specs.Svf.{svf_given}
 use Rattle.x7_device_forms.proofs.ReadyLemmas.{svf_due}
+use Rattle.x7_outcome.proofs.ReadyLemmas.{at_ok}
 use Rattle.x7_outcome.proofs.StopLemmas.{result_stops, among_stops, second_stops}
 use Rattle.x7_device_forms.proofs.StopLemmas.{svf_played_about}
 use Rattle.x7_device_forms.proofs.svf.svf.Goals as goal
@@ -29,6 +30,7 @@ returns g c =
           c.text_of.ensures.refused);
       asks = c.read_given.ensures.asks;
       stays = c.read_given.ensures.inputs;
+      no_fault = at_ok (result_by play_answer made) c.in_ok-given.ensures.no_fault;
     }
 
 pub returns-in_err-given : goal.returns-in_err-given
@@ -42,4 +44,5 @@ returns-in_err-given g c = rw (handed_on c.from_residual.result c.in_err-given.f
       stops = among_stops (form.Svf part text) old new event c.in_err-given.ensures.stops;
       asks = c.read_given.ensures.asks;
       stays = c.read_given.ensures.inputs;
+      no_fault = tt;
     })

@@ -39,6 +39,7 @@ returns-in_err-open_flash-clause-answered g c = rw (handed_on c.from_residual.re
       judges = unopened_judges c.args.flash_name.now c.args.stream_name.now (sources (g.I.Inputs.state c.args.inputs.now) (g.F.Flash.state c.args.flash.now)) (sources (g.I.Inputs.state c.args.inputs.now) (g.F.Flash.state c.open_flash.new.flash)) (event_of c.in_err-open_flash.field-0.0) refl;
       asks = few_more (g.I.Inputs.state c.args.inputs.now) (g.I.Inputs.state c.args.inputs.now) 0 1 (omega arith) (few_at (g.I.Inputs.state c.args.inputs.now));
       stays = stays_at _;
+      no_fault = tt;
     })
 
 pub returns-in_err-read-clause-answered : goal.returns-in_err-read-clause-answered
@@ -63,6 +64,7 @@ returns-in_err-read-clause-answered g c = rw (handed_on c.from_residual-in_err-r
           (unplayed_about c.args.stream_name.now (event_of c.in_err-read.field-0.0) c.in_err-read.ensures.named);
       asks = c.read_stream.ensures.asks.once;
       stays = c.read_stream.ensures.asks.stays;
+      no_fault = tt;
     })
 
 pub returns-in-Ok-clause-answered : goal.returns-in-Ok-clause-answered
@@ -88,6 +90,7 @@ returns-in-Ok-clause-answered g c = λ before after out.
       judges = tt;
       asks = c.read_stream.ensures.asks.once;
       stays = c.read_stream.ensures.asks.stays;
+      no_fault = c.in_ok-read.ensures.no_fault;
     }
 
 pub returns-in-Ok-clause-flash : goal.returns-in-Ok-clause-flash
@@ -133,6 +136,7 @@ returns-clause-answered g c = λ before after out.
           (c.update.ensures.only_uses.attached ∙ c.in_ok-open_flash.ensures.attached);
       asks = c.read_stream.ensures.asks.once;
       stays = c.read_stream.ensures.asks.stays;
+      no_fault = tt;
     }
 
 pub returns-clause-flash : goal.returns-clause-flash

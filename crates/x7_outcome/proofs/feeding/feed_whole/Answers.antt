@@ -4,7 +4,7 @@ use Rattle.x7_words.proofs.InputLemmas.{once_on, preceded_nil, stays_on}
 use Rattle.x7_forms.specs.Event.{event_of}
 use Rattle.x7_forms.specs.Known.{text_limit}
 use Rattle.x7_forms.specs.Step.{CameIn, step_over}
-use Rattle.x7_forms.proofs.ReadLemmas.{at_on, at_open, open_refused, turn_refused, whole_read, turn_named, turn_unread, unopened_named, unopened_unread}
+use Rattle.x7_forms.proofs.ReadLemmas.{at_on, at_open, no_fault_on, open_refused, turn_named, turn_refused, turn_unread, unopened_named, unopened_unread, whole_read}
 use Rattle.x7_outcome.proofs.FeedLemmas.{taken_more}
 use Rattle.x7_forms.proofs.AskedLemmas.{asks_opened, asks_turn}
 use Rattle.x7_forms.proofs.ResultLemmas.{handed_on}
@@ -44,6 +44,7 @@ loop-read-preserved g c =
     record {
       selected = c.in_ok-turn.ensures.reads.takes.selected;
       inputs = stays_on _ _ _ v.inputs c.next_turn.ensures.gives_few.stays;
+      no_fault = no_fault_on _ _ _ v.no_fault c.in_ok-turn.ensures.no_fault;
       once = once_on _ _ _ v.once c.in_ok-turn.ensures.reads.takes.selects (c.in_ok-turn.ensures.reads.no_end_read c.if-turn.false);
       left = omega (arith, v.left);
       piece = c.next_turn.ensures.length ∙ v.piece;
@@ -100,6 +101,7 @@ loop-read-init g c =
     record {
       selected = c.in_ok-open.ensures.opened.selected;
       inputs = c.open.ensures.asks.stays;
+      no_fault = c.in_ok-open.ensures.no_fault;
       once = c.open.ensures.asks.once;
       left = omega arith;
       piece = refl;
@@ -124,3 +126,6 @@ returns-in_err-open-clause-memory g c = rw (handed_on c.from_residual.result c.i
 pub returns-in_err-turn-clause-memory : goal.returns-in_err-turn-clause-memory
 returns-in_err-turn-clause-memory g c = rw (handed_on c.from_residual-in_err-turn.result c.in_err-turn.field-0.0 c.from_residual-in_err-turn.ensures)
     (turn_named (g.I.Inputs.state c.loop-read.inputs) (g.I.Inputs.state c.next_turn.new.inputs) c.args.name.now c.loop-read.left (event_of c.in_err-turn.field-0.0) c.in_err-turn.ensures.refused)
+
+pub returns-then-turn-clause-no_fault : goal.returns-then-turn-clause-no_fault
+returns-then-turn-clause-no_fault g c = no_fault_on _ _ _ c.loop-read.invariant.no_fault c.in_ok-turn.ensures.no_fault

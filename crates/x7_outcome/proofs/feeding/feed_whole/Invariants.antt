@@ -1,5 +1,5 @@
 use Rattle.std.proofs.Common.{◌≡◌, ℕ, List, ◌+◌, ◌≤◌, length, true}
-use Rattle.x7_words.specs.Input.{AsksOnce, RestIsWhole, InputsStay, preceded}
+use Rattle.x7_words.specs.Input.{AsksOnce, NoInputFault, RestIsWhole, InputsStay, preceded}
 use Rattle.x7_forms.specs.Known.{text_limit}
 use Rattle.x7_forms.specs.Turn.{turn_size}
 use Rattle.x7_forms.proofs.ReadLemmas.{IsAt}
@@ -13,6 +13,7 @@ invariant-loop-read g l =
     record {
       selected : (i.state l.inputs).selected ≡ true;
       inputs : InputsStay (i.state l.fn.inputs) (i.state l.inputs);
+      no_fault : NoInputFault (i.state l.fn.inputs) (i.state l.inputs);
       once : AsksOnce (i.state l.fn.inputs) (i.state l.inputs);
       left : l.left ≤ text_limit;
       piece : length l.piece ≡ turn_size;

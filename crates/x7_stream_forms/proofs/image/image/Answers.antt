@@ -9,6 +9,7 @@ use Rattle.x7_forms.proofs.ResultLemmas.{handed_on, err_weaker}
 use Rattle.x7_outcome.specs.Outcome.{ImageStreams, image_by, image_streams}
 use Rattle.x7_outcome.specs.Ready.{bytes_answer}
 use Rattle.x7_stream_forms.specs.Image.{streams_of}
+use Rattle.x7_outcome.proofs.ReadyLemmas.{at_ok}
 use Rattle.x7_stream_forms.proofs.ReadyLemmas.{image_due, streams_steady}
 use Rattle.x7_outcome.proofs.StopLemmas.{result_stops, among_stops, second_stops}
 use Rattle.x7_stream_forms.proofs.image.image.Goals as goal
@@ -28,6 +29,7 @@ returns g c =
           (λ r a. second_stops (form.Image golden update) (limited stream_limit golden) (limited stream_limit update) [] old new (event_of r) refl c.in_ok-streams.ensures.last_asked c.read_streams.ensures.asks a) c.image_by_bytes.ensures.named);
       asks = c.read_streams.ensures.asks;
       stays = c.read_streams.ensures.inputs;
+      no_fault = at_ok (result_by bytes_answer made) c.in_ok-streams.ensures.no_fault;
     }
 
 pub returns-in_err-streams : goal.returns-in_err-streams
@@ -41,4 +43,5 @@ returns-in_err-streams g c = rw (handed_on c.from_residual.result c.in_err-strea
       stops = among_stops (form.Image golden update) old new event c.in_err-streams.ensures.stops;
       asks = c.read_streams.ensures.asks;
       stays = c.read_streams.ensures.inputs;
+      no_fault = tt;
     })

@@ -6,12 +6,13 @@ use Rattle.x7_forms.specs.Known.{Answer, and_so, part_limit, part_known, stream_
 use Rattle.x7_forms.specs.Event.{event_of}
 use Rattle.x7_forms.specs.ReadingStops.{limited}
 use Rattle.x7_forms.specs.Step.{result_by}
-use Rattle.x7_forms.proofs.ReadLemmas.{answers_end, answers_go, answers_stop, first_of, part_steady}
+use Rattle.x7_forms.proofs.ReadLemmas.{answers_end, answers_go, answers_stop, first_of, no_fault_on, part_steady}
 use Rattle.x7_forms.proofs.ResultLemmas.{handed_on, err_weaker}
 use Rattle.x7_forms.proofs.AskedLemmas.{stops_after, no_part_about}
 use Rattle.x7_outcome.specs.Outcome.{ImageStreams, image_by, image_streams}
 use Rattle.x7_outcome.specs.Ready.{bytes_answer}
 use Rattle.x7_stream_forms.specs.Image.{streams_of}
+use Rattle.x7_outcome.proofs.ReadyLemmas.{at_ok}
 use Rattle.x7_stream_forms.proofs.ReadyLemmas.{image_due, streams_steady}
 use Rattle.x7_outcome.proofs.StopLemmas.{first_asked, result_stops, third_stops, among_stops, first_stops}
 use Rattle.x7_stream_forms.proofs.image.image_for.Goals as goal
@@ -28,6 +29,7 @@ returns-in_err-part g c = rw (handed_on c.from_residual.result c.in_err-part.fie
       stops = first_stops (form.ImageFor part golden update) (limited part_limit part) (limited stream_limit golden ∷ limited stream_limit update ∷ []) old new event refl c.read_part.ensures.asks.last c.read_part.ensures.asks.once (no_part_about part event c.in_err-part.ensures.named);
       asks = first_asked part (golden ∷ update ∷ []) old new c.read_part.ensures.asks.once;
       stays = c.read_part.ensures.asks.stays;
+      no_fault = tt;
     })
 
 pub returns : goal.returns
@@ -51,6 +53,7 @@ returns g c =
           (λ r a. third_stops (form.ImageFor part golden update) (limited part_limit part) (limited stream_limit golden) (limited stream_limit update) [] old new (event_of r) refl c.in_ok-streams.ensures.last_asked asks a) c.image_by_part.ensures.named);
       asks = asks;
       stays = stays_on _ _ _ c.read_part.ensures.asks.stays c.read_streams.ensures.inputs;
+      no_fault = at_ok (result_by bytes_answer made) (no_fault_on _ _ _ c.in_ok-part.ensures.no_fault c.in_ok-streams.ensures.no_fault);
     }
 
 pub returns-in_err-streams : goal.returns-in_err-streams
@@ -70,4 +73,5 @@ returns-in_err-streams g c = rw (handed_on c.from_residual-in_err-streams.result
           (stops_after (limited part_limit part) (limited stream_limit golden ∷ limited stream_limit update ∷ []) old mid new event c.read_part.ensures.asks.once c.in_err-streams.ensures.stops);
       asks = asks;
       stays = stays_on _ _ _ c.read_part.ensures.asks.stays c.read_streams.ensures.inputs;
+      no_fault = tt;
     })

@@ -1,7 +1,7 @@
 use Rattle.std.proofs.Common.{ℕ, List, [], ◌∷◌, Result, Ok, Err, arith, inr, refl}
 use Rattle.x7_forms.specs.Event.{Event, event_of}
 use Rattle.x7_forms.specs.Known.{and_so, stream_limit}
-use Rattle.x7_forms.proofs.ReadLemmas.{answers_end, answers_go, answers_stop, first_of}
+use Rattle.x7_forms.proofs.ReadLemmas.{answers_end, answers_go, answers_stop, first_of, no_fault_on}
 use Rattle.x7_outcome.specs.Outcome.{ImageStreams, stream_data}
 use Rattle.x7_outcome.specs.Stream.{data_from}
 use Rattle.x7_outcome.proofs.StreamLemmas.{stream_steady}
@@ -80,3 +80,6 @@ returns-clause-golden g c = c.in_ok-golden.ensures.within
 
 pub returns-clause-update : goal.returns-clause-update
 returns-clause-update g c = c.in_ok-update.ensures.within
+
+pub returns-clause-no_fault : goal.returns-clause-no_fault
+returns-clause-no_fault g c = no_fault_on _ _ _ c.in_ok-golden.ensures.no_fault c.in_ok-update.ensures.no_fault

@@ -9,16 +9,17 @@ use Rattle.x7_listing.specs.Listing.{listing_of}
 use Rattle.x7_listing.specs.StreamListing.{stream_listing}
 use Rattle.x7_forms.specs.Event.{event_of, no_memory, status_of_event, writing_failed}
 use Rattle.x7_forms.specs.Known.{stream_limit, with_inputs}
-use Rattle.x7_forms.specs.Step.{CameIn, step_over}
+use Rattle.x7_forms.specs.Step.{CameIn, result_by, step_over}
 use Rattle.x7_forms.specs.declared.refusal.Refusal.{Refusal}
 use Rattle.x7_forms.specs.AskedForm as form
 use Rattle.x7_outcome.specs.Ahead.{StaysNear}
 use Rattle.x7_outcome.specs.Ending.{ListsSoFar}
 use Rattle.x7_stream_forms.specs.Between.{ListsInTurns, ListsStream}
 use Rattle.x7_forms.specs.Turn.{FollowsUnlessLast, longest_beginning, turn_size}
+use Rattle.x7_outcome.proofs.ReadyLemmas.{at_ok}
 use Rattle.x7_stream_forms.proofs.AheadLemmas.{prefix_given, prefix_near, longer_prefix, longer_twice, same_now, stays_near, turn_given, turn_near, without_prefix_near, unopened_near, unread_near, unwritten_near, why_weaker}
 use Rattle.x7_stream_forms.proofs.Causes.{Ended, PutsListed, both_err, ends_same, list_ends, list_seen, listed_whole, out_of_memory, out_of_memory_before, without_prefix, unopened}
-use Rattle.x7_forms.proofs.ReadLemmas.{asked_on, at_on, turn_unread, whole_later}
+use Rattle.x7_forms.proofs.ReadLemmas.{asked_on, at_on, no_fault_on, turn_unread, whole_later}
 use Rattle.x7_forms.proofs.ResultLemmas.{handed_on, err_weaker}
 use Rattle.x7_stream_forms.proofs.TurnLemmas.{end_failed, fails_last, unlisted_last, prefix_failed, prefix_so_far, goes_on, line_prefix, line_then, stream_so_far, stream_whole, unread_end, write_failed}
 use Rattle.x7_outcome.proofs.FeedLemmas.{taken_more}
@@ -46,6 +47,7 @@ returns-in_err-open-clause-answered g c = rw (handed_on c.from_residual.result c
       judges = tt;
       asks = asks.once;
       stays = asks.stays;
+      no_fault = tt;
     })
 
 pub returns-in_err-beginning-clause-answered : goal.returns-in_err-beginning-clause-answered
@@ -70,6 +72,7 @@ returns-in_err-beginning-clause-answered g c = rw (handed_on c.from_residual-in_
       judges = tt;
       asks = asks.once;
       stays = asks.stays;
+      no_fault = tt;
     })
 
 pub returns-in_err-put_beginning-clause-answered : goal.returns-in_err-put_beginning-clause-answered
@@ -119,6 +122,7 @@ returns-in_err-put_beginning-clause-answered g c = rw (handed_on c.from_residual
       judges = tt;
       asks = asks.once;
       stays = asks.stays;
+      no_fault = tt;
     })
 
 pub returns-then-beginning-clause-answered : goal.returns-then-beginning-clause-answered
@@ -176,6 +180,7 @@ returns-then-beginning-clause-answered g c = λ before after.
       judges = tt;
       asks = asks.once;
       stays = asks.stays;
+      no_fault = at_ok (result_by (λ _. false) c.put_short.result) (no_fault_on _ _ _ c.in_ok-open.ensures.no_fault c.in_ok-beginning.ensures.no_fault);
     }
 
 pub returns-in_err-turn-clause-answered : goal.returns-in_err-turn-clause-answered
@@ -204,6 +209,7 @@ returns-in_err-turn-clause-answered g c = rw (handed_on c.from_residual-in_err-t
       judges = tt;
       asks = asks.once;
       stays = asks.stays;
+      no_fault = tt;
     })
 
 pub returns-in_err-put_turn-clause-answered : goal.returns-in_err-put_turn-clause-answered
@@ -254,6 +260,7 @@ returns-in_err-put_turn-clause-answered g c = rw (handed_on c.from_residual-in_e
       judges = tt;
       asks = asks.once;
       stays = asks.stays;
+      no_fault = tt;
     })
 
 pub returns-then-turn-clause-answered : goal.returns-then-turn-clause-answered
@@ -320,6 +327,7 @@ returns-then-turn-clause-answered g c = λ before after.
       judges = tt;
       asks = asks.once;
       stays = asks.stays;
+      no_fault = at_ok (result_by (λ _. false) c.put_end.result) (no_fault_on _ _ _ v.no_fault c.in_ok-turn.ensures.no_fault);
     }
 
 pub loop-lister-preserved : goal.loop-lister-preserved
@@ -342,6 +350,7 @@ loop-lister-preserved g c =
     record {
       selected = c.in_ok-turn.ensures.reads.takes.selected;
       inputs = stays_on _ _ _ v.inputs c.next_turn.ensures.gives_few.stays;
+      no_fault = no_fault_on _ _ _ v.no_fault c.in_ok-turn.ensures.no_fault;
       once = once_on _ _ _ v.once c.in_ok-turn.ensures.reads.takes.selects (c.in_ok-turn.ensures.reads.no_end_read c.if-turn.false);
       written = c.in_ok-put_turn.ensures.no_fault ∙ v.written;
       left = omega (arith, v.left);
@@ -382,6 +391,7 @@ loop-lister-init g c =
     record {
       selected = f.reads.takes.selected;
       inputs = stays_on _ _ _ c.open.ensures.asks.stays c.read_beginning.ensures.gives_few.stays;
+      no_fault = no_fault_on _ _ _ c.in_ok-open.ensures.no_fault c.in_ok-beginning.ensures.no_fault;
       written = c.in_ok-put_beginning.ensures.no_fault;
       once = once_on _ _ _ c.open.ensures.asks.once c.read_beginning.ensures.gives_few.selects (f.no_end_read c.if-beginning.false);
       left = omega arith;

@@ -1,5 +1,5 @@
 use Rattle.std.proofs.Common.{◌≡◌, ℕ, List, ◌+◌, ◌≤◌, length, true}
-use Rattle.x7_words.specs.Input.{AsksOnce, RestIsWhole, InputsStay, preceded}
+use Rattle.x7_words.specs.Input.{AsksOnce, NoInputFault, RestIsWhole, InputsStay, preceded}
 use Rattle.x7_forms.specs.Known.{stream_limit}
 use Rattle.x7_forms.specs.Turn.{turn_size}
 use Rattle.x7_forms.proofs.ReadLemmas.{IsAt}
@@ -13,6 +13,7 @@ invariant-loop-lister g l =
     record {
       selected : (i.state l.inputs).selected ≡ true;
       inputs : InputsStay (i.state l.fn.inputs) (i.state l.inputs);
+      no_fault : NoInputFault (i.state l.fn.inputs) (i.state l.inputs);
       written : (o.state l.out).faults ≡ (o.state l.fn.out).faults;
       once : AsksOnce (i.state l.fn.inputs) (i.state l.inputs);
       left : l.left ≤ stream_limit;

@@ -23,6 +23,7 @@ returns-in_err-bytes g c = rw (handed_on c.from_residual.result c.in_err-bytes.f
       stops = first_stops (form.Mcs name) (limited flash_limit name) [] old new event refl c.read_whole.ensures.asks.last c.read_whole.ensures.asks.once (unread_about name event c.in_err-bytes.ensures.named);
       asks = c.read_whole.ensures.asks.once;
       stays = c.read_whole.ensures.asks.stays;
+      no_fault = tt;
     })
 
 pub returns : goal.returns
@@ -37,10 +38,11 @@ returns g c =
       stops = tt;
       asks = c.read_whole.ensures.asks.once;
       stays = c.read_whole.ensures.asks.stays;
+      no_fault = c.in_ok-bytes.ensures.no_fault;
     }
 
 pub returns-in_err-new : goal.returns-in_err-new
 returns-in_err-new g c = rw (want_seen mcs_answer c.from_residual-in_err-new.result c.from_residual-in_err-new.ensures)
     (let old = g.I.Inputs.state c.args.inputs.now in
     let new = g.I.Inputs.state c.read_whole.new.inputs in
-    record { caused = λ flash. inl (inl refl); stops = want_stops (form.Mcs c.args.image_name.now) old new no_memory refl; asks = c.read_whole.ensures.asks.once; stays = c.read_whole.ensures.asks.stays })
+    record { caused = λ flash. inl (inl refl); stops = want_stops (form.Mcs c.args.image_name.now) old new no_memory refl; asks = c.read_whole.ensures.asks.once; stays = c.read_whole.ensures.asks.stays; no_fault = tt })

@@ -21,6 +21,7 @@ returns-in_err-read g c = rw (handed_on c.from_residual.result c.in_err-read.fie
       stops = first_stops (form.Unmcs name) (limited text_limit name) [] old new event refl c.feed_whole.ensures.asks.last c.feed_whole.ensures.asks.once (unread_about name event c.in_err-read.ensures.named);
       asks = c.feed_whole.ensures.asks.once;
       stays = c.feed_whole.ensures.asks.stays;
+      no_fault = tt;
     })
 
 pub returns-in-Ok : goal.returns-in-Ok
@@ -33,6 +34,7 @@ returns-in-Ok g c =
       stops = tt;
       asks = c.feed_whole.ensures.asks.once;
       stays = c.feed_whole.ensures.asks.stays;
+      no_fault = c.in_ok-read.ensures.no_fault;
     }
 
 pub returns-in-Err : goal.returns-in-Err
@@ -47,4 +49,5 @@ returns-in-Err g c =
       stops = first_stops (form.Unmcs name) (limited text_limit name) [] old new event refl c.feed_whole.ensures.asks.last c.feed_whole.ensures.asks.once (about_by name event (mcs_event name c.in-Err.fault) c.refusal_of.ensures (mcs_about name c.in-Err.fault));
       asks = c.feed_whole.ensures.asks.once;
       stays = c.feed_whole.ensures.asks.stays;
+      no_fault = tt;
     }

@@ -3,11 +3,13 @@ use Rattle.x7_forms.specs.Event.{event_of}
 use Rattle.x7_forms.specs.Step.{result_by}
 use Rattle.x7_outcome.specs.Outcome.{PlannedPartial}
 use Rattle.x7_outcome.specs.Ready.{bytes_answer}
+use Rattle.x7_outcome.proofs.ReadyLemmas.{at_ok}
 use Rattle.x7_stream_forms.proofs.PlanLemmas.{partial_ended, part_refused, plan_refused, planned_end}
 use Rattle.x7_forms.specs.AskedForm as form
 use Rattle.x7_forms.specs.Known.{part_limit, text_limit}
 use Rattle.x7_words.proofs.InputLemmas.{stays_on}
 use Rattle.x7_outcome.proofs.StopLemmas.{both_asked, first_asked, result_stops, among_stops, first_stops, second_stops}
+use Rattle.x7_forms.proofs.ReadLemmas.{no_fault_on}
 use Rattle.x7_forms.proofs.AskedLemmas.{no_part_about, stops_after}
 use Rattle.x7_forms.proofs.ResultLemmas.{handed_on, err_weaker}
 use Rattle.x7_forms.specs.ReadingStops.{limited}
@@ -22,6 +24,7 @@ returns-in_err-part g c = rw (handed_on c.from_residual.result c.in_err-part.fie
           (no_part_about c.args.part_name.now (event_of c.in_err-part.field-0.0) c.in_err-part.ensures.named);
       asks = first_asked c.args.part_name.now (c.args.frames_name.now ∷ []) (g.I.Inputs.state c.args.inputs.now) (g.I.Inputs.state c.read_part.new.inputs) c.read_part.ensures.asks.once;
       stays = c.read_part.ensures.asks.stays;
+      no_fault = tt;
     })
 
 pub returns-in_err-plan : goal.returns-in_err-plan
@@ -34,6 +37,7 @@ returns-in_err-plan g c = rw (handed_on c.from_residual-in_err-plan.result c.in_
           (event_of c.in_err-plan.field-0.0) c.read_part.ensures.asks.once c.in_err-plan.ensures.stops);
       asks = both_asked (g.I.Inputs.state c.args.inputs.now) (g.I.Inputs.state c.read_part.new.inputs) (g.I.Inputs.state c.read_plan.new.inputs) c.read_part.ensures.asks.once c.read_plan.ensures.asks;
       stays = stays_on _ _ _ c.read_part.ensures.asks.stays c.read_plan.ensures.inputs;
+      no_fault = tt;
     })
 
 pub returns : goal.returns
@@ -49,4 +53,5 @@ returns g c =
           (omega (arith, c.read_part.ensures.asks.once, c.read_plan.ensures.asks)) a) c.partial_text.ensures.named);
       asks = both_asked (g.I.Inputs.state c.args.inputs.now) (g.I.Inputs.state c.read_part.new.inputs) (g.I.Inputs.state c.read_plan.new.inputs) c.read_part.ensures.asks.once c.read_plan.ensures.asks;
       stays = stays_on _ _ _ c.read_part.ensures.asks.stays c.read_plan.ensures.inputs;
+      no_fault = at_ok (result_by bytes_answer c.partial_text.result) (no_fault_on _ _ _ c.in_ok-part.ensures.no_fault c.in_ok-plan.ensures.no_fault);
     }

@@ -10,6 +10,7 @@ use Rattle.x7_forms.proofs.ResultLemmas.{handed_on, err_weaker}
 use Rattle.x7_forms.proofs.AskedLemmas.{no_part_about}
 use Rattle.x7_outcome.specs.Outcome.{PlannedRead}
 use Rattle.x7_outcome.specs.Ready.{bytes_answer}
+use Rattle.x7_outcome.proofs.ReadyLemmas.{at_ok}
 use Rattle.x7_stream_forms.proofs.ReadyLemmas.{read_due}
 use Rattle.x7_outcome.proofs.StopLemmas.{result_stops, first_stops}
 use Rattle.x7_stream_forms.proofs.plan.plan_read.Goals as goal
@@ -24,6 +25,7 @@ returns-in_err-part g c = rw (handed_on c.from_residual.result c.in_err-part.fie
       stops = first_stops (form.PlanRead name c.args.far c.args.slot_count) (limited part_limit name) [] old new event refl c.read_part.ensures.asks.last c.read_part.ensures.asks.once (no_part_about name event c.in_err-part.ensures.named);
       asks = c.read_part.ensures.asks.once;
       stays = c.read_part.ensures.asks.stays;
+      no_fault = tt;
     })
 
 pub returns : goal.returns
@@ -41,4 +43,5 @@ returns g c =
           (event_of r) refl c.read_part.ensures.asks.last c.read_part.ensures.asks.once a) c.readback_text.ensures.named);
       asks = c.read_part.ensures.asks.once;
       stays = c.read_part.ensures.asks.stays;
+      no_fault = at_ok (result_by bytes_answer made) c.in_ok-part.ensures.no_fault;
     }
