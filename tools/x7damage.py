@@ -443,8 +443,9 @@ def is_one_bit(count: int) -> bool:
 
 
 def cause_of_added(source: Source, step: x7.Step, more: int) -> Optional[Cause]:
-    """The cause where bytes stand between frame data and the packets after them: as many as were added, or such as a
-    damaged count leaves out. A header tells which; where it tells of another number, none."""
+    """The cause where `more` bytes stand between frame data and the packets after them, or none. They were added, or the
+    count of the write is damaged and leaves them out. The header's length tells which; without a header it is unknown;
+    where the length fits neither, there is no cause."""
     place = source.first + step.end + 4
     if not source.header:
         text = (

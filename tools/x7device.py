@@ -244,7 +244,10 @@ class Device:
             if self.deadline is not None and self.begun is not None:
                 ended = self.begun + 4 * ticks_to_the_end(self.cor0, self.lock, self.match)
                 self.deadline += max(after - max(ended - 1, self.loaded), 0)
-            self.shutdown, self.begun, self.armed, self.ghigh = False, None, False, False
+            self.shutdown = False
+            self.begun = None
+            self.armed = False
+            self.ghigh = False
 
     def execute(self, command: int, after: int) -> None:
         """Executes a command."""

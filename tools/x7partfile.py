@@ -37,12 +37,16 @@ class Toml:
     """A reader of the TOML that part files use: keys, whole numbers, texts, lists, and tables `[[row]]`."""
 
     def __init__(self, text: str) -> None:
-        # the whole text, where its next token begins, and the present one
-        self.text, self.at, self.token = text, 0, ""
+        # the whole text
+        self.text = text
+        # where its next token begins
+        self.at = 0
+        # the present one
+        self.token = ""
         self.next()
 
     def next(self) -> str:
-        """Takes the present token and moves to the next one."""
+        """Moves to the next token, and gives the one that was present."""
         taken, found = self.token, TOKEN.match(self.text, self.at)
         if not found:
             raise Refused(f"line {self.line()} is no TOML that a part file has")
@@ -144,7 +148,7 @@ class Part:
         self.rows = sorted(Row(it["block"], it["half"], it["row"], it["minors"]) for it in table["row"])
 
     def address(self, block: int, half: int, row: int, column: int, minor: int) -> int:
-        """The frame address of these."""
+        """The frame address with this block type, half, row, column and minor."""
         low = self.far
         return (((block << low[3] | half) << low[2] | row) << low[1] | column) << low[0] | minor
 

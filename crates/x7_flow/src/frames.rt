@@ -100,8 +100,8 @@ impl Frames {
     }
 
     /// Takes words written to FDRI or MFWR, four bytes each, up to the first that is refused. The answer is the number
-    /// of words looked at, a refused one included, and its fault (`frame_fault`), if one was. The settings are as those
-    /// of `write`.
+    /// of words looked at, a refused one included, and its fault (`frame_fault`), if one was. As for `write`, the settings
+    /// have to be those after the accesses so far.
     pub fn write_bytes(
         &mut self,
         settings: FrameSettings,

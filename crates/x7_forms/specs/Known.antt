@@ -58,19 +58,19 @@ data_in name bytes = data_by name bytes (header_at bytes)
 abbrev pub if_within : List ℕ → ℕ → List ℕ → Result (List ℕ) Event
 if_within name limit bytes = if nat_lt limit (length bytes) then Err (too_large name) else Ok bytes
 
--- the most bytes of a stream, and of all streams of one `play` together
+-- the most bytes of a stream, and of all streams of one `play` together (64 MiB)
 abbrev pub stream_limit : ℕ
 stream_limit = 67108864
 
--- the most bytes of an assembly, Intel HEX, frames or SVF text
+-- the most bytes of an assembly, Intel HEX, frames or SVF text (512 MiB)
 abbrev pub text_limit : ℕ
 text_limit = 536870912
 
--- the most bytes of a script
+-- the most bytes of a script (1 MiB)
 abbrev pub script_limit : ℕ
 script_limit = 1048576
 
--- the most bytes of a part file
+-- the most bytes of a part file (1 MiB)
 abbrev pub part_limit : ℕ
 part_limit = 1048576
 

@@ -55,7 +55,7 @@ pub(crate) struct Trial<'a, C: Command> {
 }
 
 impl<'a, C: Command> Trial<'a, C> {
-    /// One run, which the notes that follow are of.
+    /// Runs the command once; the notes that follow are on this run.
     fn run_once(&mut self, variation: &Variation) {
         let given = &self.case.given;
         self.notes.begin(self.case.name.as_str());

@@ -30,7 +30,7 @@ abbrev pub spending : Option ℕ → List FlashCall
 spending None = []
 spending (Some slot) = Programmed (flash_slot_size * slot) spent_switch ∷ []
 
--- this many sectors are erased, from one on
+-- this many sectors are erased, from the sector of this number on
 abbrev pub erasing : ℕ → ℕ → List FlashCall
 erasing sector zero = []
 erasing sector (suc count) = Erased sector ∷ erasing (suc sector) count
@@ -39,7 +39,8 @@ erasing sector (suc count) = Erased sector ∷ erasing (suc sector) count
 abbrev pub padded : List ℕ → ℕ → List ℕ
 padded stream count = stream ++ replicate (count - length stream) erased_byte
 
--- this many sectors are read, from one on, and hold what an update with a stream at a place of a flash of a size leaves
+-- this many sectors are read, from the sector of this number on, and hold what an update with a stream at a place of a
+-- flash of a size leaves
 abbrev pub reading : ℕ → List ℕ → ℕ → ℕ → ℕ → List FlashCall
 reading size stream place sector zero = []
 reading size stream place sector (suc count) =
