@@ -1,8 +1,8 @@
 -- The state of a device as a function of all bytes since its reset, of what the reset kept, and of whether the flash
 -- has ended (this project's choice where UG470 leaves it open).
 -- A name that ends in `_by`, and `last_counted` and `why_stopped`, take the first stop or its cause. Every other
--- definition takes part, kept values and bytes one by one. A contract cites Past.antt, where the same name ends in `_at`
--- and takes these in one value. What comes after the first stop doesn't count.
+-- definition takes part, kept values and bytes one by one. A contract cites Past.antt, where the same name ends in
+-- `_at` and takes these in one value. What comes after the first stop doesn't count.
 use Rattle.std.specs.Prelude.{ℕ, ◌-◌, Bool, false, if◌then◌else◌, List, length, Option, None, Some}
 use Rattle.x7_packets.specs.ByHand.{reading_of}
 use Rattle.x7_packets.specs.History.{History, history_of, until}

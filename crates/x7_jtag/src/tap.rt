@@ -53,9 +53,9 @@ const INIT_B_AT: u32 = 12;
 pub struct Tap {
     state: State,
     instruction: Instruction,
-    // the register between TDI and TDO
+    /// The register between TDI and TDO.
     register: u32,
-    // a count from 0 to 7 of the bits of a byte under CFG_IN, or of clocks in Run-Test/Idle under JSTART
+    /// A count from 0 to 7 of the bits of a byte under CFG_IN, or of clocks in Run-Test/Idle under JSTART.
     count: u32,
     queue: Queue,
 }

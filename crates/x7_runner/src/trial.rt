@@ -117,8 +117,8 @@ impl<'a, C: Command> Trial<'a, C> {
         self.notes.put("fails_each", "an end", "none");
     }
 
-    /// Runs with each call of the object failing in turn. Where the whole run reads all that the words name, each
-    /// of these inputs fails in one of them.
+    /// Runs with each call of the object failing in turn. Where the whole run reads all that the words name, each of
+    /// these inputs fails in one of them.
     fn run_each(&mut self, variation: &Variation) {
         let mut blamed = Blamed::new(self.alloc);
         self.run_calls(variation, &mut blamed);

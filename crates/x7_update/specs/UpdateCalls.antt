@@ -95,7 +95,8 @@ calls_to size first_sector stream target = Read 0 first_sector ∷ calls_after s
 abbrev pub update_calls : ℕ → List ℕ → List ℕ → List FlashCall
 update_calls size first_sector stream = calls_to size first_sector stream (target_in first_sector)
 
--- a flash of a size whose first sector is this one has slots as the layout has them, and room for a stream where they lead
+-- a flash of a size whose first sector is this one has slots as the layout has them, and room for a stream where they
+-- lead
 pub record HasRoom (size : ℕ) (first_sector stream : List ℕ) : Type 0 where
   pub sized : IsUpdatableSize size
   pub has : HasSlots size first_sector
