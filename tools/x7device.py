@@ -162,7 +162,7 @@ class Device:
 
     def read(self, step: x7.Step) -> None:
         """Takes a read."""
-        self.reads += step.count
+        self.reads += step.word_count
 
     def frame_data(self, data: bytes, step: x7.Step) -> None:
         """Takes a write of frame data, or a copy."""

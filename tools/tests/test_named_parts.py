@@ -1,7 +1,7 @@
 #!/usr/bin/env python3
-"""Tests calls that name no part file: check_update takes the shelf's file for the stream's IDCODE, frame_map that of the
-name in a report, and `part --shelf` shows the one for a stream. And svf says of a Zynq-7000 that another port stands in
-its chain."""
+"""Tests calls that name no part file: check_update takes the shelf's file for the stream's IDCODE, frame_map that of
+the name in a report, and `part --shelf` shows the one for a stream. And svf says of a Zynq-7000 that another port
+stands in its chain."""
 from __future__ import annotations
 
 from runs import Bench, run_parts
