@@ -49,7 +49,7 @@ def steps_well(data: bytes) -> bool:
     """Whether the first session of data has packets alone, and comes to its end: what wrong places hardly have."""
     at = data.find(x7.SYNC)
     for step in x7.session(data, at + 4):
-        if step.kind in ("bad", "bytes") or step.kind == "write" and step.present < step.count:
+        if step.kind in ("bad", "bytes") or step.kind == "write" and step.present < step.word_count:
             return False
         if step.kind == "write" and x7.ends_session(data, step):
             return True

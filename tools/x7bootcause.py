@@ -73,8 +73,7 @@ def cause_of_fallback(report: Report) -> Optional[Cause]:
         return boot_cause(text, "play the update's stream alone", Section.FALLBACK)
     text = (
         f"it starts, but at the second attempt alone: {path_of(report)}; the flash has one image, and a fallback has "
-        "no "
-        "watchdog"
+        "no watchdog"
     )
     return boot_cause(text, ALONE, Section.FALLBACK)
 
@@ -85,13 +84,11 @@ def cause_of_place(subject: Subject, report: Report) -> Optional[Cause]:
     if last.address % SECTOR:
         text = (
             f"it starts, but from an attempt at {last.address:08X}, which is no sector's beginning "
-            f"({path_of(report)}): another "
-            "image than the one that was meant"
+            f"({path_of(report)}): another image than the one that was meant"
         )
         remedy = (
             "start_unit of the part file that made the image must be the device's: 1 where WBSTAR counts bytes, 256 "
-            "with "
-            "addresses of 32 bits"
+            "with addresses of 32 bits"
         )
         return boot_cause(text, remedy, Section.FALLBACK)
     if len(report.attempts) == 1 and is_golden_alone(subject, report):

@@ -80,8 +80,7 @@ class Cause(NamedTuple):
 # the remedies that more than one cause has
 TAKE_AGAIN = "take the file again"
 COUNT_BYTES = (
-    "take the file again; where it goes through a cable or a processor, compare the number of bytes that "
-    "arrive"
+    "take the file again; where it goes through a cable or a processor, compare the number of bytes that arrive"
 )
 # The kinds beside which nothing is worth a note: of a damaged stream settings mean nothing.
 DAMAGED = {

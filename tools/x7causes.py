@@ -84,8 +84,7 @@ TOLD = {
     "Crc": Told(
         Kind.CHECK,
         "a check fails (INIT_B goes low): the words before it have {0}, the stream says {1}; one of them, or the "
-        "check, is "
-        "damaged or lost", MEND_CHECKS, Section.CHECK,
+        "check, is damaged or lost", MEND_CHECKS, Section.CHECK,
     ),
     "Encrypted": Told(
         Kind.ENCRYPTED, "the stream is encrypted, which x7 doesn't read", "write it without encryption",
@@ -93,8 +92,8 @@ TOLD = {
     ),
     "Address": Told(
         Kind.FRAMES, FRAME_FAULTS["Address"].format(far="{0}", part="the part file"),
-        "the part file lacks a column or a row, or is another device's; or the address is damaged: compare with a "
-        "good copy",
+        "the part file lacks a column or a row, or is another device's; or the address is damaged: compare with a good "
+        "copy",
         Section.FURTHER,
     ),
     "Overrun": Told(
@@ -122,9 +121,8 @@ def cause_of_fault(subject: Subject) -> Optional[Cause]:
         return cause_of_copy(subject, source, after)
     if kind == "Crc" and words[1] == NO_CHECK_WORD:
         text = (
-            f"a check fails: the stream says {NO_CHECK_WORD}, a constant that streams of older families have where "
-            "the check "
-            f"is off; x7 takes it for a check, and the words before it have {words[0]}"
+            f"a check fails: the stream says {NO_CHECK_WORD}, a constant that streams of older families have where the "
+            f"check is off; x7 takes it for a check, and the words before it have {words[0]}"
         )
         return Cause(
             Kind.CHECK, text, "write the stream with BITSTREAM.GENERAL.CRC ENABLE", Section.CHECK, after, source,
@@ -194,8 +192,7 @@ def cause_of_copy(subject: Subject, source: Source, after: int) -> Cause:
     if commands and commands[-1].word != "MFW":
         text = (
             f"a frame is to be copied under the command {commands[-1].word}, and copies want MFW: that word is "
-            "damaged, or MFW "
-            "was lost"
+            "damaged, or MFW was lost"
         )
         return Cause(Kind.DAMAGED_WORD, text, TAKE_AGAIN, Section.FURTHER, commands[-1].after, source)
     remedy = "words were lost before it, or it isn't a stream of this family"
@@ -219,9 +216,8 @@ def cause_of_phase(subject: Subject) -> Cause:
     if waits:
         text = f"startup waits in phase {fate.phase} for {waits}"
         remedy = (
-            "see that these clocks run and come to the device; or let the tool not wait (NoWait). How long it takes "
-            "is lock "
-            "and match of the part file"
+            "see that these clocks run and come to the device; or let the tool not wait (NoWait). How long it takes is "
+            "lock and match of the part file"
         )
         return Cause(Kind.WAITS, text, remedy, Section.WAITS)
     text = f"the bytes end in phase {fate.phase} of startup: after DESYNC each phase takes four bytes, or a clock"
@@ -280,8 +276,8 @@ def cause_of_no_start(subject: Subject) -> Cause:
             (it for it in device.commands if it.after > lfrm and it.word in ("NULL", "SWITCH", "CRCC")), None,
         )
         text = (
-            "the stream has no START, though it sets COR0 and ends with LFRM as a full one does: START is damaged "
-            "or lost"
+            "the stream has no START, though it sets COR0 and ends with LFRM as a full one does: START is damaged or "
+            "lost"
         )
         return Cause(Kind.NO_START, text, TAKE_AGAIN, Section.EARLY_END, following.after if following else lfrm, last)
     text = "the stream has no START: a partial one changes frames and starts nothing"
@@ -341,9 +337,8 @@ def cause_of_dropped(subject: Subject) -> Optional[Cause]:
     by = next(it for it in reversed(subject.device.written) if it.register == "CTL0" and it.after <= step.place)
     source = subject.source_at(step.end)
     text = (
-        f"the frames of {source.name if source else 'a stream'} are dropped: CTL0 has SBITS 1x, which forbids "
-        "writing frames, "
-        f"since {subject.place(by.after)}"
+        f"the frames of {source.name if source else 'a stream'} are dropped: CTL0 has SBITS 1x, which forbids writing "
+        f"frames, since {subject.place(by.after)}"
     )
     remedy = "write the stream before it with BITSTREAM.READBACK.SECURITY NONE (or LEVEL1)"
     return Cause(Kind.DROPPED, text, remedy, Section.PARTIAL, step.first + 4, source)
@@ -354,9 +349,8 @@ def cause_of_unchecked_loss(subject: Subject) -> Optional[Cause]:
     for source in subject.sources:
         if source.lost > 0 and not has_check(source):
             text = (
-                f"{source.lost} bytes of the stream were lost, and nothing on the device notices, since the stream "
-                "has no "
-                "check: all frames after them stand at wrong addresses"
+                f"{source.lost} bytes of the stream were lost, and nothing on the device notices, since the stream has "
+                "no check: all frames after them stand at wrong addresses"
             )
             remedy = "take the file again; write it with BITSTREAM.GENERAL.CRC ENABLE"
             return Cause(Kind.LOST, text, remedy, Section.CHECK, None, source)
@@ -423,8 +417,7 @@ def cause_of_several_devices(subject: Subject) -> Optional[Cause]:
             where = f"the header of a second .bit file stands at byte {header}" if header >= 0 else where
             text = (
                 f"the file has streams of two devices: {wanted:08X}{named(wanted)}, and {idcode:08X}{named(idcode)} "
-                f"({where}); "
-                "no device takes both"
+                f"({where}); no device takes both"
             )
             return Cause(Kind.SEVERAL_DEVICES, text, "give one of them alone", Section.OTHER_DEVICE, after, source)
         said = [f"{it.name} for {code:08X}{named(code)}" for it, code in ((first, wanted), (source, idcode))]
@@ -440,8 +433,7 @@ def cause_of_header_part(subject: Subject) -> Optional[Cause]:
         if by_header is not None and idcode and (by_header ^ idcode.word) & DEVICE_BITS:
             text = (
                 f"the stream writes the IDCODE {idcode.word:08X}{named(idcode.word)}, and its header names "
-                f"{source.part}, which has "
-                f"{by_header:08X}: the word is damaged, or the header is another stream's"
+                f"{source.part}, which has {by_header:08X}: the word is damaged, or the header is another stream's"
             )
             return Cause(Kind.OTHER_DEVICE, text, TAKE_AGAIN, Section.OTHER_DEVICE, idcode.after, source)
     return None
@@ -522,8 +514,7 @@ def length_of(subject: Subject, found: Optional[Cause]) -> str:
             of = f" of {source.name}" if len(subject.sources) > 1 else ""
             where = "listing" if source.is_listing else "file"
             return (
-                f"the header{of} tells of {source.header_count} bytes of data, and the {where} has "
-                f"{len(source.data)}: bytes "
-                f"were {kind}"
+                f"the header{of} tells of {source.header_count} bytes of data, and the {where} has {len(source.data)}: "
+                f"bytes were {kind}"
             )
     return ""

@@ -43,7 +43,7 @@ def frames_of(data: bytes, before: Optional[int] = None) -> List[Frame]:
     """The frames that hold something of a stream's data, of whole ones in each write to FDRI, up to a place."""
     found = []
     for step in x7.steps(data if before is None else data[:before]):
-        if step.kind == "write" and step.register == x7.FDRI and step.count % x7.FRAME_WORDS == 0:
+        if step.kind == "write" and step.register == x7.FDRI and step.word_count % x7.FRAME_WORDS == 0:
             for place in range(step.first, step.end - FRAME_BYTES + 1, FRAME_BYTES):
                 frame = data[place : place + FRAME_BYTES]
                 if frame != ZEROS:

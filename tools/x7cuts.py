@@ -98,7 +98,7 @@ def left_by(report: Report, known: References) -> Left:
     return Left.OTHER
 
 
-def counted(found: List[Tuple[Cut, Left]]) -> str:
+def cuts_counted(found: List[Tuple[Cut, Left]]) -> str:
     """How many cuts were tried, and what they left, in words."""
     parts = [f"{sum(left is it for _, left in found)} {it.value}" for it in (Left.BEFORE, Left.GOLDEN, Left.UPDATED)]
     return f"{len(found)} cuts boot: {', '.join(parts)}"
@@ -115,7 +115,7 @@ def try_cuts(checks: Checks, bench: Bench, timer: int, flash: bytes, steps: List
         if left is Left.OTHER:
             wrong.append(f"{cut.name}: {went(report)}{'' if runs(report) else ', and the device does not run'}")
         wrapped += left is Left.GOLDEN and report.attempts[1].ending == "wrap"
-    checks.tell(not wrong, "power", counted(found), " | ".join(wrong[:4]))
+    checks.tell(not wrong, "power", cuts_counted(found), " | ".join(wrong[:4]))
     if not wrapped:
         return
     rests = f"{wrapped} of these reach the golden stream"

@@ -52,9 +52,14 @@ def plays(data: bytes) -> bool:
     return device.end == ["searching"] and device.phase == 7 and device.checked > 0
 
 
+def number_of(count: int, what: str = "byte") -> str:
+    """A number of things."""
+    return f"{count} {what}{'' if count == 1 else 's'}"
+
+
 def counted(count: int, what: str = "byte") -> str:
     """A number of things, and that they were."""
-    return f"{count} {what}{'' if count == 1 else 's'} {'was' if count == 1 else 'were'}"
+    return f"{number_of(count, what)} {'was' if count == 1 else 'were'}"
 
 
 def lost_or_added(count: int) -> str:
@@ -74,8 +79,8 @@ def cause_of_no_zeros(source: Source) -> Optional[Cause]:
     most = counts.index(max(counts))
     if 8 * counts[most] > len(data):
         text = (
-            f"no byte 00 stands in it, and {counts[most]} bytes {most:02X}: each 00 became {most:02X}, as an "
-            "editor saves a file"
+            f"no byte 00 stands in it, and {counts[most]} bytes {most:02X}: each 00 became {most:02X}, as an editor "
+            "saves a file"
         )
     else:
         text = "no byte 00 stands in it: the bytes 00 were lost, as where a tool for texts dropped them"
@@ -261,8 +266,8 @@ def cause_of_page(source: Source) -> Optional[Cause]:
         is_page = any((place + lead) % PAGE == 0 for place in (begin, after) for lead in (0, head))
         if after - begin >= SURE_PAGE or is_page:
             text = (
-                f"bytes {begin} to {after - 1} are all FF ({after - begin} bytes), as in a flash of which a page "
-                "was erased and not written"
+                f"bytes {begin} to {after - 1} are all FF ({after - begin} bytes), as in a flash of which a page was "
+                "erased and not written"
             )
             remedy = "write the flash again, and read it back"
             return Cause(Kind.ERASED, text, remedy, Section.LOST_WORDS, source.first + begin + 1, source)
@@ -302,8 +307,8 @@ def cause_of_exchange(source: Source) -> Optional[Cause]:
         return None
     text = f"the file's two parts are exchanged: the stream begins at byte {at}, and what stands before that is its end"
     remedy = (
-        f"put them in order: tail -c +{at + 1 + (source.header.size if source.header else 0)} FILE > NEW, and "
-        "the other part after it"
+        f"put them in order: tail -c +{at + 1 + (source.header.size if source.header else 0)} FILE > NEW, and the "
+        "other part after it"
     )
     return Cause(Kind.TURNED, text, remedy, Section.LOST_WORDS, None, source)
 
@@ -333,8 +338,8 @@ def cause_of_later_stream(source: Source) -> Optional[Cause]:
         text = f"the stream is cut off before the sync word at byte {at}, from which on a second one is whole"
         return Cause(Kind.CUT, text, "give the second one alone", Section.EARLY_END, source.first + at, source)
     text = (
-        f"the sync word at byte {first} isn't the stream's own, which stands at byte {at}: what comes between is "
-        "taken for packets"
+        f"the sync word at byte {first} isn't the stream's own, which stands at byte {at}: what comes between is taken "
+        "for packets"
     )
     remedy = f"cut away what stands before the stream: tail -c +{at + 1} of the data, or less of it"
     return Cause(Kind.FALSE_SYNC, text, remedy, Section.NO_SYNC, source.first + first + 4, source)
@@ -360,10 +365,10 @@ def is_frame_data(steps: List[x7.Step], at: int) -> bool:
     """Whether a step writes frame data whose count may be believed: a type 2 packet alone right after the type 1 packet
     of no words."""
     step = steps[at]
-    if step.kind != "write" or step.register != x7.FDRI or step.count < FEWEST_WORDS:
+    if step.kind != "write" or step.register != x7.FDRI or step.word_count < FEWEST_WORDS:
         return False
     before = steps[at - 1] if at else None
-    return step.word >> 29 == 1 or before is not None and before.register == x7.FDRI and before.count == 0
+    return step.word >> 29 == 1 or before is not None and before.register == x7.FDRI and before.word_count == 0
 
 
 def cause_of_swallowed(source: Source) -> Optional[Cause]:
@@ -389,7 +394,7 @@ def packets_begin(data: bytes, step: x7.Step) -> Optional[int]:
     if found and found.start() < step.end:
         return found.start()
     ended = data.find(x7.NOP * 4, max(step.end - TAIL_BYTES, step.first), step.end)
-    return ended if ended >= 0 and step.present < step.count else None
+    return ended if ended >= 0 and step.present < step.word_count else None
 
 
 def added_after(source: Source, steps: List[x7.Step], at: int) -> int:
@@ -405,7 +410,7 @@ def added_after(source: Source, steps: List[x7.Step], at: int) -> int:
 def is_odd(step: x7.Step) -> bool:
     """Whether a step is a packet that doesn't follow frame data in any stream: of a register of no name, or of many
     words."""
-    return step.kind in ("write", "read") and (step.register not in x7.NAMES or step.count > 1)
+    return step.kind in ("write", "read") and (step.register not in x7.NAMES or step.word_count > 1)
 
 
 def most_lost(source: Source) -> int:
@@ -415,24 +420,22 @@ def most_lost(source: Source) -> int:
 
 def swallowed(source: Source, step: x7.Step, begins: int) -> Optional[Cause]:
     """The cause where packets begin within the payload of frame data, or none."""
-    missing = step.first + 4 * step.count - begins
+    missing = step.first + 4 * step.word_count - begins
     head, place = x7.head_line(step), source.first + begins + 4
     if missing <= 0 or missing > most_lost(source) and not (source.lost == 0 and is_one_bit(missing)):
         return None
     if missing > most_lost(source):
         text = (
             f"the packet '{head}' takes packets after the frames for frames: its count is {missing // 4} words too "
-            "large: "
-            "the count is damaged, or the header's length is another file's"
+            "large: the count is damaged, or the header's length is another file's"
         )
         return Cause(Kind.DAMAGED_WORD, text, TAKE_AGAIN, Section.LOST_WORDS, place, source)
     more = "" if source.header else ", or more, with packets after them (how many is unknown: no header)"
     if source.lost and source.lost != missing:
         more = f", and {lost_or_added(source.lost - missing)} after them or elsewhere, or the header's length is wrong"
     text = (
-        f"{counted(missing)} lost among the frame data of '{head}'{more}: it takes the packets after them for "
-        "frames, so "
-        "check, START or DESYNC are missing"
+        f"{counted(missing)} lost among the frame data of '{head}'{more}: it takes the packets after them for frames, "
+        "so check, START or DESYNC are missing"
     )
     return Cause(Kind.LOST, text, COUNT_BYTES, Section.LOST_WORDS, place, source)
 
@@ -443,8 +446,9 @@ def is_one_bit(count: int) -> bool:
 
 
 def cause_of_added(source: Source, step: x7.Step, more: int) -> Optional[Cause]:
-    """The cause where bytes stand between frame data and the packets after them: as many as were added, or such as a
-    damaged count leaves out. A header tells which; where it tells of another number, none."""
+    """The cause where `more` bytes stand between frame data and the packets after them, or none. They were added, or
+    the count of the write is damaged and leaves them out. The header's length tells which; without a header it is
+    unknown; where the length fits neither, there is no cause."""
     place = source.first + step.end + 4
     if not source.header:
         text = (
@@ -452,10 +456,10 @@ def cause_of_added(source: Source, step: x7.Step, more: int) -> Optional[Cause]:
             "were lost, which is unknown: packets begin so much later"
         )
         return Cause(Kind.LOST, text, COUNT_BYTES, Section.LOST_WORDS, place, source)
-    if source.header and source.lost == 0 and is_one_bit(more):
+    if source.lost == 0 and is_one_bit(more):
         text = (
-            f"the packet '{x7.head_line(step)}' ends before its frames do: its count is {more // 4} words too "
-            "small: it is damaged"
+            f"the packet '{x7.head_line(step)}' ends before its frames do: its count is {more // 4} words too small: "
+            "it is damaged"
         )
         return Cause(Kind.DAMAGED_WORD, text, TAKE_AGAIN, Section.LOST_WORDS, place, source)
     if not source.lost or -source.lost != more:
@@ -478,8 +482,7 @@ def cause_of_shift(source: Source) -> Optional[Cause]:
         text = f"{lost_or_added(source.lost)} {where}: the packets after that aren't at the places of words"
     else:
         text = (
-            f"bytes were lost or added {where}: from there on packets stand {counted(shift)[:-4].strip()} off "
-            "their words"
+            f"bytes were lost or added {where}: from there on packets stand {number_of(shift)} off their words"
         )
     return Cause(Kind.LOST, text, COUNT_BYTES, Section.LOST_WORDS, source.first + places[off] + 1, source)
 
@@ -493,8 +496,7 @@ def cause_of_early_end(source: Source) -> Optional[Cause]:
             if more and (more.start() - step.place) % 4 == 0 and not source.data.startswith(x7.SYNC, step.end):
                 text = (
                     f"DESYNC comes too early: the {len(source.data) - after} bytes after it, packets among them, are "
-                    "not "
-                    "taken: another command was damaged into it"
+                    "not taken: another command was damaged into it"
                 )
                 return Cause(Kind.DAMAGED_WORD, text, TAKE_AGAIN, Section.EARLY_END, source.first + after, source)
         if step.kind == "write" and x7.ends_session(source.data, step):
@@ -506,14 +508,13 @@ def cause_of_large_count(source: Source, most_reads: int) -> Optional[Cause]:
     """The cause where a header asks for more words than x7 reads out, or than there are, or none."""
     for step in source.steps:
         ends = step.kind == "write" and x7.ends_session(source.data, step)
-        missing = 4 * (step.count - step.present) if step.kind == "write" and not ends else 0
-        if step.kind == "read" and step.count > most_reads or missing > 0 and source.header and missing > max(
+        missing = 4 * (step.word_count - step.present) if step.kind == "write" and not ends else 0
+        if step.kind == "read" and step.word_count > most_reads or missing > 0 and source.header and missing > max(
             source.lost, 0,
         ) + 4:
             text = (
-                f"'{x7.head_line(step)}' asks for more words than there can be: words were lost or added before it, "
-                "or the "
-                "word itself is damaged"
+                f"'{x7.head_line(step)}' asks for more words than there can be: words were lost or added before it, or "
+                "the word itself is damaged"
             )
             return Cause(Kind.LOST, text, COUNT_BYTES, Section.LOST_WORDS, source.first + step.first, source)
         if step.kind == "bad":

@@ -162,7 +162,7 @@ class Device:
 
     def read(self, step: x7.Step) -> None:
         """Takes a read."""
-        self.reads += step.count
+        self.reads += step.word_count
 
     def frame_data(self, data: bytes, step: x7.Step) -> None:
         """Takes a write of frame data, or a copy."""
@@ -244,7 +244,10 @@ class Device:
             if self.deadline is not None and self.begun is not None:
                 ended = self.begun + 4 * ticks_to_the_end(self.cor0, self.lock, self.match)
                 self.deadline += max(after - max(ended - 1, self.loaded), 0)
-            self.shutdown, self.begun, self.armed, self.ghigh = False, None, False, False
+            self.shutdown = False
+            self.begun = None
+            self.armed = False
+            self.ghigh = False
 
     def execute(self, command: int, after: int) -> None:
         """Executes a command."""

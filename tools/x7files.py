@@ -89,8 +89,8 @@ def cause_of_no_sync(source: Source) -> Cause:
         return cause_of_frames(source, alone)
     if source.lost > 0:
         text = (
-            f"the stream is cut off before its sync word: its header tells of {source.header_count} bytes, and it "
-            f"has {len(data)}"
+            f"the stream is cut off before its sync word: its header tells of {source.header_count} bytes, and it has "
+            f"{len(data)}"
         )
         return unsynced(Kind.CUT, text, TAKE_AGAIN, source)
     bits = x7kinds.late_by(data)
@@ -118,8 +118,8 @@ def cause_of_unknown(source: Source) -> Cause:
     text = f"no sync word AA995566, nor one in any way that {x7.CALLED}turn knows: what the file is is unknown"
     if not len(data) % FRAME_BYTES:
         text += (
-            f"; its {len(data)} bytes are {len(data) // FRAME_BYTES} frames exactly, so it may be frame data "
-            "alone, as of a readback"
+            f"; its {len(data)} bytes are {len(data) // FRAME_BYTES} frames exactly, so it may be frame data alone, as "
+            "of a readback"
         )
     shown = data[lead : lead + 32].hex(" ", 4).upper()
     return unsynced(Kind.UNKNOWN, text, f"look where the file comes from: {seen}{shown}", source)

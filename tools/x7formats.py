@@ -11,7 +11,7 @@ from __future__ import annotations
 import functools
 import re
 import struct
-from typing import TYPE_CHECKING, BinaryIO, Collection, Generator, Iterator, Mapping, NamedTuple, Sequence
+from typing import TYPE_CHECKING, BinaryIO, Collection, Generator, Iterator, Literal, Mapping, NamedTuple, Sequence
 
 # what a tool needs of x7run beside the formats, under one name
 from x7run import CALLED as CALLED, NO_PROGRAM as NO_PROGRAM, Refused as Refused, program as program, run as run
@@ -144,18 +144,21 @@ MANY = NOP * 256
 FILLERS = (b"\xff" * 4, bytes(4))
 
 
+# The kinds of steps. 'bytes' are no words (before a sync word, after a session, the tail); 'sync' begins a session;
+# 'nop' are words 20000000; 'write' and 'read' are packets; 'filler' is a word without effect, or words FFFFFFFF or
+# 00000000 in a row; 'bad' is one that is no packet.
+StepKind = Literal["bytes", "sync", "nop", "write", "read", "filler", "bad"]
+
+
 class Step(NamedTuple):
     """What stands at a place of the data: bytes that are no words, a word alone, no-ops in a row, or a packet. Places
     count the bytes of the data."""
 
-    # 'bytes' are no words (before a sync word, after a session, the tail); 'sync' begins a session; 'nop' are words
-    # 20000000; 'write' and 'read' are packets; 'filler' is a word without effect, or words FFFFFFFF or 00000000 in a
-    # row; 'bad' is one that is no packet
-    kind: str
+    kind: StepKind
     place: int  # where it begins
     word: int  # its first word; 0 of bytes
     register: int | None  # the number of the register that a packet writes or reads; none of all else
-    count: int  # type: ignore[assignment]  # the words of a packet as its header says, or how many words in a row
+    word_count: int  # the words of a packet as its header says, or how many words in a row
     first: int  # where a packet's payload begins
     present: int  # how many words of a write's payload are there
     end: int  # the place after it
@@ -227,7 +230,7 @@ def packet(data: bytes, place: int, named: int | None) -> Step:
     kind_bits, first, end = word >> 27, place + 4, place + 4
     if word in (SYNC_WORD, DUMMY_WORD) or kind_bits >> 2 == 0 or kind_bits == 0b00100:
         return Step("filler", place, word, None, 0, first, 0, end)
-    kinds = {0b00110: "write", 0b00101: "read", 0b01010: "write", 0b01001: "read"}
+    kinds: dict[int, StepKind] = {0b00110: "write", 0b00101: "read", 0b01010: "write", 0b01001: "read"}
     is_type_1 = kind_bits >> 2 == 1
     register = word >> 13 & 31 if is_type_1 else named
     if kind_bits not in kinds or register is None:
@@ -261,9 +264,9 @@ def head_line(step: Step) -> str:
     if word == SYNC_WORD:
         return "sync"
     if register is not None and word & ~0x3E7FF in (0x30000000, 0x28000000):
-        return f"{step.kind} {REGISTERS[register]} {step.count}"
+        return f"{step.kind} {REGISTERS[register]} {step.word_count}"
     if register is not None and word >> 29 == 2:
-        return f"{step.kind}2 {step.count}"
+        return f"{step.kind}2 {step.word_count}"
     return f"word {word:08X}"
 
 
@@ -314,7 +317,7 @@ def listing_of(stream: Stream) -> Iterator[str]:
         yield bit_line(stream.header)
     for step in steps(stream.data):
         if step.kind == "nop":
-            yield from ["nop"] * step.count
+            yield from ["nop"] * step.word_count
         else:
             for line, _, _ in step_lines(stream.data, step):
                 yield line
@@ -345,7 +348,7 @@ def line_count(step: Step) -> int:
     if step.kind == "bytes":
         return -(-(step.end - step.place) // 32)
     if step.kind in ("nop", "filler"):
-        return max(step.count, 1)
+        return max(step.word_count, 1)
     return 1 + (step.present if step.register == CMD else -(-step.present // 8))
 
 

@@ -260,7 +260,7 @@ def reads(data: bytes) -> bool:
     for step in x7.session(data[: at + 1024], at + 4):
         if step.kind in ("bad", "filler") and step.word not in (x7.DUMMY_WORD, x7.SYNC_WORD):
             return False
-        if step.kind == "write" and step.register not in (x7.FDRI, x7.MFWR) and step.count > 64:
+        if step.kind == "write" and step.register not in (x7.FDRI, x7.MFWR) and step.word_count > 64:
             return False
         known += step.kind == "write" and step.register in (x7.CMD, x7.IDCODE, x7.WBSTAR)
         seen += step.kind in ("write", "read", "nop")

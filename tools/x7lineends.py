@@ -70,9 +70,9 @@ def next_by_codes(data: bytes, begin: int) -> Optional[Tuple[bytes, int]]:
     """Data with the first frame mended that begins at a place or later and lacks bytes, and the place after it; or
     none."""
     for step in x7.steps(data):
-        if step.kind != "write" or step.register != x7.FDRI or step.count % x7.FRAME_WORDS or step.end <= begin:
+        if step.kind != "write" or step.register != x7.FDRI or step.word_count % x7.FRAME_WORDS or step.end <= begin:
             continue
-        for place in range(step.first, step.first + 4 * step.count - FRAME_BYTES + 1, FRAME_BYTES):
+        for place in range(step.first, step.first + 4 * step.word_count - FRAME_BYTES + 1, FRAME_BYTES):
             frame = data[place : place + FRAME_BYTES]
             if place < begin or not frame.strip(b"\0") or is_right(frame):
                 continue

@@ -45,17 +45,16 @@ def notes_of_source(source: Source, subject: Subject) -> List[str]:
     idcode = source.idcode
     if idcode and idcode.word & DEVICE_BITS in SSI:
         notes.append(
-            f"{idcode.word:08X} is a device of several dies, whose streams hold further ones in register R30: x7 "
-            "plays the "
-            "first die's alone",
+            f"{idcode.word:08X} is a device of several dies, whose streams hold further ones in register R30: x7 plays "
+            "the first die's alone",
         )
     by_header = idcode_of_name(source.part)
     is_played = subject.report is not None or subject.part is not None
     if is_played and idcode and by_header is not None and (by_header ^ idcode.word) & DEVICE_BITS:
         notes.append(
             f"the header{of_name(source, subject)} names {source.part}, which has {by_header:08X}, and the stream "
-            "writes the "
-            f"IDCODE {idcode.word:08X}{named(idcode.word)}: the header is another stream's, or the word is damaged",
+            f"writes the IDCODE {idcode.word:08X}{named(idcode.word)}: the header is another stream's, or the word is "
+            "damaged",
         )
     return notes + notes_of_width(source, subject) + notes_of_copies(source, subject) + notes_of_codes(source, subject)
 
@@ -89,8 +88,7 @@ def notes_of_width(source: Source, subject: Subject) -> List[str]:
     what = "is damaged" if before.strip(b"\xff") else "is missing"
     return [
         f"the bus width pattern 000000BB 11220044 before the sync word{of_name(source, subject)} {what}: BPI and "
-        "SelectMAP "
-        "need it, SPI, serial and JTAG don't",
+        "SelectMAP need it, SPI, serial and JTAG don't",
     ]
 
 
@@ -133,8 +131,7 @@ def notes_of_waits(subject: Subject) -> List[str]:
         if phase != NO_WAIT and not ticks and subject.fate.phase == 7:
             notes.append(
                 f"startup waits in phase {phase} for {what} ({name} of COR0 {cor0:08X}), which x7 takes to come at "
-                "once: where it "
-                "doesn't on a board, DONE stays low and nothing tells of an error",
+                "once: where it doesn't on a board, DONE stays low and nothing tells of an error",
             )
     return notes
 
@@ -170,10 +167,8 @@ def notes_of_wrap(subject: Subject) -> List[str]:
         return []
     return [
         f"wrap says that from {wraps[0].address:08X} on no stream came to its end before the flash's: none is there, "
-        "or it "
-        "has no sync word, or the place is past the flash's end. The guide has this end for BPI alone: with an SPI "
-        "flash a "
-        "board may hang there",
+        "or it has no sync word, or the place is past the flash's end. The guide has this end for BPI alone: with an "
+        "SPI flash a board may hang there",
     ]
 
 

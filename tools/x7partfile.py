@@ -37,12 +37,16 @@ class Toml:
     """A reader of the TOML that part files use: keys, whole numbers, texts, lists, and tables `[[row]]`."""
 
     def __init__(self, text: str) -> None:
-        # the whole text, where its next token begins, and the present one
-        self.text, self.at, self.token = text, 0, ""
+        # the whole text
+        self.text = text
+        # where its next token begins
+        self.at = 0
+        # the present one
+        self.token = ""
         self.next()
 
     def next(self) -> str:
-        """Takes the present token and moves to the next one."""
+        """Moves to the next token, and gives the one that was present."""
         taken, found = self.token, TOKEN.match(self.text, self.at)
         if not found:
             raise Refused(f"line {self.line()} is no TOML that a part file has")
@@ -108,14 +112,25 @@ class Toml:
         return top
 
 
-def fields_of_far(far: int, bits: Sequence[int] = FAR_BITS) -> tuple[int, int, int, int, int]:
-    """Block type, half, row, column and minor of a frame address."""
+class FarFields(NamedTuple):
+    """The fields of a frame address, from its highest bits on."""
+
+    # the block type
+    block: int
+    half: int
+    row: int
+    column: int
+    minor: int
+
+
+def fields_of_far(far: int, bits: Sequence[int] = FAR_BITS) -> FarFields:
+    """The fields of a frame address."""
     found = []
     for width in bits:
         found.append(far & (1 << width) - 1)
         far >>= width
     minor, column, row, half, block = found
-    return block, half, row, column, minor
+    return FarFields(block, half, row, column, minor)
 
 
 class Part:
@@ -143,19 +158,20 @@ class Part:
         # the rows in the order of their addresses
         self.rows = sorted(Row(it["block"], it["half"], it["row"], it["minors"]) for it in table["row"])
 
-    def address(self, block: int, half: int, row: int, column: int, minor: int) -> int:
-        """The frame address of these."""
+    def address(self, fields: FarFields) -> int:
+        """The frame address with this block type, half, row, column and minor."""
+        block, half, row, column, minor = fields
         low = self.far
         return (((block << low[3] | half) << low[2] | row) << low[1] | column) << low[0] | minor
 
-    def fields(self, far: int) -> tuple[int, int, int, int, int]:
-        """Block type, half, row, column and minor of a frame address of the part."""
+    def fields(self, far: int) -> FarFields:
+        """The fields of a frame address of the part."""
         return fields_of_far(far, self.far)
 
     def row_addresses(self, row: Row) -> list[int]:
         """The addresses of a row, in number order."""
         places = ((column, minor) for column, minors in enumerate(row.minors) for minor in range(minors))
-        return [self.address(row.block, row.half, row.row, column, minor) for column, minor in places]
+        return [self.address(FarFields(row.block, row.half, row.row, column, minor)) for column, minor in places]
 
     def addresses(self) -> list[int]:
         """All addresses, in number order."""

@@ -96,8 +96,8 @@ def joined(data: bytes) -> Optional[Wires]:
             table = bytes(byte & ~both | both * drive(byte) for byte in range(256))
             if has_beginning(data, table):
                 text = (
-                    f"bits {one} and {other} of each byte are always the same: two data lines are joined, or one "
-                    "is read twice"
+                    f"bits {one} and {other} of each byte are always the same: two data lines are joined, or one is "
+                    "read twice"
                 )
                 return Wires(text, "look at these two lines for a short")
     return None
@@ -203,8 +203,8 @@ def half(data: bytes) -> Optional[Wires]:
     for what, patterns in HALVES:
         if any(bytes.fromhex(it) in data[:SEARCHED] for it in patterns):
             text = (
-                f"every second {what} of a stream stands in it alone, as in one of two flashes, or where half of "
-                "a bus is read"
+                f"every second {what} of a stream stands in it alone, as in one of two flashes, or where half of a bus "
+                "is read"
             )
             return Wires(text, "read the other half too, and put both together")
     return None
@@ -230,8 +230,7 @@ def repeated(data: bytes) -> Optional[Wires]:
                     f"the {size} bytes from byte {size} on repeat those before them", "give the first half alone",
                 )
             text = (
-                f"each {what} stands twice, as where an address line is stuck, and every second {what} may be "
-                "missing"
+                f"each {what} stands twice, as where an address line is stuck, and every second {what} may be missing"
             )
             return Wires(text, "look at that address line, or at how the file was read")
         size *= 2

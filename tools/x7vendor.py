@@ -6,8 +6,8 @@ from typing import NamedTuple, NoReturn, Sequence
 
 from x7asked import whole
 from x7formats import (
-    CMD, COR0, CRC, CTL0, CTL1, CODES, FAR, FDRI, IDCODE, MASK, MFWR, NOP, SYNC, Refused, Step, bytes_of, payload,
-    steps, with_checks, write_packet,
+    CMD, COR0, CRC, CTL0, CTL1, CODES, FAR, FDRI, IDCODE, MASK, MFWR, NOP, SYNC, Refused, Step, StepKind, bytes_of,
+    payload, steps, with_checks, write_packet,
 )  # fmt: skip
 from x7partfile import fields_of_far
 
@@ -47,7 +47,7 @@ class Planned:
         plans = "`x7 plan full` or `x7 plan partial`, which alone have sequences that are known here"
         raise Refused(f"{self.path} is no stream of {plans}")
 
-    def take(self, kind: str, register: int | None = None) -> Step:
+    def take(self, kind: StepKind, register: int | None = None) -> Step:
         """Takes the next step, which has to be of a kind; answers its step."""
         if not self.left or self.left[0].kind != kind or register is not None and self.left[0].register != register:
             self.refuse()
@@ -83,7 +83,7 @@ class Planned:
         self.command("WCFG")
         (far,) = self.words(FAR)
         step = self.take("write", FDRI)
-        step = self.take("write", FDRI) if step.count == 0 else step
+        step = self.take("write", FDRI) if step.word_count == 0 else step
         fars: list[int] = []
         if self.next_is(CMD, "MFW"):
             self.command("MFW")
@@ -169,7 +169,7 @@ def write_frames(to: StreamWriter, data: bytes, fars: list[int]) -> None:
         if number:
             to.write(FAR, [it])
         count = WORDS_OF_COPY if number else 2 * WORDS_OF_COPY
-        to.write(MFWR, [0] * count, NOPS_AFTER_BLOCK_COPY if fields_of_far(it)[0] == 1 else 0)
+        to.write(MFWR, [0] * count, NOPS_AFTER_BLOCK_COPY if fields_of_far(it).block == 1 else 0)
 
 
 def in_vendor_form(planned: Planned) -> bytes:

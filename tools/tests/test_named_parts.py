@@ -1,7 +1,7 @@
 #!/usr/bin/env python3
-"""Tests that nothing may stand in a part file's place: check_update takes the shelf's for the stream's IDCODE,
-frame_map the one that a report names, `part --shelf` shows that of a stream; and svf says of a Zynq's that another
-port stands in its chain."""
+"""Tests calls that name no part file: check_update takes the shelf's file for the stream's IDCODE, frame_map that of
+the name in a report, and `part --shelf` shows the one for a stream. And svf says of a Zynq-7000 that another port
+stands in its chain."""
 from __future__ import annotations
 
 from runs import Bench, run_parts
@@ -9,7 +9,7 @@ import streams as s
 import x7formats as x7
 from x7shelf import part_of_device
 
-# no wait, no bit 10 of CTL0: an update that may fall back
+# the full stream, which waits for no lock or match, with CTL0 bit 10 as 0: a boot that fails with it may fall back
 ALLOWED = [it.replace("00000501", "00000101") if it.startswith("data") else it for it in s.full()]
 
 

@@ -35,8 +35,14 @@ class Port:
     """A test access port with an instruction register of some bits, and no more than IDCODE and BYPASS."""
 
     def __init__(self, bits: int, idcode: int) -> None:
-        self.bits, self.idcode = bits, idcode  # of the instruction register
-        self.instruction, self.shifted, self.size = 0, 0, 1  # what is shifted, and its bits
+        # the bits of the instruction register
+        self.bits = bits
+        self.idcode = idcode
+        self.instruction = 0
+        # what is shifted
+        self.shifted = 0
+        # how many bits are shifted
+        self.size = 1
 
     def captures(self, is_instruction: bool) -> None:
         """Loads what is shifted out next."""
@@ -75,7 +81,10 @@ class Device(Port):
     def __init__(self, idcode: int) -> None:
         super().__init__(6, idcode)
         self.bits_in: List[int] = []  # under CFG_IN, since JPROGRAM
-        self.resets, self.clocks = 0, 0  # by JPROGRAM; under JSTART
+        # by JPROGRAM
+        self.resets = 0
+        # under JSTART
+        self.clocks = 0
 
     def status(self) -> int:
         return 0x11 | (0x20 if self.clocks > 100 else 0)
@@ -105,7 +114,11 @@ class Chain:
     """Ports in a row, from TDI to TDO, behind an adapter that openocd speaks to over a connection."""
 
     def __init__(self, ports: List[Port]) -> None:
-        self.ports, self.state, self.tck, self.tdo = ports, RESET, 0, 0
+        self.ports = ports
+        # the state of all ports
+        self.state = RESET
+        # the level of TCK
+        self.tck = 0
         self.reset()
 
     def reset(self) -> None:

@@ -154,7 +154,7 @@ def steps() -> None:
     found = list(x7.steps(data))
     TALLY.same(
         "steps",
-        [(it.kind, it.count) for it in found],
+        [(it.kind, it.word_count) for it in found],
         [("sync", 0), ("filler", 1024), ("filler", 1024), ("nop", 1), ("bytes", 0)],
     )
     TALLY.same("lines", len(list(x7.listing_of(x7.Stream(None, data)))), 1 + 2048 + 2)

@@ -117,9 +117,10 @@ class PartDevice(Device):
         """Takes a read."""
         assert step.register is not None, "a read is one of a register"
         name = x7.REGISTERS[step.register]
-        if step.count:
+        if step.word_count:
             is_frames = name == "FDRO"
-            self.words_out += self.read_back(step.count, step.end) if is_frames else [self.value(name)] * step.count
+            count = step.word_count
+            self.words_out += self.read_back(count, step.end) if is_frames else [self.value(name)] * count
 
     def read_back(self, count: int, after: int) -> list[int]:
         """The words of a read of FDRO; zeros where CMD isn't RCFG or SBITS isn't 00."""

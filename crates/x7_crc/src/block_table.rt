@@ -1,8 +1,10 @@
 //! The tables for four words at once (this project's choice): the check of a byte after bits of 0, a table for each
-//! place of a byte. A write moves the check by 37 bits, so the lowest byte of the last word is moved by 37 bits, that
-//! of the word before by 74, and each higher byte of a word by eight bits fewer. Each entry is a computed fact.
+//! place of a byte. A write moves the check by 37 bits: 32 of its word and 5 of its register's number. So the lowest
+//! byte of the last word is moved by 37 bits, that of the word before by 74, and each higher byte of a word by eight
+//! bits fewer. Each entry is a computed fact.
 
-/// For each byte of the first of four words, the highest first, the check after 124 bits of 0, 132, 140 and 148.
+/// For each byte of the first of four words: what it is in the check after 124 (highest byte), 132, 140 and 148 (lowest
+/// byte) bits of 0 more.
 #[rattlefmt::skip]
 pub(crate) static FIRST: [[u32; 256]; 4] = [
     [
@@ -143,7 +145,8 @@ pub(crate) static FIRST: [[u32; 256]; 4] = [
     ],
 ];
 
-/// For each byte of the second of four words, the highest first, the check after 87 bits of 0, 95, 103 and 111.
+/// For each byte of the second of four words: what it is in the check after 87 (highest byte), 95, 103 and 111 (lowest
+/// byte) bits of 0 more.
 #[rattlefmt::skip]
 pub(crate) static SECOND: [[u32; 256]; 4] = [
     [
@@ -284,7 +287,8 @@ pub(crate) static SECOND: [[u32; 256]; 4] = [
     ],
 ];
 
-/// For each byte of the third of four words, the highest first, the check after 50 bits of 0, 58, 66 and 74.
+/// For each byte of the third of four words: what it is in the check after 50 (highest byte), 58, 66 and 74 (lowest
+/// byte) bits of 0 more.
 #[rattlefmt::skip]
 pub(crate) static THIRD: [[u32; 256]; 4] = [
     [
@@ -425,7 +429,8 @@ pub(crate) static THIRD: [[u32; 256]; 4] = [
     ],
 ];
 
-/// For each byte of the last of four words, the highest first, the check after 13 bits of 0, 21, 29 and 37.
+/// For each byte of the last of four words: what it is in the check after 13 (highest byte), 21, 29 and 37 (lowest
+/// byte) bits of 0 more.
 #[rattlefmt::skip]
 pub(crate) static LAST: [[u32; 256]; 4] = [
     [

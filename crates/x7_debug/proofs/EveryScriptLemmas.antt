@@ -1,5 +1,5 @@
--- Every text comes to a script or to a first bad line: each line has no meaning,
--- is that of an order, or is that of none.
+-- Every text comes to a script or to a first bad line: each line has no meaning, is that of an order, or is that of
+-- none.
 use Rattle.std.proofs.Common.{◌≡◌, ◌⊎◌, inl, inr, ℕ, ◌+◌, ◌^◌, ◌<◌, Bool, true, false, List, [], ◌∷◌, ◌++◌, Ok, Err, length, cond, refl, ap, ap₂, sym, subst, ◌∙◌}
 use Rattle.std.proofs.lemmas.Bool.Decides.{Decides-ltb, not_from_Decides}
 use Rattle.std.proofs.lemmas.Slice.Eq.{bytes_eq-Decides}

@@ -33,8 +33,8 @@ leads_fewer part stream at (suc n) (u ∷ us) l = (l.0, l.1, l.2, leads_fewer pa
 
 -- ---- how far records reach that were made since a position
 
--- of records made from `start` on, each but the newest leads four bytes further back; where some
--- room is unused, all lead back to `start`
+-- of records made from `start` on, each but the newest leads four bytes further back; where some room is unused, all
+-- lead back to `start`
 pub record Reaches (start at : ℕ) (us : List UndoState) : Type 0 where
   pub spans : (n : ℕ) → n ≤ length us → oldest_by at (take n us) ≤ max start (at - 4 * n)
   pub unfilled : length us < 64 → oldest_by at us ≤ start

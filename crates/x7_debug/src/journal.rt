@@ -18,7 +18,7 @@ pub(crate) const RECORD_ROOM: usize = 64;
 #[derive(Drop)]
 pub(crate) struct Journal {
     records: HeapCircularBuffer<Undo>,
-    // how many records are in use
+    /// How many records are in use.
     count: usize,
 }
 

@@ -12,7 +12,7 @@ use x7_words::NoMemory;
 #[derive(Clone, Copy)]
 pub(crate) struct Outline {
     pub(crate) last: u64,
-    // a position before which the phase of startup is 0
+    /// A position before which the phase of startup is 0.
     pub(crate) begins: u64,
 }
 

@@ -22,9 +22,9 @@ use x7_words::NoMemory;
 pub struct Session {
     stream: Vec<u8>,
     device: Device,
-    // what one play of the stream showed of its positions
+    /// What one play of the stream showed of its positions.
     outline: Outline,
-    // what leads the device back
+    /// What leads the device back.
     journal: Journal,
 }
 

@@ -88,8 +88,8 @@ pub record KeepsUnwritten (old new : Reg → ℕ) : Type 0 where
   pub timer : new Timer ≡ old Timer
   pub bspi : new Bspi ≡ old Bspi
 
--- the registers that keep a word and that no planned stream writes, and the words that a full stream writes (CTL0,
--- MASK and COR0), are as they were; of CRC, FAR, CMD, IDCODE, STAT and BOOTSTS nothing is said
+-- the registers that keep a word and that no planned stream writes, and the words that a full stream writes (CTL0, MASK
+-- and COR0), are as they were; of CRC, FAR, CMD, IDCODE, STAT and BOOTSTS nothing is said
 pub record KeepsControlWords (old new : Reg → ℕ) : Type 0 where
   pub ctl0 : new Ctl0 ≡ old Ctl0
   pub mask : new Mask ≡ old Mask

@@ -1,5 +1,5 @@
--- A fallback does the same whatever its device kept over the reset: it has no watchdog, and kept
--- words show in their own registers alone.
+-- A fallback does the same whatever its device kept over the reset: it has no watchdog, and kept words show in their
+-- own registers alone.
 use Rattle.std.proofs.Common.{◌≡◌, ◌&&◌, ◌-◌, ℕ, Bool, true, false, not, Option, None, List, [], ◌∷◌, length, refl, ap, sym, ◌∙◌}
 use Rattle.std.proofs.lemmas.Bool.{and_right}
 use Rattle.std.specs.Option.{option_or}

@@ -52,8 +52,8 @@ ClockTakes c clock count (Some k) =
     × IsClock c.part c.kept clock c.history (c.taken + k)
     × (first_firing c.part c.kept c.history c.taken count ≡ Some (c.taken + k))
 
--- A part's clock takes `count` bytes more, whatever course it is the clock of: all of them, or those
--- up to byte k, from 1, at which the watchdog fires.
+-- A part's clock takes `count` bytes more, whatever course it is the clock of: all of them, or those up to byte k, from
+-- 1, at which the watchdog fires.
 pub record ClockTakesInAny (part : PartData) (old new : ClockState) (count : ℕ) (result : Option ℕ) : Type 0 where
   pub within : IfSome result (λ k. (0 < k) × (k ≤ count))
   pub takes : ForEachCourseOfClock part old (λ kept h n. ClockTakes (course_at part kept h n) new count result)

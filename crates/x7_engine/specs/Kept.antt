@@ -1,5 +1,5 @@
--- What a device keeps over a reset (this project's choice): three registers, and
--- what the boot history says of its attempts.
+-- What a device keeps over a reset (this project's choice): three registers, and what the boot history says of its
+-- attempts.
 use Rattle.std.specs.Prelude.{◌≡◌, ℕ, ◌==◌, if◌then◌else◌, Bool, true, false, None, List}
 use Rattle.x7_regs.specs.declared.boot_status.Kind.{Kind}
 use Rattle.x7_regs.specs.declared.boot_status.Kind.TheVariants.{Bench, Power, Iprog, Fallback}

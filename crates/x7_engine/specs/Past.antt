@@ -1,6 +1,6 @@
--- Pasts. A past is all that the state of a device is a function of: the part, what the last reset kept,
--- whether the flash has ended since then, and the bytes since then. A clause on a device speaks of each
--- past that the device has (this project's choice).
+-- Pasts. A past is all that the state of a device is a function of: the part, what the last reset kept, whether the
+-- flash has ended since then, and the bytes since then. A clause on a device speaks of each past that the device has
+-- (this project's choice).
 -- What ends in `_at` takes a past. Most are a definition of State.antt, Standing.antt or UntilStarted.antt that takes
 -- the past's values one by one: `state_at` is `state_of`, and `first_stop_at` is `first_stop_of_bytes`.
 use Rattle.std.specs.Prelude.{◌≡◌, ℕ, ◌<◌, ◌==◌, ◌++◌, Bool, false, List, length, take, Option, None, Some}
@@ -126,8 +126,8 @@ pub record StandsBefore (p : Past) (access : Access) (place : ℕ) (older : Hist
   pub stands : StandsIn (history_taken_at p) access place older
   pub before : place < taken_at p
 
--- the attempt of a boot goes on: startup hasn't ended, and neither a fault that
--- a fallback follows nor an IPROG ended it
+-- the attempt of a boot goes on: startup hasn't ended, and neither a fault that a fallback follows nor an IPROG ended
+-- it
 pub record BootGoesOn (p : Past) : Type 0 where
   pub boots : IsBootAttempt p.kept
   pub not_started : ((state_at p).phase == last_phase) ≡ false

@@ -13,8 +13,8 @@ pub record GotAllBut (rest words : List ℕ) (old new : ReadBufState) : Type 0 w
   pub read_is : new ≡ with_words old more
   pub words_are : words ≡ more ++ rest
 
--- registers that can give the words due: nothing stopped them, their frames are those of a device
--- of the part, and they stand for a history
+-- registers that can give the words due: nothing stopped them, their frames are those of a device of the part, and they
+-- stand for a history
 pub record MayGiveWords (part : PartData) (d : Registers) : Type 0 where
   pub going : d.values.stop ≡ None
   pub frames : FramesFit part d.frames

@@ -86,8 +86,9 @@ abbrev pub wrote_iprog : History → Bool
 wrote_iprog [] = false
 wrote_iprog (e ∷ h) = writes_command (code_of Iprog) e.access || wrote_iprog h
 
--- the registers where a written word moves a flag, a register under MASK or the clock, or isn't just folded into the
--- check: a word for LOUT isn't folded (this project's choice)
+-- the registers to which a written word does more than stay and be folded into the check, but for those of frame data
+-- and CBC. CRC, CMD, IDCODE and FAR (which executes the command held) move flags; CTL0 and CTL1 are written under MASK;
+-- TIMER sets the watchdog; LOUT isn't folded (this project's choice)
 abbrev pub controlling_registers : List Reg
 controlling_registers = Crc ∷ Far ∷ Cmd ∷ Ctl0 ∷ Lout ∷ Idcode ∷ Timer ∷ Ctl1 ∷ []
 

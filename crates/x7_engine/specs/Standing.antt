@@ -1,5 +1,5 @@
--- What a device stands for: all bytes that it took since its reset. Each stored value is
--- that of the bytes (this project's choice).
+-- What a device stands for: all bytes that it took since its reset. Each stored value is that of the bytes (this
+-- project's choice).
 use Rattle.std.specs.Prelude.{◌≡◌, ℕ, ◌<◌, ◌≤◌, ◌==◌, ◌+◌, ◌++◌, ◌-◌, ◌^◌, min, Bool, true, false, if◌then◌else◌, take, List, [], ◌∷◌, length, slice_index, Option, None, Some, IsSome, replicate}
 use Rattle.x7_words.specs.Input.{taken_bytes_limit}
 use Rattle.x7_words.specs.Word.{AreBytes}

@@ -1,11 +1,8 @@
 -- The state of a device as a function of all bytes since its reset, of what the reset kept, and of whether the flash
 -- has ended (this project's choice where UG470 leaves it open).
--- The definitions whose names end in `_by`, `last_counted` and `why_stopped` take the first stop of the bytes or its
--- cause, where there is one.
--- Each other definition takes as separate values the part, what the reset kept and all bytes since the reset; some also
--- take whether the flash has ended (`wrapped`), a kind, or the words due. What comes after the first stop doesn't
--- count. Past.antt has the definitions that contracts cite, over a past, which is these values in one: there each name
--- ends in `_at`.
+-- A name that ends in `_by`, and `last_counted` and `why_stopped`, take the first stop or its cause. Every other
+-- definition takes part, kept values and bytes one by one. A contract cites Past.antt, where the same name ends in
+-- `_at` and takes these in one value. What comes after the first stop doesn't count.
 use Rattle.std.specs.Prelude.{ℕ, ◌-◌, Bool, false, if◌then◌else◌, List, length, Option, None, Some}
 use Rattle.x7_packets.specs.ByHand.{reading_of}
 use Rattle.x7_packets.specs.History.{History, history_of, until}

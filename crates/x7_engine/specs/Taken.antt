@@ -1,5 +1,5 @@
--- What calls that take words do to a device's registers: the words enter the history, and
--- the words due stay (this project's choice).
+-- What calls that take words do to a device's registers: the words enter the history, and the words due stay (this
+-- project's choice).
 use Rattle.std.specs.Prelude.{◌≡◌, ℕ, ◌≤◌, ◌%◌, ◌∷◌, List, length, take, None}
 use Rattle.x7_packets.specs.History.{Write, entry}
 use Rattle.x7_engine.specs.Entering.{Change, EntersHistory, EntersHistoryAt, up_to_stop, words_entered}

@@ -16,8 +16,8 @@ use Rattle.x7_engine.specs.Watching.{timer_held}
 abbrev pub before_byte : List ℕ → ℕ → History
 before_byte bytes i = history_of (take (i - 1) bytes)
 
--- the watchdog is on at byte i: TIMER turns it on with a value other than 0, the attempt is no
--- fallback, and with this byte the phase isn't 7
+-- the watchdog is on at byte i: TIMER turns it on with a value other than 0, the attempt is no fallback, and with this
+-- byte the phase isn't 7
 abbrev pub is_on_at : PartData → Kept → List ℕ → ℕ → Bool
 is_on_at part kept bytes i = is_on (is_fallback kept.kind) (timer_held kept (before_byte bytes i)) (startup_ended part (before_byte bytes i) i)
 

@@ -9,8 +9,8 @@ use Rattle.x7_engine.specs.declared.stop.StopCause.{StopCause}
 use Rattle.x7_engine.specs.Entering.{Change}
 use Rattle.x7_engine.specs.Standing.{IsHeaderStep, due_count}
 
--- registers that can take a word: nothing stopped them, no word is due, and their
--- frames are those of a device of the part
+-- registers that can take a word: nothing stopped them, no word is due, and their frames are those of a device of the
+-- part
 pub record MayTakeWords (part : PartData) (d : Registers) : Type 0 where
   pub going : d.values.stop ≡ None
   pub no_word_due : due_count d.values.due ≡ 0

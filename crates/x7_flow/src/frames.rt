@@ -74,8 +74,8 @@ impl Frames {
 
     /// Takes a word written to a register, or answers why it is refused (`frame_fault`). A refused word changes
     /// nothing. The settings have to be those after the accesses so far: a word written to IDCODE, CTL0 or CMD is given
-    /// too, with the settings before it, and the next word comes with those after it. With other settings no clause says
-    /// what the word does, but that the frames stay frames of the part.
+    /// too, with the settings before it, and the next word comes with those after it. With other settings no clause
+    /// says what the word does, but that the frames stay frames of the part.
     pub fn write(
         &mut self,
         settings: FrameSettings,
@@ -99,8 +99,8 @@ impl Frames {
     }
 
     /// Takes words written to FDRI or MFWR, four bytes each, up to the first that is refused. The answer is the number
-    /// of words looked at, a refused one included, and its fault (`frame_fault`), if one was. The settings are as those
-    /// of `write`.
+    /// of words looked at, a refused one included, and its fault (`frame_fault`), if one was. As for `write`, the
+    /// settings have to be those after the accesses so far.
     pub fn write_bytes(
         &mut self,
         settings: FrameSettings,

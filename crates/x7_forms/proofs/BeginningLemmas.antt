@@ -196,8 +196,8 @@ letter_late (x ∷ old) rest all n place some e fixed waits waiting h =
         let less : place + 1 < length (x ∷ old) + n = grind (arith, l) in
         absurd (judged_late (x ∷ old) rest f.prefix f.more n (nat_le (length f.prefix) (length (x ∷ old))) refl w some f.parts f.judges (omega (arith, f.size, less)))
 
--- no letter at which a header would be refused was given, where the bytes before were read
--- and fewer more were given than are wanted
+-- no letter at which a header would be refused was given, where the bytes before were read and fewer more were given
+-- than are wanted
 pub none_given : (old mid new : InputsState) (bytes all : List ℕ) (n count : ℕ) → 0 < n → count ≤ n → all ≡ bytes → (length all < 13 → length all + n ≡ 13) → (EndsInHeader all → HeaderWaits all n) → (0 < length bytes → EndsInHeader bytes)
     → InputsStay mid new → ReadsBytes old bytes mid → new.given < mid.given + count → NoLetterGiven old new
 none_given old mid new bytes all n count some few e fixed waits waiting s r g = at new.contents (taken_before mid.contents new.contents old.rest bytes mid.rest s.map r.takes.taken)

@@ -30,8 +30,8 @@ pub record Known : Type 0 where
   pub inputs : List ℕ → Found
   pub flash : List ℕ → Option Found
 
--- a whole text, and whether what it reports stopped: a device at a fault, a scan that
--- differed, or a boot that no attempt started
+-- a whole text, and whether what it reports stopped: a device at a fault, a scan that differed, or a boot that no
+-- attempt started
 pub record Answer : Type 0 where
   pub stopped : Bool
   pub text : List ℕ
@@ -58,31 +58,31 @@ data_in name bytes = data_by name bytes (header_at bytes)
 abbrev pub if_within : List ℕ → ℕ → List ℕ → Result (List ℕ) Event
 if_within name limit bytes = if nat_lt limit (length bytes) then Err (too_large name) else Ok bytes
 
--- the most bytes of a stream, and of all streams of one `play` together
+-- the most bytes of a stream, and of all streams of one `play` together (64 MiB)
 abbrev pub stream_limit : ℕ
 stream_limit = 67108864
 
--- the most bytes of an assembly, Intel HEX, frames or SVF text
+-- the most bytes of an assembly, Intel HEX, frames or SVF text (512 MiB)
 abbrev pub text_limit : ℕ
 text_limit = 536870912
 
--- the most bytes of a script
+-- the most bytes of a script (1 MiB)
 abbrev pub script_limit : ℕ
 script_limit = 1048576
 
--- the most bytes of a part file
+-- the most bytes of a part file (1 MiB)
 abbrev pub part_limit : ℕ
 part_limit = 1048576
 
--- the bytes of an input that is read whole and has no more than `limit` of them; one that
--- fails may be over the limit before it does
+-- the bytes of an input that is read whole and has no more than `limit` of them; one that fails may be over the limit
+-- before it does
 abbrev pub taken_whole : List ℕ → ℕ → Found → Result (List ℕ) Event
 taken_whole name limit (Held bytes) = if_within name limit bytes
 taken_whole name limit Absent = Err (missing name)
 taken_whole name limit (Broken bytes) = and_so (if_within name limit bytes) (λ _. Err (reading_failed name))
 
--- the input of this name, where it is known: its bytes, if it has no more than `limit` of
--- them, or the event of one that isn't read
+-- the input of this name, where it is known: its bytes, if it has no more than `limit` of them, or the event of one
+-- that isn't read
 abbrev pub whole_known : Known → ℕ → List ℕ → Result (List ℕ) Event
 whole_known known limit name = taken_whole name limit (known.inputs name)
 

@@ -23,8 +23,8 @@ abbrev pub size_in : Option (List ℕ → Option (List ℕ)) → List ℕ → �
 size_in None name = 0
 size_in (Some map) name = size_of (map name)
 
--- inputs that are within a limit together: each may have what those before it
--- leave of the limit, as far as they are known
+-- inputs that are within a limit together: each may have what those before it leave of the limit, as far as they are
+-- known
 abbrev pub limited_together : Option (List ℕ → Option (List ℕ)) → ℕ → List (List ℕ) → List Limited
 limited_together contents limit [] = []
 limited_together contents limit (name ∷ names) = limited limit name ∷ limited_together contents (limit - size_in contents name) names

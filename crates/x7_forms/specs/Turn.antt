@@ -20,8 +20,8 @@ turn_size = 65536
 abbrev pub longest_beginning : ℕ
 longest_beginning = longest_header + turn_size
 
--- the most bytes that one turn of a stream that is played reads: no fewer than a header
--- may have, so that the first turn judges it
+-- the most bytes that one turn of a stream that is played reads: no fewer than a header may have, so that the first
+-- turn judges it
 abbrev pub play_turn_size : ℕ
 play_turn_size = 266240
 
@@ -189,8 +189,8 @@ pub record IsBadBeginning (old new : InputsState) (name : List ℕ) (event : Eve
   -- no byte after the one at which the header is refused
   pub no_byte_after : length bytes ≤ place + 1
 
--- where the rest of an open input is known, and begins with a header that has another byte in
--- a letter's place, that byte was not given
+-- where the rest of an open input is known, and begins with a header that has another byte in a letter's place, that
+-- byte was not given
 abbrev pub NoLetterGiven : InputsState → InputsState → Type 0
 NoLetterGiven old new = IfSome new.contents (λ map. (bytes : List ℕ) (place : ℕ) → old.rest ≡ Some bytes → HasOtherLetterAt bytes place → new.given ≤ old.given + place)
 

@@ -5,8 +5,8 @@
 /// a flash from 0.
 #[derive(Clone, Copy, Drop)]
 pub enum InputFault {
-    /// The byte of a stream's header that should be a field's letter and is not, or the
-    /// stream's length where it ends inside the header.
+    /// The byte of a stream's header that should be a field's letter and is not, or the stream's length where it ends
+    /// inside the header.
     Byte(u64),
     /// The first line outside the grammar.
     Line(u64),

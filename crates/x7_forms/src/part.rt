@@ -25,8 +25,8 @@ fn refusal_of<'w>(name: &'w str, fault: PartFault) -> Refusal<'w>
     }
 }
 
-/// Reads the part file of this name, and gives its part. A refusal says that the file isn't read, that its text is
-/// refused, or that memory was wanting, which it may be only once the file is open.
+/// Reads the part file of this name, and gives its part. A refusal has one of three reasons: the file wasn't read, its
+/// text is refused, or memory was wanting. The last comes only once the file is open.
 pub fn read_part<'w, I: Inputs>(
     alloc: Global,
     inputs: &mut I,

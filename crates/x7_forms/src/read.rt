@@ -14,16 +14,16 @@ use x7_header::{HeaderFault, header_of};
 use x7_text::put_text;
 use x7_words::{Failed, Inputs, SelectFault};
 
-/// The most bytes of a stream, and of all streams of one `play` together.
+/// The most bytes of a stream, and of all streams of one `play` together (64 MiB).
 pub const STREAM_LIMIT: usize = 67_108_864;
 
-/// The most bytes of an assembly, Intel HEX, frames or SVF text.
+/// The most bytes of an assembly, Intel HEX, frames or SVF text (512 MiB).
 pub const TEXT_LIMIT: usize = 536_870_912;
 
-/// The most bytes of a script.
+/// The most bytes of a script (1 MiB).
 pub const SCRIPT_LIMIT: usize = 1_048_576;
 
-/// The most bytes of a part file.
+/// The most bytes of a part file (1 MiB).
 pub(crate) const PART_LIMIT: usize = 1_048_576;
 
 /// The most bytes that one turn of an input reads, but for a stream that is played.

@@ -6,8 +6,8 @@ ghost use Rattle.std.specs.Prelude.{◌≡◌};
 pub enum Status {
     /// The whole text was written.
     Done,
-    /// The whole text was written, and says that the device stopped at a fault, that a scan
-    /// differed, or that no attempt of a boot started.
+    /// The whole text was written, and says that the device stopped at a fault, that a scan differed, or that no
+    /// attempt of a boot started.
     Stopped,
     /// The words have no form.
     Usage,

@@ -43,18 +43,6 @@ field_at total field bytes = do
   after ← after_letter total field.letter bytes
   content_at total field.kind after
 
--- how many bytes a prefix of a field of text lacks of the part in which it ends: the letter, the count, or the text
-abbrev pub text_lacks : List ℕ → ℕ
-text_lacks [] = 1
-text_lacks (letter ∷ []) = 2
-text_lacks (letter ∷ high ∷ []) = 1
-text_lacks (letter ∷ high ∷ low ∷ bytes) = high * 256 + low - length bytes
-
--- how many bytes a prefix of a field of a number lacks of the part in which it ends: the letter, or the four bytes
-abbrev pub number_lacks : List ℕ → ℕ
-number_lacks [] = 1
-number_lacks (letter ∷ bytes) = 4 - length bytes
-
 -- the content of each of the fields, and the bytes after them
 unfoldable pub fields_at : ℕ → List Field → List ℕ → Result (List (List ℕ) × List ℕ) HeaderFault
 fields_at total [] bytes = Ok ([], bytes)
@@ -100,6 +88,18 @@ abbrev pub HeaderWaits : List ℕ → ℕ → Type 0
 HeaderWaits bytes count = (more : List ℕ) → length more < count → header_at (bytes ++ more) ≡ Err (fault.Cut (length (bytes ++ more)))
 
 -- ---- how many bytes are lacked of what is being read: the fixed bytes, or a field's letter, count, text or number
+
+-- how many bytes a prefix of a field of text lacks of the part in which it ends: the letter, the count, or the text
+abbrev pub text_lacks : List ℕ → ℕ
+text_lacks [] = 1
+text_lacks (letter ∷ []) = 2
+text_lacks (letter ∷ high ∷ []) = 1
+text_lacks (letter ∷ high ∷ low ∷ bytes) = high * 256 + low - length bytes
+
+-- how many bytes a prefix of a field of a number lacks of the part in which it ends: the letter, or the four bytes
+abbrev pub number_lacks : List ℕ → ℕ
+number_lacks [] = 1
+number_lacks (letter ∷ bytes) = 4 - length bytes
 
 -- how many bytes a prefix of a field of this kind lacks of the part in which it ends
 abbrev pub lacks_of : FieldKind → List ℕ → ℕ

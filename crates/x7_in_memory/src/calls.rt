@@ -48,8 +48,8 @@ impl Calls {
         Ok(())
     }
 
-    /// Takes the next number, which may be that of a call that is to fail. The object whose calls these are
-    /// counts the fault.
+    /// Takes the next number, which may be that of a call that is to fail. The object whose calls these are counts the
+    /// fault.
     pub(crate) fn next(&mut self) -> Result<(), Failed>
         ensures answer { is_err result ≡ next_fails self.old }
         ensures after { self.new ≡ numbered self.old }

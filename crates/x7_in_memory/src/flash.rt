@@ -29,17 +29,17 @@ pub struct MemoryFlash {
     name: String,
     bytes: Vec<u8>,
     attached: bool,
-    // how many attaches asked for another name
+    /// How many attaches asked for another name.
     absences: u64,
     calls: Calls,
-    // how many attaches and reads failed
+    /// How many attaches and reads failed.
     read_faults: u64,
-    // how many erases and programs failed
+    /// How many erases and programs failed.
     write_faults: u64,
     tear: Option<Torn>,
-    // whether a write was torn: all calls fail from then on
+    /// Whether a write was torn: all calls fail from then on.
     stopped: bool,
-    // the calls with their answers; they have no bytes
+    /// The calls with their answers; they have no bytes.
     history: FlashCalls,
 }
 

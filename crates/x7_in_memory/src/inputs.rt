@@ -14,21 +14,21 @@ use x7_words::{Failed, Inputs, NoMemory, SelectFault, ends_counted, raised};
 ///
 /// Each select and each read has the next number, from 1, and those that are to fail fail.
 pub struct MemoryInputs {
-    // what was put, the last first
+    /// What was put, the last first.
     named: Vec<NamedBytes>,
-    // the place in `named` of the selected input, and how many bytes were given since the last select
+    /// The place in `named` of the selected input, and how many bytes were given since the last select.
     selected: Option<usize>,
     given: usize,
-    // the place in `named` of the name last asked for, where it is there
+    /// The place in `named` of the name last asked for, where it is there.
     asked: Option<usize>,
-    // how many selects there were
+    /// How many selects there were.
     selects: u64,
-    // how many reads gave nothing
+    /// How many reads gave nothing.
     ends: u64,
-    // the most bytes that a read gives
+    /// The most bytes that a read gives.
     most: usize,
     calls: Calls,
-    // how many selects and reads failed
+    /// How many selects and reads failed.
     faults: u64,
     alloc: Global,
 }

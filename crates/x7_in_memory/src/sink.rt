@@ -13,14 +13,14 @@ use x7_words::{Failed, NoMemory, Sink, raised};
 /// Each write has the next number, from 1. Those that are to fail fail, and so does one of a byte or more once the room
 /// is full.
 pub struct MemorySink {
-    // what was written
+    /// What was written.
     bytes: Vec<u8>,
-    // how many bytes the sink takes in all
+    /// How many bytes the sink takes in all.
     room: usize,
-    // the most bytes that a write takes
+    /// The most bytes that a write takes.
     most: usize,
     calls: Calls,
-    // how many writes failed
+    /// How many writes failed.
     faults: u64,
 }
 

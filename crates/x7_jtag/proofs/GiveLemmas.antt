@@ -1,5 +1,5 @@
--- Lemmas on bytes that are offered while no word waits: the device takes them at once, up
--- to the one with which a word is read out.
+-- Lemmas on bytes that are offered while no word waits: the device takes them at once, up to the one with which a word
+-- is read out.
 use Rattle.std.proofs.Common.{◌≡◌, ◌⊎◌, inl, inr, ℕ, zero, suc, ◌+◌, ◌-◌, ◌*◌, ◌<◌, ◌≤◌, ◌==◌, ◌&&◌, Bool, false, if◌then◌else◌, List, [], ◌∷◌, ◌++◌, length, take, drop, slice_index, refl, ap, sym, subst, ◌∙◌, append_assoc, append-nil, length-append, length-drop, arith}
 use Rattle.std.proofs.lemmas.List.{length-take-le, nil_from_length, take_all, take-append-drop, take-take}
 use Rattle.std.specs.Option.{IsSome, is_some}

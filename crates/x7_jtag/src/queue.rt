@@ -19,9 +19,9 @@ const MOST_BYTES_HELD: usize = 64;
 #[derive(Drop)]
 pub(crate) struct Queue {
     held: ArrayVec<u8, MOST_BYTES_HELD>,
-    // the latest word taken of the device
+    /// The latest word taken of the device.
     word: u32,
-    // how many bits of that word are still to go out
+    /// How many bits of that word are still to go out.
     bits_left: u32,
 }
 

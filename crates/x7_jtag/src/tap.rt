@@ -20,22 +20,31 @@ use x7_regs::Reg;
 
 /// The byte that eight clocks in Run-Test/Idle under JSTART offer.
 const STARTUP_BYTE: u8 = 0xFF;
-/// The user code, which no stream sets here.
+
+/// What USERCODE shifts out, whatever a stream says (this project's choice).
 const USER_CODE: u32 = 0xFFFF_FFFF;
+
 /// What the highest bit of a register of 32 bits is worth.
 const TOP_BIT_OF_WORD: u32 = 1 << 31;
+
 /// What the highest bit of the instruction register, which has six, is worth.
 const TOP_BIT_OF_INSTRUCTION: u32 = 1 << 5;
+
 /// What the bit of the bypass register, which has one, is worth.
 const TOP_BIT_OF_BYPASS: u32 = 1;
+
 /// What the highest bit of a byte is worth.
 const TOP_BIT_OF_BYTE: u32 = 1 << 7;
+
 /// What DONE is worth in what Capture-IR loads.
 const DONE_BIT_VALUE: u32 = 1 << 5;
+
 /// What INIT_B is worth in what Capture-IR loads.
 const INIT_B_BIT_VALUE: u32 = 1 << 4;
+
 /// The two lowest bits of what Capture-IR loads (IEEE 1149.1).
 const LOWEST_BITS_OF_IR: u32 = 1;
+
 /// The place of INIT_B in a word of STAT, from the lowest bit, 0.
 const INIT_B_AT: u32 = 12;
 
@@ -44,9 +53,9 @@ const INIT_B_AT: u32 = 12;
 pub struct Tap {
     state: State,
     instruction: Instruction,
-    // the register between TDI and TDO
+    /// The register between TDI and TDO.
     register: u32,
-    // a count from 0 to 7 of the bits of a byte under CFG_IN, or of clocks in Run-Test/Idle under JSTART
+    /// A count from 0 to 7 of the bits of a byte under CFG_IN, or of clocks in Run-Test/Idle under JSTART.
     count: u32,
     queue: Queue,
 }

@@ -265,8 +265,8 @@ sure_after l given before bytes s =
     listed_after l given before bytes s ∙ append_assoc before (sessions_text t.sessions) (sure_place t.at)
     ∙ ap (λ x. before ++ (sessions_text x ++ sure_place t.at)) e.0 ∙ ap (λ x. before ++ (sessions_text (reading_of bytes).sessions ++ sure_place x)) e.1
 
--- the listings before and what is listed of bytes are a prefix of those and the
--- listing of the bytes with any further ones
+-- the listings before and what is listed of bytes are a prefix of those and the listing of the bytes with any further
+-- ones
 pub prefix_after_others : (l : ListerState) (given before bytes rest : List ℕ) → ListerStandsFor l given before bytes → AreBytes (bytes ++ rest) → (more : List ℕ) × (before ++ listing_of (bytes ++ rest) ≡ (given ++ l.text) ++ more)
 prefix_after_others l given before bytes rest s f =
     let sure : List ℕ = sure_text bytes in

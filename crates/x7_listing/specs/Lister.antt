@@ -137,9 +137,9 @@ pub record ListerStandsFor (l : ListerState) (given before bytes : List ℕ) : T
   pub has_listed : HasListedJust l given before bytes
   pub ready : l.cutter.mode ≡ Mode.SyncFound → ⊥
 
--- A lister that takes the runs of a stream: the texts given and its own are those of listings before, and
--- then what is listed of these bytes, a sync word being due to be listed or not. Its own cutter took no byte,
--- and the bytes of no whole word are held.
+-- A lister that takes the runs of a stream: the texts given and its own are those of listings before, and then what is
+-- listed of these bytes, a sync word being due to be listed or not. Its own cutter took no byte, and the bytes of no
+-- whole word are held.
 pub record TakerStandsFor (l : ListerState) (given before bytes : List ℕ) (due : Mode) : Type 0 where
   pub sessions : List EndedSession
   pub at : Place
@@ -148,8 +148,8 @@ pub record TakerStandsFor (l : ListerState) (given before bytes : List ℕ) (due
   pub tail : l.is_synced ≡ true → l.held ≡ tail_of at
   pub cutter : CutterStandsFor l.cutter [] [] (Searching [])
 
--- The texts given and the lister's text are those of listings before and the listing of these bytes, and a
--- new listing begins, of bytes or of runs.
+-- The texts given and the lister's text are those of listings before and the listing of these bytes, and a new listing
+-- begins, of bytes or of runs.
 pub record HasFinished (l : ListerState) (given before bytes : List ℕ) : Type 0 where
   pub listing : List ℕ
   pub listing_is : IsListing bytes listing

@@ -23,8 +23,8 @@ HasReadRecords b lines = LinesCameTo (after_lines 1 of_no_line (map without_retu
 abbrev pub flash_of_lines : List (List ℕ) → Result (List ℕ) McsFault
 flash_of_lines lines = flash_in (with_end (after_lines 1 of_no_line (bare_lines lines)))
 
--- a line, with its end or as the last of a text, is read without a fault, as are those before it: memory may be
--- wanting at it
+-- a line, with its end or as the last of a text, is read without a fault, as are those before it: memory may be wanting
+-- at it
 abbrev pub AreGoodMcsLines : List (List ℕ) → List ℕ → Type 0
 AreGoodMcsLines lines line = HasNoFault (after_lines 1 of_no_line (map without_return (lines ++ line ∷ []))) ⊎ HasNoFault (after_lines 1 of_no_line (bare_lines (lines ++ line ∷ [])))
 

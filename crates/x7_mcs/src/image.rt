@@ -106,7 +106,7 @@ fn mark_place(marks: &mut Vec<u16>, place: usize)
     marks[place / PLACES_PER_MARK] |= 1 << (place % PLACES_PER_MARK);
 }
 
-/// Marks the sixteen places from one on, which is the first of its mark.
+/// Marks the sixteen places from `place` on, the first of their mark.
 fn mark_sixteen(marks: &mut Vec<u16>, place: usize)
     requires within { place / places_per_mark < length marks.old.items }
     requires first { place % places_per_mark ≡ 0 }
@@ -116,7 +116,7 @@ fn mark_sixteen(marks: &mut Vec<u16>, place: usize)
     marks[place / PLACES_PER_MARK] = FULL_MARK;
 }
 
-/// Marks `count` places from one on.
+/// Marks `count` places from `place` on.
 #[inline(always)]
 fn mark_places(marks: &mut Vec<u16>, place: usize, count: usize)
     requires within { place + count ≤ places_per_mark * length marks.old.items }
@@ -155,7 +155,7 @@ fn has_bit(mark: u16, bit: usize) -> bool
     mark >> bit & 1 == 1
 }
 
-/// The least of `count` places from one on that is marked; `None` where none of them is.
+/// The least of `count` places from `place` on that is marked; `None` where none of them is.
 fn first_marked(marks: &[u16], place: usize, count: usize) -> Option<usize>
     requires { place + count < 2 ^ 34 }
     ensures { MatchOption result (AreFree marks.now place (place + count)) (λ q. IsFirstMarked marks.now place (place + count) q) }
@@ -175,7 +175,7 @@ fn first_marked(marks: &[u16], place: usize, count: usize) -> Option<usize>
     None
 }
 
-/// The least of `count` places from one on that a record gave; `None` where a record gave none of them.
+/// The least of `count` places from `place` on that a record gave; `None` where a record gave none of them.
 #[inline(always)]
 fn overlap(image: &Image, place: usize, count: usize) -> Option<usize>
     requires { place + count < 2 ^ 34 }

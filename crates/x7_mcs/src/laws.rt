@@ -1,5 +1,5 @@
-//! What a text gives, said in other words: laws of the definitions. The functions do nothing: their
-//! contracts are the laws.
+//! What a text gives, said in other words: laws of the definitions. The functions do nothing: their contracts are the
+//! laws.
 ghost use Rattle.std.specs.Prelude.{◌≡◌, ℕ, true, false, ◌≤◌, ◌<◌, ◌+◌, ◌-◌, ◌*◌, ◌%◌, List, ◌∷◌, ◌++◌, length, get_or, Some, None, Ok, Err};
 ghost use Rattle.x7_text.specs.Row.{rows};
 ghost use Rattle.x7_words.specs.Flash.{erased_byte, flash_limit};

@@ -93,8 +93,8 @@ CutAdds _ _ _ _ _ = ⊥
 abbrev pub IsNotSyncFound : Mode → Type 0
 IsNotSyncFound mode = mode ≡ Mode.SyncFound → ⊥
 
--- how a run goes with where the cutter stands before and after it: the sync word is found when its last byte comes,
--- and is given next
+-- how a run goes with where the cutter stands before and after it: the sync word is found when its last byte comes, and
+-- is given next
 abbrev pub ChangesMode : Cut → Mode → Mode → Place → Type 0
 ChangesMode Need old new place = IsNotSyncFound old × IsNotSyncFound new
 ChangesMode (Skip bytes) old new (Searching gap) = Unit {0}

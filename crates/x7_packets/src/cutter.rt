@@ -120,7 +120,7 @@ pub struct Cutter {
     stage: Stage,
     matcher: Matcher,
     machine: Machine,
-    // The first `count` of these bytes are kept: they are of no whole word yet.
+    /// The first `count` of these bytes are kept: they are of no whole word yet.
     kept: [u8; 3],
     count: usize,
 }

@@ -1,5 +1,5 @@
-//! Looks at 32 bytes at once: for the sync word, and for equal words in a row. One may skip this module: code that
-//! goes byte by byte and word by word would meet the same contracts.
+//! Looks at 32 bytes at once: for the sync word, and for equal words in a row. One may skip this module: code that goes
+//! byte by byte and word by word would meet the same contracts.
 mod nops;
 mod places;
 

@@ -15,10 +15,10 @@ use x7_words::word_of;
 /// Takes the words of a session, and says what each word is.
 #[derive(Clone, Copy)]
 pub struct Machine {
-    // How many payload words of the open packet are still to come, and to which register they are written.
+    /// How many payload words of the open packet are still to come, and to which register they are written.
     due: u32,
     register: u8,
-    // The register that the session's nearest type 1 read or write named.
+    /// The register that the session's nearest type 1 read or write named.
     latest: Option<u8>,
 }
 

@@ -35,6 +35,7 @@ row_has pitch base i (suc column) minor (n ∷ minors) h k =
     (let e : base + (i + suc column) * pitch + minor ≡ base + (i + 1 + column) * pitch + minor = omega arith in
     rw e (row_has pitch base (i + 1) column minor minors (omega arith) k))
 
+-- an address is that of a column and a minor of one of these rows
 pub IsListed : FieldWidths → List RowData → ℕ → Type 0
 IsListed widths rows address =
     (r : RowData) × (column : ℕ) × (minor : ℕ) × Contains rows r × (column < length r.minors)
@@ -74,7 +75,7 @@ pub address_of_part : (part : PartData) (address : ℕ) → IsAddressOf part add
 unfolding IsListed
 address_of_part part address is = has_address part.field_widths part.rows address is
 
--- what a search that finds or does not find says
+-- a search answers whether P holds, where finding something proves P, and finding nothing refutes it
 pub found_says : (o : Option ℕ) (b : Bool) (P : Type 0) → IfSome o (λ i. P) → IfNone o (¬ P) → b ≡ is_some o → (b ≡ true) ↔ P
 found_says None b P found none e = (λ t. absurd (false≢true (sym e ∙ t)), λ p. absurd (none p))
 found_says (Some i) b P found none e = (λ t. found, λ p. e)

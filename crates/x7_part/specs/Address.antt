@@ -45,8 +45,8 @@ row_address widths r = r.block * 2 ^ block_low widths + r.half * 2 ^ half_low wi
 abbrev pub frame_address : FieldWidths → RowData → ℕ → ℕ → ℕ
 frame_address widths r column minor = row_address widths r + column * 2 ^ column_low widths + minor
 
--- an address is that of a frame of one of the part's rows: the column has a place in the row, and the
--- minor is below the column's number of minors
+-- an address is that of a frame of one of the part's rows: the column has a place in the row, and the minor is below
+-- the column's number of minors
 abbrev pub IsAddressOf : PartData → ℕ → Type 0
 IsAddressOf part address =
     (r : RowData) × (column : ℕ) × (minor : ℕ) × Contains part.rows r × (column < length r.minors)

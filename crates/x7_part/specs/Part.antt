@@ -8,8 +8,8 @@ pub record RowData : Type 0 where
   pub row : ℕ
   pub minors : List ℕ
 
--- the widths in bits of the fields of a frame address, each field right above the one before it, from bit 0
--- (UG470, frame address register; that they are the part's is this project's choice)
+-- the widths in bits of the fields of a frame address, each field right above the one before it, from bit 0 (UG470,
+-- frame address register; that they are the part's is this project's choice)
 pub record FieldWidths : Type 0 where
   pub minor : ℕ
   pub column : ℕ

@@ -1,5 +1,5 @@
--- Slots: the places of frames and of pad frames in write order (UG470, frame data; two pads after each
--- row's last frame are this project's choice).
+-- Slots: the places of frames and of pad frames in write order (UG470, frame data; two pads after each row's last frame
+-- are this project's choice).
 use Rattle.std.specs.Prelude.{◌≡◌, ℕ, ◌<◌, Contains, List, [], ◌∷◌, ◌++◌, length, map, slice_index, slice_index_or, ◌==◌, if◌then◌else◌}
 use Rattle.std.specs.List.{flat_map}
 use Rattle.x7_part.specs.Part.{FieldWidths, RowData, PartData}

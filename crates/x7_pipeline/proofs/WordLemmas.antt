@@ -32,8 +32,8 @@ written_refused part base w run words fault e = ap (λ o. with_later_words o run
 
 -- ---- on the way
 
--- from a run that a pipeline stood for it has come to a longer one, with what the
--- memory got, and the rest is to be written
+-- from a run that a pipeline stood for it has come to a longer one, with what the memory got, and the rest is to be
+-- written
 pub record Reached (part : PartData) (now : PipelineData) (old new : FrameMap) (command : Command) (base : ℕ) (run : List ℕ) (source : Option (List ℕ)) (given : ℕ) (all rest : List ℕ) (count : ℕ) : Type 0 where
   pub longer : List ℕ
   pub stands : StandsFor part now command base longer source given

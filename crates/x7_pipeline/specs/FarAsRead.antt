@@ -1,5 +1,5 @@
--- The frame address register: what a load leaves in it, and what it reads as while frames are written or read
--- (UG470, frame address register).
+-- The frame address register: what a load leaves in it, and what it reads as while frames are written or read (UG470,
+-- frame address register).
 use Rattle.std.specs.Prelude.{◌≡◌, ℕ, ◌-◌, ◌/◌, ◌%◌, ◌^◌, max, nat_lt, Bool, true, if◌then◌else◌, List, [], ◌∷◌, length, drop, slice_index, Option, Some, None, unwrap_or}
 use Rattle.x7_part.specs.Part.{PartData, frame_words}
 use Rattle.x7_part.specs.Address.{far_width}

@@ -164,8 +164,9 @@ impl Pipeline {
         self.frame_count = 0;
     }
 
-    /// One word more of a run under WCFG. A word that completes a frame puts the frame before it. A run's first word is
-    /// refused where the base is no address (`Address`), and the last word of a frame past the last slot (`Overrun`).
+    /// One word more of a run under WCFG. The word that completes a frame makes that frame the newest; the frame that
+    /// was the newest goes into the memory. A run's first word is refused where the base is no address (`Address`), and
+    /// the last word of a frame past the last slot (`Overrun`).
     pub fn write(&mut self, word: u32, part: &Part, memory: &mut Memory) -> Result<(), RunFault>
         requires part { AreOfPart part.now self.old memory.old }
         ensures stands { OnOk result (FlowGoesOn part.now self.old self.new (after_words (word ∷ []))) }
@@ -192,6 +193,7 @@ impl Pipeline {
         let mut hint = 0;
         self.put_newest(first, &mut hint, part, memory);
         push_word(&mut self.rest, word);
+        // `rest` is the completed frame: it becomes the newest, and the old one's room takes the next words.
         std::mem::swap(&mut self.rest, &mut self.newest);
         self.rest.clear();
         self.frame_count += 1;

@@ -18,8 +18,7 @@ use x7_words::NoMemory;
 /// The fewest addresses at which a content stands that is written once and copied.
 const LEAST_GROUP_SIZE: usize = 3;
 
-/// Whether the content that begins at `start` stands at three addresses or more. `_words` is for the contract
-/// alone.
+/// Whether the content that begins at `start` stands at three addresses or more. `_words` is for the contract alone.
 fn are_shared(by_content: &ByContent<'_>, start: usize, _words: &[u32]) -> bool
     requires { BeginsAt by_content.now _words.now start }
     ensures { result ≡ are_shared (rows_by_content by_content.now) _words.now }

@@ -1,5 +1,5 @@
--- What the steps of a play come to. A player is over once its device has read out more words than a play may (this
--- project's choice).
+-- What the steps of a play come to. A player is over (over its limit of words read out) once its device has read
+-- out more words than a play may (this project's choice).
 use Rattle.std.specs.Prelude.{◌≡◌, ◌+◌, ◌<◌, ◌≤◌, ◌⊎◌, ◌++◌, ℕ, List, [], Some, Bool, true, false, IsSome, length, Result, Ok}
 use Rattle.x7_words.specs.Input.{InputsState, taken_bytes_limit}
 use Rattle.x7_words.specs.Word.{AreBytes}
@@ -82,12 +82,12 @@ PlaysPrefix old new prefix = (part : PartData) (bytes : List ℕ) → HasPlayed 
 abbrev pub FeedsPrefix : PlayState → PlayState → List ℕ → Type 0
 FeedsPrefix old new prefix = (part : PartData) (bytes : List ℕ) → HasPlayedBy false part bytes old → DevicePlayed part (bytes ++ prefix) new.device new.reads
 
--- a player, which is over where the flag says so, was given bytes which with `count` more are no more than a device
--- counts (`taken_bytes_limit`)
+-- `count` bytes more may be given: with those that the player was given they are no more than a device counts
+-- (`taken_bytes_limit`). `over` says whether the player is over
 abbrev pub MayPlayBy : Bool → PlayState → ℕ → Type 0
 MayPlayBy over s count = (part : PartData) × ((bytes : List ℕ) × (HasPlayedBy over part bytes s × (length bytes + count ≤ taken_bytes_limit)))
 
--- a player may be given `count` bytes more, which with all before are no more than a device counts
+-- as `MayPlayBy`, of a player
 abbrev pub MayPlay : Player → ℕ → Type 0
 MayPlay p count = MayPlayBy p.is_over_limit (play_state p.device p.buffer p.reads.items) count
 

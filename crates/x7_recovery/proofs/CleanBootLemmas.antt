@@ -1,5 +1,5 @@
--- A golden stream that begins clean starts as a fallback after an open slot, where
--- it starts at power after an erased sector.
+-- A golden stream that begins clean starts as a fallback after an open slot, where it starts at power after an erased
+-- sector.
 use Rattle.std.proofs.Common.{◌≡◌, ◌==◌, ◌+◌, ◌-◌, ◌*◌, ◌^◌, ◌<◌, ◌≤◌, inl, inr, ℕ, true, false, if◌then◌else◌, None, Some, List, ◌++◌, drop, take, length, length-append, length-drop, refl, ap, sym, subst, ◌∙◌, append_assoc, take-append-drop, drop_of_length-le, arith}
 use Rattle.x7_packets.specs.FlashSlot.{sector_size, flash_slot_size}
 use Rattle.x7_words.specs.Flash.{erased_sector}

@@ -1,5 +1,5 @@
--- The boot of a flash that was left in an update, where the golden stream is the full stream of a
--- plan: that is a golden stream that starts.
+-- The boot of a flash that was left in an update, where the golden stream is the full stream of a plan: that is a
+-- golden stream that starts.
 use Rattle.std.proofs.Common.{List, ℕ, ap, sym, subst, ◌∙◌}
 use Rattle.x7_memory.specs.FrameMap.{HaveSameFrames, FrameMap}
 use Rattle.x7_memory.specs.Plan.{total}

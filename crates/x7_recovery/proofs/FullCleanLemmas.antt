@@ -1,5 +1,5 @@
--- The full stream of a plan begins clean: after an erased first sector it starts,
--- and nothing has stopped the device by then.
+-- The full stream of a plan begins clean: after an erased first sector it starts, and nothing has stopped the device by
+-- then.
 use Rattle.std.proofs.Common.{◌≡◌, ◌==◌, ◌+◌, ◌-◌, ◌*◌, ◌<◌, ◌≤◌, ◌⊎◌, inl, inr, ℕ, true, false, None, Some, List, [], ◌∷◌, ◌++◌, drop, take, length, length-append, refl, ap, sym, subst, ◌∙◌, append_assoc, arith}
 use Rattle.x7_packets.specs.FlashSlot.{sector_size}
 use Rattle.x7_words.specs.Flash.{erased_sector}

@@ -1,5 +1,5 @@
--- Which flashes have an open slot: one that can be updated, with an open slot, one after an
--- update, and one that begins as an image does.
+-- Which flashes have an open slot: one that can be updated, with an open slot, one after an update, and one that begins
+-- as an image does.
 use Rattle.std.proofs.Common.{◌≡◌, ◌+◌, ◌-◌, ◌*◌, ◌/◌, ◌%◌, ◌<◌, ◌≤◌, ◌⊎◌, inl, inr, ℕ, zero, suc, List, [], ◌∷◌, ◌++◌, drop, take, get_or, length, length-append, length-drop, refl, ap, sym, subst, ◌∙◌, append_assoc, take-append-drop, length-take-le, replicate, arith}
 use Rattle.std.proofs.lemmas.Bool.{cases_eq, cases_lt}
 use Rattle.std.proofs.lemmas.List.{ext_get_or, get_or-drop, get_or-take, get_or_append_left}

@@ -1,5 +1,5 @@
--- What the open slot of a first sector does to an attempt: it leads one at power to
--- its place, and leaves a fallback at rest.
+-- What the open slot of a first sector does to an attempt: it leads one at power to its place, and leaves a fallback at
+-- rest.
 use Rattle.std.proofs.Common.{◌≡◌, ◌+◌, ◌-◌, ◌*◌, ◌^◌, ◌<◌, ◌≤◌, inl, inr, ℕ, true, false, Option, None, Some, List, [], ◌∷◌, ◌++◌, drop, take, length, length-append, refl, ap, sym, subst, ◌∙◌, append_assoc, take-append-drop, length-take-le, arith}
 use Rattle.std.proofs.lemmas.Bool.{cases_lt}
 use Rattle.std.proofs.lemmas.List.{take-append-le, take-take}

@@ -44,8 +44,8 @@ none_after : (bytes rest : List ℕ) → LacksFirst bytes → HasNoSync rest →
 none_after [] rest l none = none
 none_after (x ∷ bytes) rest l none = other_first x (bytes ++ rest) l.0 (none_after bytes rest l.1 none)
 
--- what stands after the first two words of a slot, where the start address is of
--- whole pages of 256, and far below AA000000
+-- what stands after the first two words of a slot, where the start address is of whole pages of 256, and far below
+-- AA000000
 abbrev slot_tail : List ℕ
 slot_tail = 0x30 ∷ 0 ∷ 0x80 ∷ 1 ∷ 0 ∷ 0 ∷ 0 ∷ 15 ∷ 0x30 ∷ 0 ∷ 0x80 ∷ 1 ∷ 0 ∷ 0 ∷ 0 ∷ 13 ∷ []
 

@@ -94,8 +94,8 @@ iprog_attempt cause = record { kind = Iprog; cause = cause; ignored = false }
 abbrev pub update_bootsts : ℕ
 update_bootsts = boot_status_of (iprog_attempt None) (Some power_attempt)
 
--- The boot starts with the update: with the memory of its plan over zeros, and BOOTSTS shows an attempt by IPROG,
--- after one at power.
+-- The boot starts with the update: with the memory of its plan over zeros, and BOOTSTS shows an attempt by IPROG, after
+-- one at power.
 pub record StartsUpdate (o : OpenFlash) (update : PlanData) (c : BootCourse) : Type 0 where
   pub attempts_are : c.attempts ≡ through_update o.place ending.Started []
   pub started : c.end ≡ boot_end.Started

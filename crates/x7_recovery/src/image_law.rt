@@ -27,8 +27,8 @@ pub fn images_boot()
 
 /// The laws of this crate speak of something. There is a part with a plan for it and their image, which is prepared for
 /// an update with any stream, and of which a power loss in that update may leave another flash. Over the image of any
-/// part and plan, with an update of no bytes, an attempt at the update fails by a wrap, and CTL0 allows a fallback. Over
-/// the image of the full stream of a plan and any update some fallback starts.
+/// part and plan, with an update of no bytes, an attempt at the update fails by a wrap, and CTL0 allows a fallback.
+/// Over the image of the full stream of a plan and any update some fallback starts.
 pub fn premises_hold()
     ensures part { IsPart tiny }
     ensures plan { IsPlanFor tiny nothing_planned }

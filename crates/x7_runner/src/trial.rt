@@ -55,7 +55,7 @@ pub(crate) struct Trial<'a, C: Command> {
 }
 
 impl<'a, C: Command> Trial<'a, C> {
-    /// One run, which the notes that follow are of.
+    /// Runs the command once; the notes that follow are on this run.
     fn run_once(&mut self, variation: &Variation) {
         let given = &self.case.given;
         self.notes.begin(self.case.name.as_str());
@@ -117,8 +117,8 @@ impl<'a, C: Command> Trial<'a, C> {
         self.notes.put("fails_each", "an end", "none");
     }
 
-    /// Runs with each call of the object failing in turn. Where the whole run reads all that the words name, each
-    /// of these inputs fails in one of them.
+    /// Runs with each call of the object failing in turn. Where the whole run reads all that the words name, each of
+    /// these inputs fails in one of them.
     fn run_each(&mut self, variation: &Variation) {
         let mut blamed = Blamed::new(self.alloc);
         self.run_calls(variation, &mut blamed);

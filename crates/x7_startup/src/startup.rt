@@ -15,9 +15,9 @@ const LAST_OF_TICK: u8 = TICK_SIZE as u8 - 1;
 #[derive(Clone, Copy)]
 pub struct Startup {
     armed: bool,
-    // COR0 as it stood where startup began, if it has begun
+    /// COR0 as it stood where startup began, if it has begun.
     begun_with: Option<u32>,
-    // the bytes past the last tick, fewer than a tick has
+    /// The bytes past the last tick, fewer than a tick has.
     tick_bytes: u8,
     ticks: u16,
     phase: u8,

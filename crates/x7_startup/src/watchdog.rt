@@ -20,11 +20,11 @@ const COUNT_LIMIT: u64 = 0xFFFF_FFFF;
 /// project's choice).
 #[derive(Clone, Copy)]
 pub struct Watchdog {
-    // whether the attempt has no watchdog
+    /// Whether the attempt has no watchdog.
     off: bool,
-    // the count at which it fires: `TIMER_STEP` times TIMER's value, or 0 where TIMER or the attempt has it off
+    /// The count at which it fires: `TIMER_STEP` times TIMER's value, or 0 where TIMER or the attempt has it off.
     limit: u32,
-    // how many bytes it counted since its count began anew, up to `COUNT_LIMIT`
+    /// How many bytes it counted since its count began anew, up to `COUNT_LIMIT`.
     count: u32,
 }
 

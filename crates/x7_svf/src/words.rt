@@ -106,7 +106,7 @@ fn idle_clocks_if(is_met: bool, digits: &[u8]) -> Option<StoredStatement>
     }
 }
 
-/// The statement of no clock, where the condition is met.
+/// `Nothing`, the statement that makes no clock, where the condition is met; else none.
 fn nothing_if(is_met: bool) -> Option<StoredStatement>
     ensures { IsStored [] result (some_if is_met StatementData.Nothing) }
 {

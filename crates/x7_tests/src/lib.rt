@@ -1,5 +1,5 @@
-//! Calls of the crates below that no worked case makes: each runs once while memory is left, and each generic one
-//! at a type.
+//! Calls of the crates below that no worked case makes: each runs once while memory is left, and each generic one at a
+//! type.
 #![tactic(auto)]
 
 #[cfg(test)]

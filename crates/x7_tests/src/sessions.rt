@@ -6,8 +6,8 @@ use x7_engine::{Device, ReadBuf};
 use x7_part::{Part, part_of};
 use x7_report::report;
 
-/// What comes before the frame data of a write to frame 00000001: the sync word,
-/// IDCODE, WCFG, FAR, and FDRI with 202 words.
+/// What comes before the frame data of a write to frame 00000001: the sync word, IDCODE, WCFG, FAR, and FDRI with 202
+/// words.
 #[rattlefmt::skip]
 const BEFORE: [u8; 36] = [
     0xAA, 0x99, 0x55, 0x66, 0x30, 0x01, 0x80, 0x01, 0x03, 0x62, 0xD0, 0x93, 0x30, 0x00, 0x80, 0x01, 0x00, 0x00, 0x00, 0x01, //

@@ -10,8 +10,8 @@ use x7_words::bytes_of;
 const SMALL: &[u8] =
     b"name = \"small\"\nidcode = 0x0362D093\nframe_words = 2\nrow = [{block = 0, half = 0, row = 0, minors = [2]}, {block = 0, half = 1, row = 0, minors = [2]}]\n";
 
-/// The words of the small part's full stream for one frame at 00400000, by the list of FORMATS, planned
-/// streams; the checks were worked out apart from x7.
+/// The words of the small part's full stream for one frame at 00400000, by the list of FORMATS, planned streams; the
+/// checks were worked out apart from x7.
 #[rattlefmt::skip]
 const PLANNED: [u32; 71] = [
     0xFFFF_FFFF, 0xFFFF_FFFF, 0xFFFF_FFFF, 0xFFFF_FFFF, 0x0000_00BB, 0x1122_0044, 0xFFFF_FFFF, 0xFFFF_FFFF,

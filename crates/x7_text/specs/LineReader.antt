@@ -97,8 +97,8 @@ pub record WantsAt (wants : List (List ℕ) → List ℕ → Type 0) (lines : Li
   pub texts : split text ≡ before ++ line ∷ after
   pub wanting : wants (lines ++ before) line
 
--- after some lines, all lines of a text that have their end were taken, and the
--- beginning of one that comes is to be held
+-- after some lines, all lines of a text that have their end were taken, and the beginning of one that comes is to be
+-- held
 pub record HoldsBeginning {B : Type 0} (taken : B → List (List ℕ) → Type 0) (lines : List (List ℕ)) (text : List ℕ) : Type 0 where
   pub taker : B
   pub more : List (List ℕ)

@@ -8,8 +8,8 @@ use crate::lines::first_line;
 use std::alloc::Global;
 use std::marker::Model;
 
-/// What takes the lines of a text in their order, up to the first one at fault. Lines count
-/// from 1, and are given without their end.
+/// What takes the lines of a text in their order, up to the first one at fault. Lines count from 1, and are given
+/// without their end.
 pub trait TakesLines: Drop {
     /// Why a text is refused.
     type Fault: Drop;
@@ -91,11 +91,11 @@ pub fn read_lines<T: TakesLines>(taker: T, text: &[u8]) -> Result<T::Out, T::Fau
 
 /// Reads a text that comes in pieces, line by line.
 pub struct LineReader<T> {
-    // what takes the lines
+    /// What takes the lines.
     taker: T,
-    // the beginning of the line that comes
+    /// The beginning of the line that comes.
     held: Vec<u8>,
-    // how many lines were taken
+    /// How many lines were taken.
     count: u64,
 }
 

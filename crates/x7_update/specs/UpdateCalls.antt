@@ -30,7 +30,7 @@ abbrev pub spending : Option ℕ → List FlashCall
 spending None = []
 spending (Some slot) = Programmed (flash_slot_size * slot) spent_switch ∷ []
 
--- this many sectors are erased, from one on
+-- this many sectors are erased, from the sector of this number on
 abbrev pub erasing : ℕ → ℕ → List FlashCall
 erasing sector zero = []
 erasing sector (suc count) = Erased sector ∷ erasing (suc sector) count
@@ -39,7 +39,8 @@ erasing sector (suc count) = Erased sector ∷ erasing (suc sector) count
 abbrev pub padded : List ℕ → ℕ → List ℕ
 padded stream count = stream ++ replicate (count - length stream) erased_byte
 
--- this many sectors are read, from one on, and hold what an update with a stream at a place of a flash of a size leaves
+-- this many sectors are read, from the sector of this number on, and hold what an update with a stream at a place of a
+-- flash of a size leaves
 abbrev pub reading : ℕ → List ℕ → ℕ → ℕ → ℕ → List FlashCall
 reading size stream place sector zero = []
 reading size stream place sector (suc count) =
@@ -94,7 +95,8 @@ calls_to size first_sector stream target = Read 0 first_sector ∷ calls_after s
 abbrev pub update_calls : ℕ → List ℕ → List ℕ → List FlashCall
 update_calls size first_sector stream = calls_to size first_sector stream (target_in first_sector)
 
--- a flash of a size whose first sector is this one has slots as the layout has them, and room for a stream where they lead
+-- a flash of a size whose first sector is this one has slots as the layout has them, and room for a stream where they
+-- lead
 pub record HasRoom (size : ℕ) (first_sector stream : List ℕ) : Type 0 where
   pub sized : IsUpdatableSize size
   pub has : HasSlots size first_sector

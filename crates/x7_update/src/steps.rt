@@ -76,7 +76,8 @@ fn verify_and_open<F: Flash>(
 ///
 /// `HasUpdated` lists the calls of a finished update. Power may be lost at any moment: of a flash that gives what was
 /// written, what is found then is the flash as it was, or a flash without an open slot, whose golden stream stands, or
-/// the updated flash (`LeavesAny`). `IsRefused` tells by the calls why an update is refused, and `HasCause` by the counts.
+/// the updated flash (`LeavesAny`). `IsRefused` tells by the calls why an update is refused, and `HasCause` by the
+/// counts.
 pub fn update<F: Flash>(alloc: Global, flash: &mut F, stream: &[u8]) -> Result<(), UpdateFault>
     requires { (F.state flash.old).attached ≡ true }
     ensures updated_calls { OnOk result (HasUpdated stream.now (history_of (F.state flash.old)) (history_of (F.state flash.new))) }

@@ -59,8 +59,8 @@ pub trait Flash {
         ensures known_length { ExtentIsLength (state self.new) }
         ensures fits { (state self.new).faults < 2 ^ 64 };
 
-    /// Sets each bit of the sector of this number, counted from 0, to 1. After an error each bit of the sector is
-    /// old or 1.
+    /// Sets each bit of the sector of this number, counted from 0, to 1. After an error each bit of the sector is old
+    /// or 1.
     fn erase(&mut self, sector: u64) -> Result<(), Failed>
         requires attached { (state self.old).attached ≡ true }
         requires within { sector_place sector + sector_size ≤ (state self.old).extent }
@@ -75,8 +75,8 @@ pub trait Flash {
         ensures known_length { ExtentIsLength (state self.new) }
         ensures fits { (state self.new).write_faults < 2 ^ 64 };
 
-    /// Makes each byte from the place on the old byte AND the given one. After an error each bit of the range is
-    /// old or its target.
+    /// Makes each byte from the place on the old byte AND the given one. After an error each bit of the range is old or
+    /// its target.
     fn program(&mut self, place: u64, given: &[u8]) -> Result<(), Failed>
         requires attached { (state self.old).attached ≡ true }
         requires within { place + length given.now ≤ (state self.old).extent }

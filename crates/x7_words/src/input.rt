@@ -55,8 +55,8 @@ pub trait Inputs {
         ensures fits { InputCountsFit (state self.new) };
 
     /// Puts the next bytes of the selected input at the start of the buffer, and answers how many.
-    /// 0 for a buffer that is not empty is the end. After an error no input is selected, and the
-    /// buffer may hold anything: the system promises nothing of it where a read fails.
+    /// 0 for a buffer that is not empty is the end. After an error no input is selected, and the buffer may hold
+    /// anything: the system promises nothing of it where a read fails.
     fn read(&mut self, buf: &mut [u8]) -> Result<usize, Failed>
         requires { (state self.old).selected ≡ true }
         ensures read { IfOk result (λ n. TakesInput (state self.old) (take n buf.new) (state self.new)) }

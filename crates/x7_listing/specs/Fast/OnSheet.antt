@@ -17,8 +17,8 @@ use Rattle.x7_listing.specs.declared.list.pen.state.Pen.TheVariants.{Session}
 abbrev pub table_row_size : ℕ
 table_row_size = 32
 
--- how many bytes the lines of a write of one word have at most, with an open line's end before them: that end, a row,
--- a word's digits and a line end
+-- how many bytes the lines of a write of one word have at most, with an open line's end before them: that end, a row, a
+-- word's digits and a line end
 abbrev pub one_write_lines_size : ℕ
 one_write_lines_size = 1 + table_row_size + 8 + 1
 

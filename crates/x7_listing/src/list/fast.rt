@@ -1,5 +1,5 @@
-//! Short runs of a session, several at a time, put on a sheet first. The lister without this
-//! module lists the same, by the same contract.
+//! Short runs of a session, several at a time, put on a sheet first. The lister without this module lists the same, by
+//! the same contract.
 mod sheet;
 mod short_runs;
 

@@ -15,8 +15,8 @@ fn line_ends(bytes: u8x32) -> u64
     bytes.simd_eq(u8x32::splat(b'\n')).to_bitmask()
 }
 
-/// The text before the first line end, and the text after it: `None` where no line end stands. An end among the
-/// first 32 bytes is seen at once.
+/// The text before the first line end, and the text after it: `None` where no line end stands. An end among the first
+/// 32 bytes is seen at once.
 #[inline(always)]
 pub(crate) fn next_line(text: &[u8]) -> (&[u8], Option<&[u8]>)
     ensures { MatchOption result.1 (split text.now ≡ result.0.now ∷ [])

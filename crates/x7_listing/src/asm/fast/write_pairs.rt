@@ -37,8 +37,8 @@ static REGISTERS: [u8; 64] = [
     19, 13,  9,  0,  0,  7,  0,  0,  0, 29,  4, 15,  0, 22,  0, 20,
 ];
 
-/// The codes of the commands by the places of their names, of which a line end ends
-/// the short one. A place of no name has 0.
+/// The codes of the commands by the places of their names, of which a line end ends the short one. A place of no name
+/// has 0.
 #[rattlefmt::skip]
 static COMMANDS: [u8; 64] = [
      0,  0,  0,  0, 12,  0,  0,  0,  8,  0,  0,  0,  0, 19,  0,  0,
