@@ -9,7 +9,7 @@ from x7bootcause import cause_of_boot, cause_of_svf
 from x7cause import COUNT_BYTES, TAKE_AGAIN, Cause, Kind, Section
 from x7codes import FRAME_BYTES, codes_of
 from x7damage import ADDRESS_LIMIT, cause_of_damage, cause_of_early_end, cause_of_large_count, cause_of_no_zeros
-from x7device import MOST_READS, Device
+from x7device import KEPT, MOST_READS, Device
 from x7files import cause_of_family, cause_of_file, cause_of_header
 from x7frames import FRAME_FAULTS
 from x7layout import begins_with_slots
@@ -20,7 +20,6 @@ from x7watch import cause_of_watchdog, is_reported
 
 # ---- whether report and streams belong together
 
-SAME = ("CTL0", "MASK", "COR0", "AXSS", "COR1", "WBSTAR", "TIMER", "CTL1", "BSPI")
 # faults at a byte that the streams and the IDCODE of the device settle
 SETTLED = ("Id", "Crc", "Packet", "Encrypted")
 
@@ -57,7 +56,7 @@ def cause_of_belonging(subject: Subject) -> Optional[Cause]:
         return cause_of_others(f"{took} and ends as '{' '.join(report.end)}', and {ends}")
     is_there = report.taken == stopped.taken
     played = stopped if is_there else Device(report.registers.get("IDCODE")).play(subject.data[: report.taken])
-    for name in SAME:
+    for name in KEPT:
         if name in report.registers and report.registers[name] != played.registers[name]:
             return cause_of_others(f"has {name} {report.registers[name]:08X}, and these make it "
                                    f"{played.registers[name]:08X}")

@@ -65,9 +65,19 @@ def command_of(word: int) -> str:
     return COMMANDS.get(word & 31, "NULL")
 
 
+def type1_header(kind: str, register: int, count: int) -> int:
+    """The header of a type 1 packet, a "write" or a "read", of at most 2,047 words."""
+    return (0x30000000 if kind == "write" else 0x28000000) + register * 0x2000 + count
+
+
+def type2_header(kind: str, count: int) -> int:
+    """The header of a type 2 packet, a "write" or a "read"."""
+    return (0x50000000 if kind == "write" else 0x48000000) + count
+
+
 def write_packet(register: int, words: Sequence[int]) -> bytes:
     """The bytes of a type 1 write of at most 2,047 words."""
-    return bytes_of([0x30000000 + register * 0x2000 + len(words), *words])
+    return bytes_of([type1_header("write", register, len(words)), *words])
 
 
 # ---- the header of a .bit file
@@ -263,7 +273,7 @@ def head_line(step: Step) -> str:
     word, register = step.word, step.register
     if word == SYNC_WORD:
         return "sync"
-    if register is not None and word & ~0x3E7FF in (0x30000000, 0x28000000):
+    if register is not None and word == type1_header(step.kind, register, step.word_count):
         return f"{step.kind} {REGISTERS[register]} {step.word_count}"
     if register is not None and word >> 29 == 2:
         return f"{step.kind}2 {step.word_count}"
@@ -323,9 +333,16 @@ def listing_of(stream: Stream) -> Iterator[str]:
                 yield line
 
 
-def line_at(stream: Stream, place: int) -> tuple[int, str, str] | None:
-    """The line of `x7 list` that the byte before a place stands in: its number, its text, and the header of its packet
-    where it is a payload's."""
+class ListedLine(NamedTuple):
+    """A line of a listing."""
+
+    number: int
+    text: str
+    head: str  # the packet's header, where the line is of a payload
+
+
+def line_at(stream: Stream, place: int) -> ListedLine | None:
+    """The line of `x7 list` that the byte before a place stands in."""
     number = 1 if stream.header else 0
     for step in steps(stream.data):
         if step.end < place:
@@ -335,11 +352,13 @@ def line_at(stream: Stream, place: int) -> tuple[int, str, str] | None:
             row = (place - step.first - 1) // 32
             first = step.first + 32 * row
             digits = stream.data[first : min(first + 32, step.end)].hex().upper()
-            return number + row + 2, next(rows("data", digits, 64, 8)), head_line(step) if step.kind == "write" else ""
+            head = head_line(step) if step.kind == "write" else ""
+            return ListedLine(number + row + 2, next(rows("data", digits, 64, 8)), head)
         for line, first, after in step_lines(stream.data, step):
             number += 1
             if first < place <= after:
-                return number, line, head_line(step) if first >= step.first and step.kind == "write" else ""
+                is_payload = first >= step.first and step.kind == "write"
+                return ListedLine(number, line, head_line(step) if is_payload else "")
     return None
 
 
@@ -377,7 +396,7 @@ def line_bytes(line: bytes) -> bytes | None:
     number = NUMBERS.get(found[2].decode())
     if number is None or int(found[3]) > 0x7FF:
         return None
-    return ((0x30000000 if found[1] == b"write" else 0x28000000) + number * 0x2000 + int(found[3])).to_bytes(4, "big")
+    return bytes_of([type1_header(found[1].decode(), number, int(found[3]))])
 
 
 def header_of_line(line: bytes) -> Header | None:
@@ -388,6 +407,11 @@ def header_of_line(line: bytes) -> Header | None:
     fields = [b"" if field == b"-" else bytes.fromhex(field.decode()) for field in found.groups()[:4]]
     design, part, date, time = fields
     return Header(design, part, date, time, int(found[5]), len(FIXED) + 17 + sum(map(len, fields)))
+
+
+def lines_of(block: bytes) -> list[bytes]:
+    """The lines of a block, without their ends."""
+    return block[: len(block) - block.endswith(b"\n")].split(b"\n") if block else []
 
 
 def blocks(file: BinaryIO) -> Iterator[bytes]:
@@ -421,7 +445,7 @@ def read_listing(path: str) -> Stream:
             if 4 * count == len(block):
                 data += NOP * count
                 number, block = number + count, b""
-            for line in block[:-1].split(b"\n") if block.endswith(b"\n") else block.split(b"\n") if block else []:
+            for line in lines_of(block):
                 number += 1
                 known = line_bytes(line)
                 if known is not None:
@@ -440,9 +464,8 @@ def read_listing(path: str) -> Stream:
     return Stream(header, with_checks(bytes(data), made))
 
 
-def listed_line_at(path: str, place: int) -> tuple[int, str, str] | None:
-    """The line of a listing that the byte before a place stands in: its number, its text, and the last header before it
-    where it is a payload's."""
+def listed_line_at(path: str, place: int) -> ListedLine | None:
+    """The line of a listing, or of a text for `x7 asm`, that the byte before a place stands in."""
     number, at, head = 0, 0, ""
     with open(path, "rb") as file:
         for block in blocks(file):
@@ -450,14 +473,15 @@ def listed_line_at(path: str, place: int) -> tuple[int, str, str] | None:
             if 4 * count == len(block) and at + 4 * count < place:
                 number, at, head = number + count, at + 4 * count, "nop"
                 continue
-            for line in block.rstrip(b"\n").split(b"\n"):
+            for line in lines_of(block):
                 number += 1
                 size = 8 if line == b"crc" else len(line_bytes(line) or b"")
                 text = line.decode("ascii", "replace")
                 is_payload = line.startswith((b"data ", b"cmd "))
-                head = head if is_payload else text
+                if line and not line.startswith(b"#") and not is_payload:
+                    head = text
                 if at < place <= at + size:
-                    return number, text, head if is_payload else ""
+                    return ListedLine(number, text, head if is_payload else "")
                 at += size
     return None
 

@@ -4,7 +4,7 @@ from __future__ import annotations
 
 import functools
 import os
-from typing import Dict, List, NamedTuple, Optional, Tuple
+from typing import Dict, List, NamedTuple, Optional
 
 import x7formats as x7
 from x7device import Device
@@ -148,12 +148,12 @@ class Subject:
         text = f"byte {at} of the data{f' of {source.name}' if several else ''}"
         if found is None:
             return text
-        number, line, head = found
         whose = "its" if several else "the"
-        return f"{text}, line {number} of {whose} listing: '{line[:60]}'" + (f", of '{head}'" if head else "")
+        head = f", of '{found.head}'" if found.head else ""
+        return f"{text}, line {found.number} of {whose} listing: '{found.text[:60]}'{head}"
 
     @staticmethod
-    def line(source: Source, at: int) -> Optional[Tuple[int, str, str]]:
+    def line(source: Source, at: int) -> Optional[x7.ListedLine]:
         """The line of a stream's listing that the byte before a place stands in."""
         return x7.listed_line_at(source.path, at) if source.is_listing else x7.line_at(
             x7.Stream(source.header, source.data), at,

@@ -7,7 +7,7 @@ from typing import NamedTuple, NoReturn, Sequence
 from x7asked import whole
 from x7formats import (
     CMD, COR0, CRC, CTL0, CTL1, CODES, FAR, FDRI, IDCODE, MASK, MFWR, NOP, SYNC, Refused, Step, StepKind, bytes_of,
-    payload, steps, with_checks, write_packet,
+    payload, steps, type1_header, type2_header, with_checks, write_packet,
 )  # fmt: skip
 from x7partfile import fields_of_far
 
@@ -141,9 +141,9 @@ class StreamWriter:
         """Frame data, by a type 1 packet where their number fits it."""
         count = len(data) // 4
         if count < 1 << 11:
-            self.data += bytes_of([0x30000000 + FDRI * 0x2000 + count])
+            self.data += bytes_of([type1_header("write", FDRI, count)])
         else:
-            self.data += bytes_of([0x30000000 + FDRI * 0x2000, 0x50000000 + count])
+            self.data += bytes_of([type1_header("write", FDRI, 0), type2_header("write", count)])
         self.data += data
 
 

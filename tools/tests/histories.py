@@ -66,7 +66,7 @@ class Maker:
             return [f"{kind} {register} {first}", *["nop"] * self.rng.choice([0, 0, 2]), f"{kind}2 {count}"]
         if way < 0.3:
             bits = self.rng.getrandbits(32) & 0x07FC1800
-            return [f"word {(0x28000000 if kind == 'read' else 0x30000000) | bits | number << 13 | count:08X}"]
+            return [f"word {x7.type1_header(kind, number, count) | bits:08X}"]
         return [f"{kind} {register} {count}"]
 
     def write(self, register: str, words: list[int]) -> Piece:

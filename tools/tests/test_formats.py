@@ -119,8 +119,19 @@ def lines() -> None:
     for place in range(1, len(raw) + 1):
         one, other = x7.line_at(stream, place), x7.listed_line_at(path, place)
         assert one and other, f"a line holds byte {place}"
-        tally.same(f"line at {place}", one[:2], other[:2])
-        tally.same(f"text at {place}", one[1], listed[one[0] - 1])
+        tally.same(f"line at {place}", one, other)
+        tally.same(f"text at {place}", one.text, listed[one.number - 1])
+
+
+def noted_lines() -> None:
+    """In a text for `x7 asm` a comment or an empty line is no packet's header, and counts as a line, also at the end of
+    a block."""
+    path = in_file(b"sync\nwrite FDRI 1\n# note\n\ndata 00000001\n")
+    tally.same("a line after a comment", x7.listed_line_at(path, 12), x7.ListedLine(5, "data 00000001", "write FDRI 1"))
+    # the first block ends with an empty line
+    ahead = b"#" * ((1 << 20) - 1) + b"\n\n"
+    path = in_file(ahead + b"sync\n")
+    tally.same("a line after a block", x7.listed_line_at(path, 4), x7.ListedLine(3, "sync", ""))
 
 
 with tempfile.TemporaryDirectory() as FOLDER:
@@ -137,4 +148,5 @@ with tempfile.TemporaryDirectory() as FOLDER:
     checks()
     names()
     lines()
+    noted_lines()
 tally.end()

@@ -297,6 +297,13 @@ def check_clauses(tally: Tally) -> None:
     for page, crate, text in pages:
         check_claims(tally, page, crate, text, parts)
         check_names(tally, page, crate, text, parts)
+    unsaid = text_of("docs", "PROOFS.md").partition("## What no clause says")[2].partition("\n## ")[0]
+    found = list(claims_of(unsaid))
+    tally.check("what no clause says names clauses", len(found) > 3, unsaid)
+    for claimed, names in found:
+        for it in claimed:
+            is_there = any(it in known.get(name, ()) for known in parts.values() for name in names)
+            tally.check(f"PROOFS, what no clause says: {it} of {' or '.join(names)}", is_there, names)
 
 
 def check_libraries(tally: Tally) -> None:

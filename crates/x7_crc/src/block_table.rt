@@ -1,7 +1,8 @@
 //! The tables for four words at once (this project's choice): the check of a byte after bits of 0, a table for each
 //! place of a byte. A write moves the check by 37 bits: 32 of its word and 5 of its register's number. So the lowest
 //! byte of the last word is moved by 37 bits, that of the word before by 74, and each higher byte of a word by eight
-//! bits fewer. Each entry is a computed fact.
+//! bits fewer. Entry k of a table is `advanced n k` (specs/ShiftRegister), n the bits of 0 that are named above that
+//! table. The prover computes each entry again (`all_have_advances`).
 
 /// For each byte of the first of four words: what it is in the check after 124 (highest byte), 132, 140 and 148 (lowest
 /// byte) bits of 0 more.

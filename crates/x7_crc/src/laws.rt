@@ -10,7 +10,7 @@ ghost use Rattle.x7_crc.specs.Check.{bits_of_writes, check_after, check_of, chec
 
 /// The check of writes is a number of 32 bits; mirrored, it is the remainder, by the polynomial of CRC-32C, of the
 /// writes' bits times x^32. The check of writes after an earlier check is, mirrored, the remainder of their `dividend`,
-/// in which the earlier check counts; no other number of 32 bits is.
+/// in which the earlier check counts. It is the only number of 32 bits of which that holds (`unique`).
 pub fn checks_are_remainders()
     ensures most { (before : ℕ) (writes : List RegisterWrite) → check_after before writes < 2 ^ 32 }
     ensures remainder { (writes : List RegisterWrite)

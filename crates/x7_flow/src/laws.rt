@@ -36,8 +36,9 @@ pub fn flows_go_by_settings()
     ensures settings { (idcode : ℕ) (e : Entry) (h : History) → settings_of idcode (e ∷ h) ≡ settings_after idcode e.access (settings_of idcode h) }
 {}
 
-/// A later history goes on from the settings and the flow of the earlier one. The memory of both together is the
-/// earlier one's with the pairs put over it that the later one puts, also where a FAR load stands between the two.
+/// A later history goes on from the settings and the flow that the earlier one left. The memory of both is the earlier
+/// one's, with the frames that the later one puts over it. The same holds where a FAR load stands between the two
+/// (`loaded`).
 pub fn later_histories_override()
     ensures settings { (idcode : ℕ) (later earlier : History) → settings_of idcode (later ++ earlier) ≡ settings_from idcode (settings_of idcode earlier) later }
     ensures flow { (part : PartData) (later earlier : History) → flow_of part (later ++ earlier) ≡ flow_from part (settings_of part.idcode earlier) (flow_of part earlier) later }

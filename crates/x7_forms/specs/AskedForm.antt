@@ -1,5 +1,5 @@
--- What the command's words ask for: one of fifteen forms, which have the names of `Form` (`src/form.rt`) and are written
--- behind `form`, the name that their users give this module (this project's choice).
+-- What the words of a command ask for, with the names in them (this project's choice). The constructors are named as
+-- the variants of `Form` (`src/form.rt`). A file that uses them imports this module `as form`, and writes `form.List`.
 use Rattle.std.specs.Prelude.{ℕ, List as ListOf}
 
 -- what the words ask for, with the names that they give; `far` is a frame address, `slot_count` a number of slots to

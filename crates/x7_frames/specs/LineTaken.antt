@@ -27,7 +27,7 @@ pub record IsAdded (part : PartData) (line : List ℕ) (old new : List PlanRow) 
 abbrev pub TakesLine : PartData → List ℕ → List PlanRow → List PlanRow → Type 0
 TakesLine part line old new = ((means_nothing line ≡ true) × (new ≡ old)) ⊎ IsAdded part line old new
 
--- a line is good after lines of these rows
+-- a line that can be taken after lines which gave these rows: some rows are what it leaves
 abbrev pub IsGoodLine : PartData → List PlanRow → List ℕ → Type 0
 IsGoodLine part rows line = (new : List PlanRow) × TakesLine part line rows new
 

@@ -18,6 +18,7 @@ marked_other marks j v p h = ap (λ (m : ℕ). bit_at m (p % 16) == 1) (get_or-s
 marked_same : (marks : List ℕ) (j v p : ℕ) → j < length marks → p / 16 ≡ j → is_marked (set marks j v) p ≡ (bit_at v (p % 16) == 1)
 marked_same marks j v p h e = ap (λ (m : ℕ). bit_at m (p % 16) == 1) (ap (λ (k : ℕ). get_or (set marks j v) k 0) e ∙ get_or-set_same marks j v 0 h)
 
+-- a place outside a range stays as it was when the range is marked, and one inside it is marked
 outside : (b c : Bool) (from to p : ℕ) → b ≡ c → (p < from) ⊎ (to ≤ p) → b ≡ (if nat_le from p && nat_lt p to then true else c)
 outside b c from to p e (inl h) = e ∙ grind (arith, common_steps)
 outside b c from to p e (inr h) = e ∙ grind (arith, common_steps)
@@ -83,6 +84,7 @@ pub covered_within : (xs : List DataRecord) (p : ℕ) → extent xs ≤ p → co
 covered_within [] p h = refl
 covered_within (x ∷ xs) p h = ap₂ (λ (a b : Bool). a || b) (covers_within x p (omega arith)) (covered_within xs p (omega arith))
 
+-- from the end of the bytes on, no record covers a place
 pub past_is_free : (xs : List DataRecord) (bytes marks : List ℕ) → HoldsRecords xs bytes marks → (p n : ℕ) → length bytes ≤ p → overlap xs p n ≡ None
 past_is_free xs bytes marks h p n l = overlap_none xs p n (λ k i j. covered_within xs k (omega (arith, h.long)))
 

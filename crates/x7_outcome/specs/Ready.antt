@@ -1,5 +1,5 @@
--- The answer of each kind of text that is ready: its bytes, and whether what it reports stopped (this project's
--- choice).
+-- The answer of each kind of text that is ready: its bytes, and whether the command then ends with `Status::Stopped`
+-- (this project's choice).
 use Rattle.std.specs.Prelude.{ℕ, List, Vec, false}
 use Rattle.std.specs.declared.alloc.Global.{Global}
 use Rattle.x7_mcs.specs.Text.{mcs_text}

@@ -14,10 +14,11 @@ use x7_words::{Failed, Sink, write_all};
 
 /// A text that is ready: what it is made of was read and judged, and writing it takes no memory.
 pub trait Ready {
-    /// The text, and whether what it reports stopped (`Status::Stopped`).
+    /// The text, and whether the command then ends with `Status::Stopped`: the device that it reports stopped at a
+    /// fault, a scan differed, or no attempt of a boot started.
     ghost answer: { Self → Answer };
 
-    /// Whether what it reports stopped (`Status::Stopped`).
+    /// Whether the command then ends with `Status::Stopped`.
     fn is_stopped(&self) -> bool
         ensures { result ≡ (answer self.now).stopped };
 
@@ -29,10 +30,10 @@ pub trait Ready {
         ensures no_fault { OnOk result ((O.state out.new).faults ≡ (O.state out.old).faults) };
 }
 
-/// A text that was made whole, and whether what it reports stopped (`Status::Stopped`).
+/// A text that was made whole.
 #[derive(Drop)]
 pub struct Text {
-    /// Whether what it reports stopped.
+    /// Whether the command then ends with `Status::Stopped`.
     pub stopped: bool,
     /// The bytes of the text.
     pub text: Vec<u8>,

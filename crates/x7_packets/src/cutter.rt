@@ -390,6 +390,7 @@ impl Cutter {
         let step = self.machine.take(w);
         self.count = 0;
         self.stage = stage_after_word(step.is_end());
+        // for the gap that begins where this word ended the session; within a session nobody looks at it
         self.matcher = Matcher::new();
         match step {
             Step::Payload(register, _) => Cut::Word(register, w),

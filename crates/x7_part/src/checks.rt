@@ -49,8 +49,7 @@ fn is_allowed(rule: KeyRule, table: &Table) -> bool
     }
 }
 
-/// Refuses the first of the keys that the table lacks, though it is required, or that has a value of another type
-/// there.
+/// Refuses the first of `keys` that is required and missing, or under which the table has a value of another type.
 fn check_types(row: Option<u32>, keys: &[KeyRule], table: &Table) -> Result<(), PartFault>
     ensures { result_err result ≡ types_fault row keys.now (table_view table.now) }
 {
@@ -94,7 +93,7 @@ pub(crate) enum Check {
     Names,
 }
 
-/// The check of one table, the top one or that of a row.
+/// Checks one table: the top one, or that of a row.
 fn check_table(
     check: Check,
     row: Option<u32>,

@@ -21,15 +21,15 @@ frames_of width [] = []
 frames_of width (w ∷ run) =
     if length (rest_of width run) + 1 == width then (rest_of width run ++ w ∷ []) ∷ frames_of width run else frames_of width run
 
--- a run to which words were written, the oldest first
+-- the run after these words, the oldest of which come first, were written to it
 abbrev pub onto : List ℕ → List ℕ → List ℕ
 onto [] run = run
 onto (w ∷ words) run = onto words (w ∷ run)
 
 -- ---- where frames land
 
--- pairs, with that of a frame before them where its slot is an address: at a pad and past the last slot it lands
--- nowhere
+-- the pairs with one more in front, where the slot is an address; the same pairs where it is a pad or past the last
+-- slot
 abbrev pub at_slot : Slot → List ℕ → List PlanRow → List PlanRow
 at_slot (Frame far) words pairs = record { far = far; words = words } ∷ pairs
 at_slot Pad words pairs = pairs

@@ -56,7 +56,8 @@ fn play_rest<'w, I: Inputs>(
 }
 
 /// Plays the data of a stream of at most `limit` bytes, its header included, and answers how many of these it leaves.
-/// The limit comes before the header, so a stream whose header is refused is read to its end too.
+/// A stream over its limit is refused for that, whatever its header says. So one whose header is bad is read to its end
+/// first.
 fn play_stream<'w, I: Inputs>(
     player: &mut Player,
     inputs: &mut I,

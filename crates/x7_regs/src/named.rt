@@ -11,7 +11,7 @@ use crate::name::{command_name, name_of};
 use x7_words::is_same;
 
 /// How many bytes a text that is looked up has at least: a place in a table is made of the first two bytes, the last
-/// and the length. Each name has three or more.
+/// and the length. Each name has at least as many.
 const SHORTEST_NAME: usize = 2;
 
 /// How many bytes a name of either table has at most: the longest is that of a command.

@@ -44,9 +44,10 @@ pub(crate) fn begin_report(
 }
 
 /// The report of a device and of the words that it read out (this project's choice). Its lines are `part NAME`;
-/// `taken N`, how many bytes it took; `end` and where these end; `phase P done D gts G gwe E`; and fifteen lines
-/// `reg NAME WORD`. Then come `reads N` and the words in `data` lines of eight, and `frames N` and the `frame` lines of
-/// all frames that have a word other than 0. While words of frame data are due, FAR is that of the words given so far.
+/// `taken N`, how many bytes it took; `end` and where these end; `phase P done D gts G gwe E`; and a line
+/// `reg NAME WORD` for each shown register. Then come `reads N` and the words in `data` lines of eight, and `frames N`
+/// and the `frame` lines of all frames that have a word other than 0. While words of frame data are due, FAR is that of
+/// the words given so far.
 pub fn report(alloc: Global, device: &Device, reads: &[u32]) -> Result<Vec<u8>, NoMemory>
     ensures value { IfOk result (λ text. ForEachPast device.now (λ p. NoWordDue device.now
         → text.items ≡ report_text p.part (state_at p) reads.now (memory_at p))) }

@@ -99,8 +99,8 @@ pub record StoresAt (lock_ticks match_ticks : ℕ) (s : StartupState) (progress 
   pub ticks_are : s.ticks ≡ min (ticks_of progress) tick_limit
   pub phase_is : IsPhaseOf lock_ticks match_ticks progress s.phase
 
--- What is stored stands for the calls: each stored value is what the list of all calls so far comes to, each byte of
--- which was taken with these ticks to lock and to match.
+-- A stored value stands for the calls: it is what the list of all calls so far comes to. Each byte was taken with these
+-- ticks to lock and to match.
 pub record StandsForCalls (lock_ticks match_ticks : ℕ) (s : StartupState) (calls : List Call) : Type 0 where
   pub armed_is : s.armed ≡ is_armed false (since_shutdown calls)
   pub stores : StoresAt lock_ticks match_ticks s (progress_of calls)

@@ -226,8 +226,8 @@ fn statement_by(source: &mut Source, key: Span) -> Option<StoredStatement>
     words_statement(source, key)
 }
 
-/// The statement that comes next, up to its `;`; none where it is bad. Its keyword, and the digits of a scan or the
-/// words of another but FREQUENCY, are saved.
+/// The statement that comes next, up to its `;`; none where it is bad. Its keyword is saved; of a scan also the digits,
+/// of another statement its words, of FREQUENCY neither.
 fn statement(source: &mut Source) -> Option<StoredStatement>
     ensures says { IsStored source.new.saved result (statement_of (tokens_before_end (tokens_left source.old))) }
     ensures reads_on { IfSome result (λ s. ReadsOn source.old source.new) }

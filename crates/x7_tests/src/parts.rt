@@ -23,91 +23,97 @@ fn slots_from(part: &Part, far: u32) -> Option<u64> {
     Some(part.slots_from(far))
 }
 
-/// What the tiny part answers: the address after each of three, the ranks of two, and the addresses of two ranks.
-#[rattlefmt::skip]
-fn answers(part: &Part) -> [Option<u32>; 7] {
-    [
-        part.next(0x0000_0001), // after the last address of the top row
-        part.next(0x0040_0001), // after the part's last address
-        part.next(0x0000_0002), // after what is no address
-        part.rank(0x0040_0000), // of the first address of the bottom row
-        part.rank(0x0000_0002), // of what is no address
-        part.address(2),        // the third address
-        part.address(4),        // past the last one
-    ]
+/// What a part answers, beside what it should: an address, a rank or a number; none where there is none.
+type Answer = (Option<u32>, Option<u32>);
+
+/// A slot that a part answers, beside the one that it should; none where the part lacks the address.
+type SlotAnswer = (Option<Slot>, Option<Slot>);
+
+/// Whether each answer is the one that it should be.
+fn are_right(answers: &[Answer]) -> bool {
+    for (is, wanted) in answers {
+        if is != wanted {
+            return false;
+        }
+    }
+    true
 }
 
-/// Slots 0 to 3 from the last address of the tiny part's top row on, and slot 8 from its first address on.
-#[rattlefmt::skip]
-fn slots(part: &Part) -> [Option<Slot>; 5] {
-    [
-        slot_from(part, 0x0000_0001, 0),
-        slot_from(part, 0x0000_0001, 1),
-        slot_from(part, 0x0000_0001, 2),
-        slot_from(part, 0x0000_0001, 3),
-        slot_from(part, 0x0000_0000, 8),
-    ]
+/// Whether each slot is the one that it should be.
+fn are_right_slots(answers: &[SlotAnswer]) -> bool {
+    for (is, wanted) in answers {
+        if is != wanted {
+            return false;
+        }
+    }
+    true
 }
 
-/// What the tiny part answers, its slots, and the number of slots from its second address on; none where the part is
-/// refused.
-fn tiny_answers(alloc: Global) -> Option<([Option<u32>; 7], [Option<Slot>; 5], Option<u64>)> {
+/// Whether the tiny part has its addresses and ranks in order. It has two rows of two addresses each.
+#[rattlefmt::skip]
+fn has_answers(part: &Part) -> bool {
+    let bottom = Some(0x0040_0000); // the first address of the bottom row
+    are_right(&[
+        (part.next(0x0000_0001), bottom),  // after the last address of the top row
+        (part.next(0x0040_0001), None),    // after the part's last address
+        (part.next(0x0000_0002), None),    // after what is no address
+        (part.rank(0x0040_0000), Some(2)), // of the first address of the bottom row
+        (part.rank(0x0000_0002), None),    // of what is no address
+        (part.address(2), bottom),         // the third address
+        (part.address(4), None),           // past the last one
+    ])
+}
+
+/// Whether the tiny part has its slots in order. Two pads stand after each row; four frames and four pads are all.
+#[rattlefmt::skip]
+fn has_slots(part: &Part) -> bool {
+    let last = 0x0000_0001; // the last address of the top row
+    are_right_slots(&[
+        (slot_from(part, last, 0), Some(Slot::Frame(last))),
+        (slot_from(part, last, 1), Some(Slot::Pad)),
+        (slot_from(part, last, 2), Some(Slot::Pad)),
+        (slot_from(part, last, 3), Some(Slot::Frame(0x0040_0000))), // the first of the bottom row
+        (slot_from(part, 0x0000_0000, 8), Some(Slot::End)),         // after all eight
+    ])
+}
+
+/// Whether the tiny part is taken, and has its addresses, ranks and slots in order.
+fn is_tiny_in_order(alloc: Global) -> bool {
     match part_of(alloc, TINY) {
-        Ok(part) => Some((answers(&part), slots(&part), slots_from(&part, 0x0000_0001))),
-        Err(_) => None,
+        // all eight slots but that of the first address stand from the second one on
+        Ok(part) => has_answers(&part)
+            && has_slots(&part)
+            && slots_from(&part, 0x0000_0001) == Some(7),
+        Err(_) => false,
     }
 }
 
 #[test]
 fn two_rows_have_their_addresses_ranks_and_slots_in_order(rt: HostRuntime) {
-    // the first address of the bottom row, whose rank is 2
-    let third = Some(0x0040_0000);
-    let answers = [third, None, None, Some(2), None, third, None];
-    // two pads stand after each row; four frames and four pads are all slots
-    let pad = Some(Slot::Pad);
-    let slots = [
-        Some(Slot::Frame(0x0000_0001)),
-        pad,
-        pad,
-        Some(Slot::Frame(0x0040_0000)),
-        Some(Slot::End),
-    ];
-    // all eight slots but that of the first address
-    assert!(rt; tiny_answers(rt.alloc()) == Some((answers, slots, Some(7))));
+    assert!(rt; is_tiny_in_order(rt.alloc()));
 }
 
-/// What a copy of the part of the columns answers: its IDCODE and the number of its frames, the address after each of
-/// two, the ranks of two, and the address of the last rank.
+/// Whether a copy of the part of the columns has its IDCODE, its frames, and its addresses and ranks in order.
 #[rattlefmt::skip]
-fn copy_answers(alloc: Global) -> Option<[Option<u32>; 7]> {
+fn is_copy_in_order(alloc: Global) -> bool {
     let Ok(part) = part_of(alloc, COLUMNS) else {
-        return None;
+        return false;
     };
     let Ok(copy) = part.copy(alloc) else {
-        return None;
+        return false;
     };
-    Some([
-        Some(copy.idcode()),
-        Some(copy.frames()),
-        copy.next(0x0000_0029), // after the last frame of column 0
-        copy.next(0x0000_021B), // after the last frame of block type 0
-        copy.rank(0x0080_0000), // of the first frame of block type 1
-        copy.rank(0x0080_007F), // of the part's last frame
-        copy.address(299),      // the last one
+    are_right(&[
+        (Some(copy.idcode()), Some(1)),
+        (Some(copy.frames()), Some(300)),
+        (copy.next(0x0000_0029), Some(0x0000_0080)), // after column 0 comes column 1
+        (copy.next(0x0000_021B), Some(0x0080_0000)), // after block type 0 comes block type 1
+        (copy.rank(0x0080_0000), Some(172)),         // as many frames have block type 0
+        (copy.rank(0x0080_007F), Some(299)),         // of the part's last frame
+        (copy.address(299), Some(0x0080_007F)),      // the last one
     ])
 }
 
 #[test]
-#[rattlefmt::skip]
 fn a_copy_has_the_addresses_of_all_columns_and_block_types(rt: HostRuntime) {
-    let wanted = [
-        Some(1),           // the IDCODE
-        Some(300),         // the number of frames
-        Some(0x0000_0080), // the first frame of column 1
-        Some(0x0080_0000), // the first frame of block type 1
-        Some(172),         // as many frames have block type 0
-        Some(299),
-        Some(0x0080_007F),
-    ];
-    assert!(rt; copy_answers(rt.alloc()) == Some(wanted));
+    assert!(rt; is_copy_in_order(rt.alloc()));
 }
