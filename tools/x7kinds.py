@@ -255,7 +255,7 @@ WHOLE_WAYS = [
 ]
 
 
-def reads(data: bytes) -> bool:
+def is_stream(data: bytes) -> bool:
     """Whether the data have a sync word, and after it begins what a stream begins with: packets, one of which is of CMD
     or IDCODE."""
     at = data.find(x7.SYNC)
@@ -284,9 +284,9 @@ def turning_of(data: bytes) -> Optional[Turned]:
     beginning = data[:JUDGED]
     for way in WAYS:
         for offset in range(way.size):
-            if reads(beginning[:offset] + way.back(beginning[offset:])):
+            if is_stream(beginning[:offset] + way.back(beginning[offset:])):
                 return Turned(way, offset)
-    return next((Turned(way, 0) for way in WHOLE_WAYS if reads(way.back(data[-JUDGED:]))), None)
+    return next((Turned(way, 0) for way in WHOLE_WAYS if is_stream(way.back(data[-JUDGED:]))), None)
 
 
 def late_by(data: bytes) -> Optional[int]:

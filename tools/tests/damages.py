@@ -690,7 +690,7 @@ def judged(damage: Damage, status: int, text: str, most: int) -> str:
         return "unknown"
     if status == 0 and damage.status == 1:
         return "nothing"
-    if damage.part and status == 1 and re.search(damage.part, text):
+    if damage.weaker and status == 1 and re.search(damage.weaker, text):
         return "part"
     if re.search(damage.right, text):
         return "part"
