@@ -60,7 +60,7 @@ def orders_of(data: bytes) -> Iterator["tuple[int, int, bytes]"]:
     """Pairs of lines that may be exchanged, each with the data in their order. None is past all that isn't FF."""
     end = len(data.rstrip(b"\xff"))
     for one, other in combinations(range(len(data).bit_length() - 1), 2):
-        if end > 1 << other and x7kinds.reads(exchanged_prefix(data, one, other)):
+        if end > 1 << other and x7kinds.is_stream(exchanged_prefix(data, one, other)):
             turned = exchanged_places(data, one, other)
             if turned != data and steps_well(turned):
                 yield one, other, turned

@@ -334,7 +334,7 @@ def cause_of_later_stream(source: Source) -> Optional[Cause]:
     if header >= 0:
         text = f"the stream is cut off at byte {header}, where the header of a second one begins, which is whole"
         return Cause(Kind.CUT, text, "give the second one alone", Section.EARLY_END, source.first + header, source)
-    if x7kinds.reads(data[:at]):
+    if x7kinds.is_stream(data[:at]):
         text = f"the stream is cut off before the sync word at byte {at}, from which on a second one is whole"
         return Cause(Kind.CUT, text, "give the second one alone", Section.EARLY_END, source.first + at, source)
     text = (

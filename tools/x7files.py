@@ -40,7 +40,7 @@ def cause_of_file(source: Source) -> Optional[Cause]:
     data = source.data
     if not data:
         return cause_of_empty(source)
-    has_sync, reads = x7.SYNC in data, x7kinds.reads(data)
+    has_sync, reads = x7.SYNC in data, x7kinds.is_stream(data)
     kind = x7kinds.kind_of(data) if not source.header else None
     if kind and (x7kinds.packed_kind_of(data) or not has_sync or not reads):
         return unsynced(Kind.OTHER_FILE, f"{'' if has_sync else 'no sync word: '}{kind.what}", kind.remedy, source)

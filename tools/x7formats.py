@@ -391,8 +391,8 @@ def line_bytes(line: bytes) -> bytes | None:
     if found[6]:
         return bytes.fromhex(found[6].decode())
     if found[4]:
-        first, count, most = 0x50000000 if found[4] == b"write" else 0x48000000, int(found[5]), 0x7FFFFFF
-        return (first + count).to_bytes(4, "big") if count <= most else None
+        count = int(found[5])
+        return bytes_of([type2_header(found[4].decode(), count)]) if count <= 0x7FFFFFF else None
     number = NUMBERS.get(found[2].decode())
     if number is None or int(found[3]) > 0x7FF:
         return None

@@ -24,8 +24,16 @@ class Magic(NamedTuple):
     """How a kind of file is known."""
 
     place: int  # of the bytes by which it is known
-    begins: bytes
-    what: str  # it is
+    begins: bytes  # these bytes
+    what: str  # the file is, as a sentence
+    remedy: str  # what to do
+
+
+class Recoded(NamedTuple):
+    """How a stream is known whose bytes were recoded: by bytes anywhere among the first `SEARCHED` ones."""
+
+    begins: bytes  # what became of its sync word
+    what: str  # was done to it, as a sentence
     remedy: str  # what to do
 
 
@@ -46,8 +54,12 @@ PACKED = [
     (b"\x04\x22\x4d\x18", "an lz4 file", "lz4 -dc"),
     (b"LZIP", "an lzip file", "lzip -dc"),
 ]
+# A boot image of a Zynq-7000, by the name of its maker in either order of bytes.
+ZYNQ = (b"XNLX", b"XLNX")
+A_BOOT_IMAGE = "it is a boot image of a Zynq-7000 (BOOT.BIN), in which a stream is one of several partitions"
 MAGIC = [
     *(Magic(0, begins, f"it is {what}", f"{program} FILE > NEW") for begins, what, program in PACKED),
+    *(Magic(0x24, begins, A_BOOT_IMAGE, "give the .bit file that the image was made from") for begins in ZYNQ),
     Magic(0, b"PK\x03\x04", "it is a zip file", "unzip it"),
     Magic(0, b"7z\xbc\xaf\x27\x1c", "it is a 7z file", "7z x FILE"),
     Magic(0, b"Rar!\x1a\x07", "it is a rar file", "unrar x FILE"),
@@ -121,26 +133,22 @@ DIGITS = [
 # what `xxd` writes where nothing is asked of it: a place, a colon, halfwords, and characters
 OF_XXD = re.compile(rb"[0-9a-f]{8}: (?:[0-9A-Fa-f]{4} ){1,7}[0-9A-Fa-f]{2,4} +.{1,16}\r?\n")
 RECODED = [
-    Magic(
-        0,
+    Recoded(
         b"\xc2\xaa\xc2\x99\x55\x66",
         "its bytes were recoded as a text, from Latin-1 to UTF-8",
         "iconv -f UTF-8 -t LATIN1 FILE > NEW; or take it again, as binary",
     ),
-    Magic(
-        0,
+    Recoded(
         b"\xaa\0\x99\0\x55\0\x66\0",
         "its bytes were recoded as a text, to UTF-16",
         "iconv -f UTF-16LE -t LATIN1 FILE > NEW; or take it again, as binary",
     ),
-    Magic(
-        0,
+    Recoded(
         b"\xef\xbf\xbd\xef\xbf\xbdUf",
         "its bytes were recoded as a text, and those that no text has are lost",
         "take the file again, as binary",
     ),
-    Magic(
-        0,
+    Recoded(
         b"\x2a\x19\x55\x66",
         "the highest bit of each byte is lost, as on a line of seven bits",
         "take the file again, over a line of eight bits",
@@ -165,9 +173,6 @@ def kind_of(raw: bytes) -> Optional[Other]:
     packed = packed_kind_of(raw)
     if packed:
         return packed
-    if raw[0x24:0x28] in (b"XNLX", b"XLNX"):
-        what = "it is a boot image of a Zynq-7000 (BOOT.BIN), in which a stream is one of several partitions"
-        return Other(what, "give the .bit file that the image was made from")
     for it in RECODED:
         if it.begins in raw[:SEARCHED] and x7.SYNC not in raw[:SEARCHED]:
             return Other(it.what, it.remedy)
@@ -215,8 +220,8 @@ def exchanged(data: bytes, size: int, order: Sequence[int]) -> bytes:
 class Way(NamedTuple):
     """How bits, bytes or words were turned."""
 
-    what: str  # was turned
-    how: str  # it was
+    what: str  # what was turned
+    how: str  # how it was turned: swapped, inverted
     size: int  # of the groups of bytes in which it was; 0 of the file as a whole
     back: Callable[[bytes], bytes]  # the way back
 
@@ -250,7 +255,7 @@ WHOLE_WAYS = [
 ]
 
 
-def reads(data: bytes) -> bool:
+def is_stream(data: bytes) -> bool:
     """Whether the data have a sync word, and after it begins what a stream begins with: packets, one of which is of CMD
     or IDCODE."""
     at = data.find(x7.SYNC)
@@ -279,9 +284,9 @@ def turning_of(data: bytes) -> Optional[Turned]:
     beginning = data[:JUDGED]
     for way in WAYS:
         for offset in range(way.size):
-            if reads(beginning[:offset] + way.back(beginning[offset:])):
+            if is_stream(beginning[:offset] + way.back(beginning[offset:])):
                 return Turned(way, offset)
-    return next((Turned(way, 0) for way in WHOLE_WAYS if reads(way.back(data[-JUDGED:]))), None)
+    return next((Turned(way, 0) for way in WHOLE_WAYS if is_stream(way.back(data[-JUDGED:]))), None)
 
 
 def late_by(data: bytes) -> Optional[int]:

@@ -151,7 +151,7 @@ def orders_of(data: bytes) -> Iterator[List[int]]:
 
 def begins_well(data: bytes) -> bool:
     """Whether data begin as a stream."""
-    return x7kinds.reads(data[:JUDGED])
+    return x7kinds.is_stream(data[:JUDGED])
 
 
 def exchanged(data: bytes, is_stream: Judge) -> Optional[Wires]:
@@ -192,7 +192,7 @@ def inverted(data: bytes) -> Optional[Wires]:
     for bits in [[bit] for bit in range(8)] + [[bit, bit + 4] for bit in range(4)]:
         mask = sum(1 << bit for bit in bits)
         table = bytes(byte ^ mask for byte in range(256))
-        if has_beginning(data, table) and x7kinds.reads(data[:JUDGED].translate(table)):
+        if has_beginning(data, table) and x7kinds.is_stream(data[:JUDGED].translate(table)):
             are = "is" if len(bits) == 1 else "are"
             return Wires(f"{listed(bits)} of each byte {are} inverted: a data line", "look at that line")
     return None

@@ -17,7 +17,7 @@ class Damage(NamedTuple):
     files: Files  # what `why` is given, one after the other
     right: str  # a pattern of what is right to say
     status: int  # what `why` ends with
-    part: str  # a pattern of what is true and says less
+    weaker: str  # a pattern of what is true and says less
 
 
 class Good:
@@ -140,9 +140,9 @@ def exchanged_places(data: bytes, one: int, other: int) -> bytes:
     return bytes(moved)
 
 
-def row(name: str, files: Files, right: str, status: int = 1, part: str = "") -> Damage:
+def row(name: str, files: Files, right: str, status: int = 1, weaker: str = "") -> Damage:
     """A kind of damage of which it is said that something is wrong."""
-    return Damage(name, files, right, status, part)
+    return Damage(name, files, right, status, weaker)
 
 
 # What is true of lost and added words, and says less than their number.

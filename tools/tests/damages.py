@@ -18,6 +18,7 @@ from typing import Callable, Iterator, List
 from casefiles import header  # (casefiles puts the tools on the path)
 from damaged import LOOSE, Damage, Good, cut_out, each_byte, exchanged_bits, exchanged_places, flip, put, put_in, row
 from damaged import with_codes
+from x7codes import FRAME_BYTES
 import x7formats as x7
 import x7kinds
 
@@ -36,8 +37,11 @@ def cuts(g: Good) -> List[Damage]:
         found.append(row(f"cut {name}, no header", [g.data[:place]], right))
     found.append(row("cut after the header", [g.head], "cut off right after its header"))
     found.append(row("cut in startup", [g.bit(g.data[: g.desync + 16])], "end in phase 3"))
-    found.append(row("cut, then the next copy", [g.bit(g.data[: g.middle]) + g.raw], r"second header|cut off|another "
-                                                                                     r"(header|stream)"))
+    found.append(row(
+        "cut, then the next copy",
+        [g.bit(g.data[: g.middle]) + g.raw],
+        r"second header|cut off|another (header|stream)",
+    ))
     return found
 
 
@@ -110,15 +114,17 @@ def lines(g: Good) -> List[Damage]:
 
 
 def with_line_ends(g: Good) -> bytes:
-    """The data of the stream with 0D 0A in it: its own, or a few that are put into its frames, the codes of the frames
-    and the checks made anew."""
+    """The stream's data, which have 0D 0A in them. Where the stream has none, three frames get one each, and their
+    codes and the checks are made anew."""
     if g.data.count(b"\r\n") > 1:
         return g.data
     data = g.data
     for part in range(1, 4):
-        place, at = g.frames.first + g.frames.present // 101 * part // 4 * 404, 100 * part + 21
-        frame = data[place : place + at] + b"\r\n" + data[place + at + 2 : place + 404]
-        data = data[:place] + with_codes(frame) + data[place + 404 :]
+        frame_count = g.frames.present // x7.FRAME_WORDS
+        place = g.frames.first + frame_count * part // 4 * FRAME_BYTES
+        at = 100 * part + 21  # within a word, and not in the code's
+        frame = data[place : place + at] + b"\r\n" + data[place + at + 2 : place + FRAME_BYTES]
+        data = data[:place] + with_codes(frame) + data[place + FRAME_BYTES :]
     return x7.with_checks(data, g.checks)
 
 
@@ -143,11 +149,16 @@ def bits(g: Good) -> List[Damage]:
         row("a bit by which it is no device's", [g.bit(flip(g.data, idcode + 1, 2))], "IDCODE .* is damaged: with 0"),
         row("a bit of COR0", [g.bit(flip(g.data, g.word_of(x7.COR0) + 1, 0x80))], "a check fails"),
         row("a bit of FAR", [g.bit(flip(g.data, far + 2, 0x40))], "a check fails|a column|Address|address"),
-        row("a bit of FDRI's count", [g.bit(flip(g.data, g.frames.place + 3))], "its count|words were lost or "
-                                                                                "added|a check fails|damaged"),
-        row("a large bit of FDRI's count", [g.bit(flip(g.data, g.frames.place + 2, 2))], "its count|cut off|words "
-                                                                                         "were lost or added|count "
-                                                                                         "is damaged"),
+        row(
+            "a bit of FDRI's count",
+            [g.bit(flip(g.data, g.frames.place + 3))],
+            "its count|words were lost or added|a check fails|damaged",
+        ),
+        row(
+            "a large bit of FDRI's count",
+            [g.bit(flip(g.data, g.frames.place + 2, 2))],
+            "its count|cut off|words were lost or added|count is damaged",
+        ),
         row("a word of the frames", [g.bit(put(g.data, g.middle // 4 * 4, 0x5A5A5A5A))], "a check fails"),
         row(
             "the check 0000DEFC",
@@ -156,16 +167,28 @@ def bits(g: Good) -> List[Damage]:
             1,
             "a check fails",
         ),
+    ]
+
+
+def commands(g: Good) -> List[Damage]:
+    """A command is another one, or words stand where none should."""
+    return [
         row("START to another command", [g.mended(put(g.data, g.start, 0))], "START is damaged or lost"),
         row("DESYNC to another command", [g.mended(put(g.data, g.desync, 0))], "no DESYNC"),
         row("DESYNC to IPROG", [g.mended(put(g.data, g.desync, 15))], "where DESYNC should"),
         row("a command to DESYNC", [g.mended(put(g.data, g.command("SWITCH"), 13))], "DESYNC comes too early"),
-        row("RCRC to another command", [g.bit(put(g.data, g.command("RCRC"), 6))], "a check fails|starts|nothing is "
-                                                                                   "wrong"),
+        row(
+            "RCRC to another command",
+            [g.bit(put(g.data, g.command("RCRC"), 6))],
+            "a check fails|starts|nothing is wrong",
+        ),
         row("WCFG to another command", [g.bit(put(g.data, g.command("WCFG"), 0))], "a check fails|WCFG"),
         row("LFRM to another command", [g.bit(put(g.data, g.command("LFRM"), 4))], "a check fails|LFRM"),
-        row("no-ops to words of no packet", [g.bit(put(g.data, g.sync + 4, 0xE0000000))], "stands where a packet's "
-                                                                                          "header should"),
+        row(
+            "no-ops to words of no packet",
+            [g.bit(put(g.data, g.sync + 4, 0xE0000000))],
+            "stands where a packet's header should",
+        ),
         row("a false sync word in front", [g.bit(b"\x12" + x7.SYNC + b"\x55" * 6 + g.data)], "isn't the stream's own"),
         row("a false sync word in front, no header", [x7.SYNC + b"\x30\x01" + g.data], "isn't the stream's own"),
     ]
@@ -588,7 +611,7 @@ def settings(g: Good) -> List[Damage]:
         row("BSPI of four lines", [g.last(31, 0x26B)], "BSPI 0000026B.: all 4 data lines", 0),
         row("no check", [no_checks(g)], "no write to CRC", 0),
     ]
-    frames = [at for at in range(g.frames.first, g.frames.end, 404) if any(g.data[at : at + 404])]
+    frames = [at for at in range(g.frames.first, g.frames.end, FRAME_BYTES) if any(g.data[at : at + FRAME_BYTES])]
     if len(frames) > 2:
         edited = g.mended(flip(g.data, frames[1] + 40))
         found.append(row("a frame edited, its code kept", [edited], "note: the error correction code of 1 of", 0))
@@ -644,7 +667,7 @@ def good(g: Good) -> List[Damage]:
 def all_of(g: Good, other: Good) -> Iterator[Damage]:
     """All kinds, of a stream and one of another device, one group after the other: those of a large one would fill the
     memory at once."""
-    for group in (cuts, losses, lines, bits, turned, pins, packed, texts, dumps, settings, good):
+    for group in (cuts, losses, lines, bits, commands, turned, pins, packed, texts, dumps, settings, good):
         yield from group(g)
     for pair in (flashes, headers, several):
         yield from pair(g, other)
@@ -667,7 +690,7 @@ def judged(damage: Damage, status: int, text: str, most: int) -> str:
         return "unknown"
     if status == 0 and damage.status == 1:
         return "nothing"
-    if damage.part and status == 1 and re.search(damage.part, text):
+    if damage.weaker and status == 1 and re.search(damage.weaker, text):
         return "part"
     if re.search(damage.right, text):
         return "part"

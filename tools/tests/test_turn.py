@@ -7,7 +7,7 @@ from __future__ import annotations
 import gzip
 import shlex
 import tempfile
-from typing import Dict, List, Optional
+from typing import Dict, List, NamedTuple, Optional
 
 from casefiles import Tally, header, put_file
 from calls import called, ran, shell_status
@@ -96,29 +96,36 @@ def texts() -> None:
         refused(f"{len(raw)} bytes", raw, "no sync word")
 
 
-# the data that a bus takes for each word of its way, byte for byte: from where in a group, and whether its bits are
-# swapped
-BUSES: Dict[str, tuple[List[int], bool]] = {
-    "bits": ([0], True),
-    "halves": ([1, 0], False),
-    "words": ([3, 2, 1, 0], False),
-    "bits,halves": ([1, 0], True),
-    "halves,bits": ([1, 0], True),
-    "bits,words": ([3, 2, 1, 0], True),
+class Bus(NamedTuple):
+    """How a bus takes a stream."""
+
+    order: List[int]  # which byte of a group stands at each place on the bus
+    mirrors_bits: bool  # whether each byte's bits are swapped
+
+
+# the bus of each way of --to
+BUSES: Dict[str, Bus] = {
+    "bits": Bus([0], True),
+    "halves": Bus([1, 0], False),
+    "words": Bus([3, 2, 1, 0], False),
+    "bits,halves": Bus([1, 0], True),
+    "halves,bits": Bus([1, 0], True),
+    "bits,words": Bus([3, 2, 1, 0], True),
 }
 
 
-def as_bus(data: bytes, order: List[int], has_bits: bool) -> bytes:
+def as_bus(data: bytes, bus: Bus) -> bytes:
     """Data as a bus takes it, made byte by byte."""
-    moved = [data[at - at % len(order) + order[at % len(order)]] for at in range(len(data))]
-    return bytes(int(f"{it:08b}"[::-1], 2) if has_bits else it for it in moved)
+    size = len(bus.order)
+    moved = [data[at - at % size + bus.order[at % size]] for at in range(len(data))]
+    return bytes(int(f"{it:08b}"[::-1], 2) if bus.mirrors_bits else it for it in moved)
 
 
 def buses() -> None:
     """What is written for each bus, of a stream in each form, is turned back to the same stream."""
     head = header(len(DATA))
-    for way, (order, has_bits) in BUSES.items():
-        wanted = as_bus(DATA, order, has_bits)
+    for way, bus in BUSES.items():
+        wanted = as_bus(DATA, bus)
         forms = {"a stream": DATA, "a .bit file": head + DATA, "a gzip file": gzip.compress(DATA), "itself": wanted}
         for name, raw in {**forms, "a dump": dump(1, False)}.items():
             status, out, err = called("turn", "--to", way, in_file(raw))

@@ -20,6 +20,7 @@ import x7formats as x7
 import x7kinds
 
 tally = Tally()
+# listings, as lists of lines
 FULL, SMALL, PARTIAL = s.full(), s.compressed(), s.partial()
 # the full stream as a .bit file, its data alone, and the partial one and the compressed one as .bit files
 RAW, DATA, CHANGE, PACKED = s.bit(FULL), s.data_of(FULL), s.bit(PARTIAL), s.bit(SMALL)
@@ -81,7 +82,7 @@ def without_idcode() -> bytes:
 
 
 def swap(how: str) -> x7kinds.Way:
-    """The way in which this was turned."""
+    """The way of turning with this name."""
     return next(way for way in x7kinds.WAYS if way.what == how)
 
 

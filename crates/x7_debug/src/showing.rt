@@ -95,8 +95,8 @@ impl Session {
 }
 
 /// What a script shows of a session's stream, from position 0 on (this project's choice). A move shows `at N` and where
-/// the first N bytes end; `regs` the `reg` lines; `phase` the line of startup; `frame` the line of the frame,
-/// also where all its words are 0, or `none FAR` where the part has no such address. After `NoMemory` the session stands
+/// the first N bytes end; `regs` the `reg` lines; `phase` the line of startup; `frame` the line of the frame, also
+/// where all its words are 0, or `none FAR` where the part has no such address. After `NoMemory` the session stands
 /// where the first orders, none of them or some or all, left it.
 pub fn transcript(
     alloc: Global,

@@ -140,8 +140,8 @@ fn put_rows(out: &mut Vec<u8>, rows: &[(Reg, u32)])
     }
 }
 
-/// Appends to `out` a line `reg NAME WORD` for each shown register, from CRC to BSPI in the order of their numbers (this
-/// project's choice). Words have eight upper-case hexadecimal digits. `NoMemory` leaves `out` as it was.
+/// Appends to `out` a line `reg NAME WORD` for each shown register, from CRC to BSPI in the order of their numbers
+/// (this project's choice). Words have eight upper-case hexadecimal digits. `NoMemory` leaves `out` as it was.
 #[tactic(auto, unfolding(crate::specs::State::reg_text))]
 pub fn reg_lines(out: &mut Vec<u8>, snapshot: &Snapshot) -> Result<(), NoMemory>
     ensures appends { OnOk result (out.new.items ≡ out.old.items ++ reg_text snapshot.now) }
