@@ -8,7 +8,7 @@ use Rattle.x7_engine.specs.Past.{past_of}
 use Rattle.x7_engine.specs.ReadBuffer.{HoldsWithinMost}
 use Rattle.x7_engine.specs.Standing.{DeviceStandsFor, DeviceState, NoWordDue, reads_given}
 use Rattle.x7_engine.specs.State.{first_stop_of_bytes}
-use Rattle.x7_engine.specs.Turns.{TurnMoves}
+use Rattle.x7_engine.specs.Turns.{TurnMoves, turn_of}
 use Rattle.x7_engine.proofs.FeedLemmas.{given_on, none_before, now_given, same_stop, stands_on, words_none}
 use Rattle.x7_engine.proofs.UntilReadLemmas.{room_read_on}
 
@@ -35,7 +35,7 @@ takes_given x y z piece at going g t = record {
 }
 
 -- a turn was taken
-takes_turn : (d e f : DeviceState) (piece : List ℕ) (from to : ℕ) → e.registers.values.stop ≡ None → TurnMoves e f piece from to → TakesFirst d e piece from → TakesFirst d f piece to
+takes_turn : (d e f : DeviceState) (piece : List ℕ) (from to : ℕ) → e.registers.values.stop ≡ None → TurnMoves (turn_of e f piece from to) → TakesFirst d e piece from → TakesFirst d f piece to
 takes_turn d e f piece from to going m t = record {
   within = m.within;
   part = m.turn.part ∙ t.part;
@@ -65,7 +65,7 @@ gives_due x y z piece at going g t w = record {
 }
 
 -- the buffer after a turn, which gives no word
-gives_turn : (x y : DeviceAndBuffer) (f : DeviceState) (piece : List ℕ) (from to : ℕ) → y.device.registers.values.stop ≡ None → NoWordDue y.device → TurnMoves y.device f piece from to → TakesFirst x.device y.device piece from
+gives_turn : (x y : DeviceAndBuffer) (f : DeviceState) (piece : List ℕ) (from to : ℕ) → y.device.registers.values.stop ≡ None → NoWordDue y.device → TurnMoves (turn_of y.device f piece from to) → TakesFirst x.device y.device piece from
     → GivesWordsOfFirst x y piece from → GivesWordsOfFirst x (with_buffer f y.buffer) piece to
 gives_turn x y f piece from to going due m t w = record {
   words = λ part kept wrapped bytes s.
@@ -80,12 +80,12 @@ gives_turn x y f piece from to going due m t w = record {
 }
 
 -- words that were due were given, and then a turn was taken
-pub takes_round : (x y z : DeviceAndBuffer) (f : DeviceState) (piece : List ℕ) (from to : ℕ) → None ≡ y.device.registers.values.stop → GivesWordsDue y z → TurnMoves z.device f piece from to → TakesFirst x.device y.device piece from
+pub takes_round : (x y z : DeviceAndBuffer) (f : DeviceState) (piece : List ℕ) (from to : ℕ) → None ≡ y.device.registers.values.stop → GivesWordsDue y z → TurnMoves (turn_of z.device f piece from to) → TakesFirst x.device y.device piece from
     → TakesFirst x.device f piece to
 takes_round x y z f piece from to going g m t = takes_turn x.device z.device f piece from to g.going m (takes_given x y z piece from going g t)
 
 -- the buffer after the words that were due and then a turn
-pub gives_round : (x y z : DeviceAndBuffer) (f : DeviceState) (piece : List ℕ) (from to : ℕ) → None ≡ y.device.registers.values.stop → GivesWordsDue y z → NoWordDue z.device → TurnMoves z.device f piece from to
+pub gives_round : (x y z : DeviceAndBuffer) (f : DeviceState) (piece : List ℕ) (from to : ℕ) → None ≡ y.device.registers.values.stop → GivesWordsDue y z → NoWordDue z.device → TurnMoves (turn_of z.device f piece from to)
     → TakesFirst x.device y.device piece from → GivesWordsOfFirst x y piece from → GivesWordsOfFirst x (with_buffer f z.buffer) piece to
 gives_round x y z f piece from to going g due m t w = gives_turn x z f piece from to g.going due m (takes_given x y z piece from going g t) (gives_due x y z piece from going g t w)
 

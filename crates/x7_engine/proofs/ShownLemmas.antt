@@ -10,8 +10,9 @@ use Rattle.x7_flow.proofs.StandingLemmas.{no_less}
 use Rattle.x7_engine.specs.Course.{course_at}
 use Rattle.x7_engine.specs.declared.fault.Fault.{Fault}
 use Rattle.x7_engine.specs.declared.kept.Kept.{Kept}
+use Rattle.x7_engine.specs.Past.{past_of, state_owing_at}
 use Rattle.x7_engine.specs.Shown.{shown_count, shown_registers, with_values}
-use Rattle.x7_engine.specs.State.{first_stop_of_bytes, history_taken, state_of, state_owing, taken_of, why_stopped}
+use Rattle.x7_engine.specs.State.{first_stop_of_bytes, history_taken, state_of, taken_of, why_stopped}
 use Rattle.x7_engine.specs.Stop.{fault_of_stop}
 use Rattle.x7_engine.specs.Value.{register_value, value_owing}
 
@@ -34,7 +35,7 @@ value_now part kept wrapped f h n reg.Far = ap (far_in part) (sym (no_less (flow
 value_now part kept wrapped f h n r = refl
 
 -- where no word of frame data is due, FAR is that of all words
-pub state_now : (part : PartData) (kept : Kept) (wrapped : Bool) (bytes : List ℕ) → state_owing part kept wrapped bytes 0 ≡ state_of part kept wrapped bytes
+pub state_now : (part : PartData) (kept : Kept) (wrapped : Bool) (bytes : List ℕ) → state_owing_at (past_of part kept wrapped bytes) 0 ≡ state_of part kept wrapped bytes
 state_now part kept wrapped bytes = λ i. record (state_of part kept wrapped bytes) {
   registers = with_values (λ reg. value_now part kept wrapped (fault_of_stop (why_stopped (first_stop_of_bytes part kept bytes))) (history_taken part kept bytes) (taken_of part kept bytes) reg i);
 }

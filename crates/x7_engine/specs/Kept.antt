@@ -1,6 +1,6 @@
 -- What a device keeps over a reset (this project's choice): three registers, and
 -- what the boot history says of its attempts.
-use Rattle.std.specs.Prelude.{◌≡◌, ℕ, ◌==◌, if◌then◌else◌, Bool, true, false, None, map}
+use Rattle.std.specs.Prelude.{◌≡◌, ℕ, ◌==◌, if◌then◌else◌, Bool, true, false, None, List}
 use Rattle.x7_regs.specs.declared.boot_status.Kind.{Kind}
 use Rattle.x7_regs.specs.declared.boot_status.Kind.TheVariants.{Bench, Power, Iprog, Fallback}
 use Rattle.x7_regs.specs.declared.register.Reg.{Reg}
@@ -9,6 +9,7 @@ use Rattle.x7_regs.specs.Register.{number_of}
 use Rattle.x7_engine.specs.declared.kept.Kept.{Kept}
 use Rattle.x7_engine.specs.declared.snapshot.End.TheVariants as at_end
 use Rattle.x7_engine.specs.declared.snapshot.Snapshot.{Snapshot}
+use Rattle.x7_engine.specs.Shown.{with_word_in}
 
 -- what a device on the bench, which no flash boots, keeps over its reset: nothing
 abbrev pub on_the_bench : Kept
@@ -32,14 +33,10 @@ is_fallback Fallback = true
 abbrev pub AreFallbacks : Kept → Kept → Type 0
 AreFallbacks one other = (is_fallback one.kind ≡ true) × (is_fallback other.kind ≡ true)
 
--- the row of a register, with 0 where it is one of the four that show what was kept over the reset
-abbrev pub row_without_kept : Reg × ℕ → Reg × ℕ
-row_without_kept (Wbstar, value) = (Wbstar, 0)
-row_without_kept (Timer, value) = (Timer, 0)
-row_without_kept (Bootsts, value) = (Bootsts, 0)
-row_without_kept (Bspi, value) = (Bspi, 0)
-row_without_kept row = row
+-- the rows of registers with 0 in those of the four that show what was kept over the reset
+abbrev pub rows_without_kept : List (Reg × ℕ) → List (Reg × ℕ)
+rows_without_kept rows = with_word_in Wbstar 0 (with_word_in Timer 0 (with_word_in Bootsts 0 (with_word_in Bspi 0 rows)))
 
 -- the state without what shows what was kept over the reset: these registers, and the end, which may show WBSTAR
 abbrev pub without_kept : Snapshot → Snapshot
-without_kept r = record r { end = at_end.Searching; registers = map row_without_kept r.registers }
+without_kept r = record r { end = at_end.Searching; registers = rows_without_kept r.registers }

@@ -21,10 +21,12 @@ use Rattle.x7_engine.specs.declared.snapshot.Snapshot.{Snapshot}
 use Rattle.x7_engine.specs.declared.until_started.UntilStarted.{UntilStarted}
 use Rattle.x7_engine.specs.declared.until_started.UntilStarted.TheVariants as until
 use Rattle.x7_engine.specs.ReadBuffer.{IsFull, ReadBufState}
+use Rattle.x7_engine.specs.Shown.{with_values}
 use Rattle.x7_engine.specs.Standing.{DeviceStandsFor, DeviceState, NoWordDue, due_count, taken_in, reads_given, words_still_due}
-use Rattle.x7_engine.specs.State.{cause_of, history_taken, why_stopped, memory_of_bytes, reads_of, state_of, first_stop_of_bytes, taken_of, value_of}
-use Rattle.x7_engine.specs.Stop.{Stopped}
+use Rattle.x7_engine.specs.State.{cause_of, course_taken, history_taken, why_stopped, memory_of_bytes, reads_of, state_of, first_stop_of_bytes, taken_of, value_of}
+use Rattle.x7_engine.specs.Stop.{Stopped, fault_of_stop}
 use Rattle.x7_engine.specs.UntilStarted.{has_started, taken_until}
+use Rattle.x7_engine.specs.Value.{value_owing}
 
 -- a past; `wrapped` says that the flash has ended before the attempt did (BOOTSTS, WRAP_ERROR). A device that has the
 -- past took all of its bytes.
@@ -67,6 +69,16 @@ value_at p = value_of p.part p.kept p.wrapped p.bytes
 -- the first stop in the bytes of a past, where there is one
 abbrev pub first_stop_at : Past → Option Stopped
 first_stop_at p = first_stop_of_bytes p.part p.kept p.bytes
+
+-- the value of a register that the bytes of a past leave, while `due` words of frame data of the last read are still to
+-- be given
+abbrev pub value_owing_at : Past → ℕ → Reg → ℕ
+value_owing_at p = value_owing (course_taken p.part p.kept p.bytes) p.wrapped (fault_of_stop (why_stopped (first_stop_at p)))
+
+-- the state that the bytes of a past leave, while `due` words of frame data of the last read are still to be given, which
+-- FAR alone shows
+abbrev pub state_owing_at : Past → ℕ → Snapshot
+state_owing_at p due = record (state_at p) { registers = with_values (value_owing_at p due) }
 
 -- the words that a device of a past reads out
 abbrev pub reads_at : Past → List ℕ

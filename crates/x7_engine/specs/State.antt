@@ -31,7 +31,7 @@ use Rattle.x7_engine.specs.Registers.{word_held}
 use Rattle.x7_engine.specs.Shown.{with_values}
 use Rattle.x7_engine.specs.Startup.{phase_by, startup_progress}
 use Rattle.x7_engine.specs.Stop.{Stopped, fault_of_stop, first_stop_of_history}
-use Rattle.x7_engine.specs.Value.{attempt_of, failure_of, lines_by, read_out, register_value, value_owing}
+use Rattle.x7_engine.specs.Value.{attempt_of, failure_of, lines_by, read_out, register_value}
 
 -- the first stop in the bytes, where there is one
 abbrev pub first_stop_of_bytes : PartData → Kept → List ℕ → Option Stopped
@@ -125,11 +125,3 @@ reads_of part kept bytes = read_out part kept (history_taken part kept bytes)
 -- the memory of a device that took these bytes: zero frames, and over them all that the history put there
 abbrev pub memory_of_bytes : PartData → Kept → List ℕ → FrameMap
 memory_of_bytes part kept bytes = memory_of part (history_taken part kept bytes)
-
--- the value of a register while `due` words of frame data of the last read are still to be given
-abbrev pub value_of_owing : PartData → Kept → Bool → List ℕ → ℕ → Reg → ℕ
-value_of_owing part kept wrapped bytes = value_owing (course_taken part kept bytes) wrapped (fault_of_stop (why_stopped (first_stop_of_bytes part kept bytes)))
-
--- the state while `due` words of frame data of the last read are still to be given, which FAR alone shows
-abbrev pub state_owing : PartData → Kept → Bool → List ℕ → ℕ → Snapshot
-state_owing part kept wrapped bytes due = record (state_of part kept wrapped bytes) { registers = with_values (value_of_owing part kept wrapped bytes due) }

@@ -22,14 +22,25 @@ pub record TurnTakes (old new : DeviceState) (more : List ℕ) : Type 0 where
   pub silent : GivesNoWord old new more
   pub commands : ForEachPast old (λ p. CommandsLast p.bytes more)
 
--- a device took a turn over the bytes of a piece from byte `from`, from 0, up to byte `to`, that one not included, and
--- counted them
-pub record TurnMoves (old new : DeviceState) (piece : List ℕ) (from to : ℕ) : Type 0 where
-  pub forward : from ≤ to
-  pub within : to ≤ length piece
-  pub taken : new.taken ≡ old.taken + (to - from)
-  pub fed : fed_of new ≡ fed_more old (to - from)
-  pub turn : TurnTakes old new (between piece from to)
+-- a turn: a device before and after it, a piece, and the places in the piece, from 0, where the turn begins and ends
+pub record Turn : Type 0 where
+  pub old : DeviceState
+  pub new : DeviceState
+  pub piece : List ℕ
+  pub from : ℕ
+  pub to : ℕ
+
+-- the turn from one device and place of a piece to others
+abbrev pub turn_of : DeviceState → DeviceState → List ℕ → ℕ → ℕ → Turn
+turn_of old new piece from to = record { old = old; new = new; piece = piece; from = from; to = to }
+
+-- in a turn a device took the bytes of the piece between the two places, and counted them
+pub record TurnMoves (t : Turn) : Type 0 where
+  pub forward : t.from ≤ t.to
+  pub within : t.to ≤ length t.piece
+  pub taken : t.new.taken ≡ t.old.taken + (t.to - t.from)
+  pub fed : fed_of t.new ≡ fed_more t.old (t.to - t.from)
+  pub turn : TurnTakes t.old t.new (between t.piece t.from t.to)
 
 -- a device used up a piece: it is at the piece's end, nothing stopped it, and no word is due
 pub record IsUsedUp (d : DeviceState) (piece : List ℕ) (at : ℕ) : Type 0 where
@@ -37,13 +48,14 @@ pub record IsUsedUp (d : DeviceState) (piece : List ℕ) (at : ℕ) : Type 0 whe
   pub going : d.registers.values.stop ≡ None
   pub no_word_due : NoWordDue d
 
--- where nothing stopped a device, the calls of its cutter that may at most be left in the piece are fewer than before
-abbrev pub HasFewerCalls : DeviceState → DeviceState → List ℕ → ℕ → ℕ → Type 0
-HasFewerCalls old new piece from to = new.registers.values.stop ≡ None → calls_left new.cutter (length piece - to) < calls_left old.cutter (length piece - from)
+-- where nothing stopped a device in a turn, the calls of its cutter that may at most be left in the piece are fewer than
+-- before
+abbrev pub HasFewerCalls : Turn → Type 0
+HasFewerCalls t = t.new.registers.values.stop ≡ None → calls_left t.new.cutter (length t.piece - t.to) < calls_left t.old.cutter (length t.piece - t.from)
 
--- a device took a turn over the bytes of a piece, and used up the piece where it says so; where it doesn't and nothing
--- stopped it, the calls of its cutter that may at most be left in the piece are fewer than before
-pub record TurnAnswers (old new : DeviceState) (piece : List ℕ) (from to : ℕ) (says_used_up : Bool) : Type 0 where
-  pub turned : TurnMoves old new piece from to
-  pub used_up : IsTrue says_used_up → IsUsedUp new piece to
-  pub goes_on : says_used_up ≡ false → HasFewerCalls old new piece from to
+-- a device took a turn, and used up the piece where it says so; where it doesn't and nothing stopped it, the calls of
+-- its cutter that may at most be left in the piece are fewer than before
+pub record TurnAnswers (t : Turn) (says_used_up : Bool) : Type 0 where
+  pub turned : TurnMoves t
+  pub used_up : IsTrue says_used_up → IsUsedUp t.new t.piece t.to
+  pub goes_on : says_used_up ≡ false → HasFewerCalls t

@@ -1,11 +1,13 @@
 -- What calls that take words ask of a device's registers, and what such calls leave of them (this project's choice).
-use Rattle.std.specs.Prelude.{◌≡◌, ℕ, ◌<◌, ◌≤◌, Option, None, Some}
+use Rattle.std.specs.Prelude.{◌≡◌, ℕ, ◌<◌, ◌≤◌, List, Option, None, Some}
+use Rattle.x7_words.specs.Word.{AreWholeWords}
+use Rattle.x7_packets.specs.declared.header.Step.{Step}
 use Rattle.x7_part.specs.Part.{PartData}
 use Rattle.x7_flow.specs.Standing.{FramesFit}
 use Rattle.x7_engine.specs.declared.registers.Registers.{Registers}
 use Rattle.x7_engine.specs.declared.stop.StopCause.{StopCause}
 use Rattle.x7_engine.specs.Entering.{Change}
-use Rattle.x7_engine.specs.Standing.{due_count}
+use Rattle.x7_engine.specs.Standing.{IsHeaderStep, due_count}
 
 -- registers that can take a word: nothing stopped them, no word is due, and their
 -- frames are those of a device of the part
@@ -13,6 +15,16 @@ pub record MayTakeWords (part : PartData) (d : Registers) : Type 0 where
   pub going : d.values.stop ≡ None
   pub no_word_due : due_count d.values.due ≡ 0
   pub frames : FramesFit part d.frames
+
+-- registers that can take words written to a register, four bytes each
+pub record MayTakePayload (part : PartData) (d : Registers) (bytes : List ℕ) : Type 0 where
+  pub may_take : MayTakeWords part d
+  pub whole : AreWholeWords bytes
+
+-- registers that can take the step of a word in a header's place
+pub record MayTakeHeader (part : PartData) (d : Registers) (step : Step) : Type 0 where
+  pub may_take : MayTakeWords part d
+  pub header : IsHeaderStep step
 
 -- a call leaves the words due as they were, and the frames are still those of a device of the part
 pub record LeavesDue (x : Change) : Type 0 where

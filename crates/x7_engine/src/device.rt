@@ -8,11 +8,11 @@ ghost use Rattle.x7_startup.specs.Phases.{last_phase};
 ghost use Rattle.x7_engine.specs.Kept.{on_the_bench};
 ghost use Rattle.x7_engine.specs.Standing.{CanBeGiven, DeviceStandsFor, MayWrap, NoWordDue, answer_at_stop, fed_of, frames_due, taken_in, with_wrap};
 ghost use Rattle.x7_engine.specs.Shown.{with_values};
-ghost use Rattle.x7_engine.specs.State.{attempt_of_bytes, end_by, kept_after, why_stopped, memory_of_bytes, state_owing, value_of_owing};
+ghost use Rattle.x7_engine.specs.State.{attempt_of_bytes, end_by, kept_after, why_stopped, memory_of_bytes};
 ghost use Rattle.x7_engine.specs.Stop.{fault_of_stop};
-ghost use Rattle.x7_engine.specs.Turns.{MayTakePiece, TurnAnswers, TurnMoves};
+ghost use Rattle.x7_engine.specs.Turns.{MayTakePiece, TurnAnswers, TurnMoves, turn_of};
 ghost use Rattle.x7_engine.specs.Feeding.{AnswersFor, GivesWordsDue, GivesWordsOfFirst, TakesFirst, with_buffer};
-ghost use Rattle.x7_engine.specs.Past.{HasSomePast, ForEachPast, state_at, first_stop_at, value_at};
+ghost use Rattle.x7_engine.specs.Past.{HasSomePast, ForEachPast, state_at, state_owing_at, first_stop_at, value_at, value_owing_at};
 
 mod boot;
 mod started;
@@ -207,7 +207,7 @@ impl Device {
     /// follow those taken.
     fn pass_nops(&mut self, piece: &[u8], at: &mut usize)
         requires { MayTakePiece self.old piece.now at.old }
-        ensures turned { TurnMoves self.old self.new piece.now at.old at.new }
+        ensures turned { TurnMoves (turn_of self.old self.new piece.now at.old at.new) }
         ensures no_word_due { NoWordDue self.new }
         ensures cutter { self.new.cutter ≡ self.old.cutter }
         ensures same_history { ForEachPast self.old (λ p. history_of (p.bytes ++ between piece.now at.old at.new) ≡ history_of p.bytes) }
@@ -224,7 +224,7 @@ impl Device {
     /// taken, which may find nothing left.
     fn take_run(&mut self, piece: &[u8], at: &mut usize) -> bool
         requires { MayTakePiece self.old piece.now at.old }
-        ensures { TurnAnswers self.old self.new piece.now at.old at.new result }
+        ensures { TurnAnswers (turn_of self.old self.new piece.now at.old at.new) result }
     {
         let from = *at;
         let run = self.cutter.cut(piece, at);
@@ -244,7 +244,7 @@ impl Device {
         ensures unchanged { result ≡ false → (self.new ≡ self.old) × (at.new ≡ at.old) }
         ensures eight_bytes { IsTrue result → at.new ≡ at.old + 8 }
         ensures no_word_due { NoWordDue self.new }
-        ensures turned { IsTrue result → TurnMoves self.old self.new piece.now at.old at.new }
+        ensures turned { IsTrue result → TurnMoves (turn_of self.old self.new piece.now at.old at.new) }
     {
         if !self.registers.values.clock.is_idle() {
             return false;
@@ -266,7 +266,7 @@ impl Device {
     #[inline(always)]
     fn turn(&mut self, piece: &[u8], at: &mut usize) -> bool
         requires { MayTakePiece self.old piece.now at.old }
-        ensures { TurnAnswers self.old self.new piece.now at.old at.new result }
+        ensures { TurnAnswers (turn_of self.old self.new piece.now at.old at.new) result }
     {
         if self.take_write(piece, at) {
             return false;
@@ -280,7 +280,7 @@ impl Device {
     #[inline(never)]
     fn take_next(&mut self, piece: &[u8], at: &mut usize) -> bool
         requires { MayTakePiece self.old piece.now at.old }
-        ensures { TurnAnswers self.old self.new piece.now at.old at.new result }
+        ensures { TurnAnswers (turn_of self.old self.new piece.now at.old at.new) result }
     {
         self.pass_nops(piece, at);
         if self.stop().is_some() {
@@ -325,7 +325,7 @@ impl Device {
     /// The value of a register as a state shows it, and 0 for one that is only written and for frame data. While words of
     /// frame data are still due, FAR is that of the words given so far.
     pub fn value(&self, reg: Reg) -> u32
-        ensures owing { ForEachPast self.now (λ p. result ≡ value_of_owing p.part p.kept p.wrapped p.bytes (frames_due self.now.registers.values.due) reg) }
+        ensures owing { ForEachPast self.now (λ p. result ≡ value_owing_at p (frames_due self.now.registers.values.due) reg) }
         ensures value { ForEachPast self.now (λ p. NoWordDue self.now → result ≡ value_at p reg) }
     {
         self.registers.value(&self.part, reg, self.wrapped)
@@ -333,7 +333,7 @@ impl Device {
 
     /// The registers that a state shows, each with its value.
     fn rows(&self) -> [(Reg, u32); SHOWN_COUNT]
-        ensures { ForEachPast self.now (λ p. result ≡ with_values (value_of_owing p.part p.kept p.wrapped p.bytes (frames_due self.now.registers.values.due))) }
+        ensures { ForEachPast self.now (λ p. result ≡ with_values (value_owing_at p (frames_due self.now.registers.values.due))) }
     {
         let mut rows = [(Reg::Crc, 0); SHOWN_COUNT];
         for i in 0..SHOWN_COUNT {
@@ -345,7 +345,7 @@ impl Device {
     /// What a report shows beside the part's name, the words read out and the frames: the registers, where the bytes
     /// end, and startup. While words of frame data are still due, FAR is that of the words given so far.
     pub fn state(&self) -> Snapshot
-        ensures owing { ForEachPast self.now (λ p. result ≡ state_owing p.part p.kept p.wrapped p.bytes (frames_due self.now.registers.values.due)) }
+        ensures owing { ForEachPast self.now (λ p. result ≡ state_owing_at p (frames_due self.now.registers.values.due)) }
         ensures value { ForEachPast self.now (λ p. NoWordDue self.now → result ≡ state_at p) }
     {
         Snapshot {

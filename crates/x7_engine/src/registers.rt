@@ -1,7 +1,6 @@
 //! The registers of a device, and what an access does to them.
 ghost use Rattle.std.specs.Prelude.{◌≡◌, ◌≤◌, ◌<◌, ◌+◌, ◌*◌, ◌/◌, ◌&&◌, ℕ, [], true, None, Some, ◌-◌};
 ghost use Rattle.std.specs.Option.{option_or};
-ghost use Rattle.x7_words.specs.Word.{AreWholeWords};
 ghost use Rattle.x7_packets.specs.Cutter.{IsRun};
 ghost use Rattle.x7_packets.specs.History.{command_held, entered};
 ghost use Rattle.x7_part.specs.Part.{PartData};
@@ -10,7 +9,7 @@ ghost use Rattle.x7_flow.specs.Settings.{AreSettingsAfter};
 ghost use Rattle.x7_flow.specs.Standing.{FramesFit, FramesStandFor, write_access};
 ghost use Rattle.x7_flow.specs.WordsTaken.{TakesWords, count_taken};
 ghost use Rattle.x7_crc.specs.RunningCheck.{executed_after};
-ghost use Rattle.x7_engine.specs.WordCalls.{MayTakeWords, LeavesBytes, LeavesDue, HasNoneDueAtStop};
+ghost use Rattle.x7_engine.specs.WordCalls.{MayTakeHeader, MayTakePayload, MayTakeWords, LeavesBytes, LeavesDue, HasNoneDueAtStop};
 ghost use Rattle.x7_engine.specs.Standing.{CountsAll, counted_in, due_count};
 ghost use Rattle.x7_engine.specs.State.{last_counted};
 ghost use Rattle.x7_engine.specs.Stop.{why_besides_frames, why_by_frames, stop_of_refused};
@@ -89,7 +88,7 @@ pub(crate) struct Registers {
 }
 
 impl Registers {
-    ghost use Rattle.x7_engine.specs.Standing.{FitsWithin, IsHeaderStep, RegistersStandFor, registers_in, HasNoWord};
+    ghost use Rattle.x7_engine.specs.Standing.{FitsWithin, RegistersStandFor, registers_in, HasNoWord};
 
     /// The registers of a device that took nothing, with what the reset kept and frames after a reset.
     pub(crate) fn new(kept: &Kept, frames: Frames) -> Registers
@@ -261,8 +260,7 @@ impl Registers {
     /// Takes written words that stay in their register, are folded into the check, and do nothing else, up to a byte at
     /// which the watchdog fires. Says how many bytes were taken.
     fn pass_all(&mut self, part: &Part, plain: PlainNumber, bytes: &[u8]) -> usize
-        requires may_take { MayTakeWords part.now self.old }
-        requires whole { AreWholeWords bytes.now }
+        requires { MayTakePayload part.now self.old bytes.now }
         ensures { TookWords (change_of part.now self.old self.new) plain.register bytes.now result }
     {
         let left = self.take_bytes(part, bytes.len());
@@ -312,8 +310,7 @@ impl Registers {
 
     /// Takes payload words one by one up to a byte that stops the device, and says how many bytes these are.
     fn take_words_one_by_one(&mut self, part: &Part, reg: Reg, bytes: &[u8]) -> usize
-        requires may_take { MayTakeWords part.now self.old }
-        requires whole { AreWholeWords bytes.now }
+        requires { MayTakePayload part.now self.old bytes.now }
         ensures { TookWords (change_of part.now self.old self.new) (number_of reg) bytes.now result }
     {
         let (words, _) = bytes.as_chunks::<4>();
@@ -331,8 +328,7 @@ impl Registers {
     /// Takes the payload words of a packet up to a byte that stops the device, and says how many bytes these are.
     #[inline(always)]
     fn take_body(&mut self, part: &Part, target: Target, bytes: &[u8]) -> usize
-        requires may_take { MayTakeWords part.now self.old }
-        requires whole { AreWholeWords bytes.now }
+        requires { MayTakePayload part.now self.old bytes.now }
         ensures { TookWords (change_of part.now self.old self.new) (target_number target) bytes.now result }
     {
         match target {
@@ -347,8 +343,7 @@ impl Registers {
     /// Takes a word in a header's place: a read of one word or more makes words due, unless the frames refuse it; a
     /// refused read stops the device, and so does a word that is no header.
     fn take_step(&mut self, part: &Part, step: Step)
-        requires may_take { MayTakeWords part.now self.old }
-        requires header { IsHeaderStep step }
+        requires { MayTakeHeader part.now self.old step }
         ensures none_due_at_stop { HasNoneDueAtStop part.now self.new }
         ensures counts { CountsAll self.new.values.stop }
         ensures enters { EntersHistoryAt (change_of part.now self.old self.new) (λ place h. entered place step h) }
@@ -365,8 +360,7 @@ impl Registers {
     /// the watchdog fired at one of them. Gives how many of the bytes are left.
     #[inline(always)]
     fn take_header(&mut self, part: &Part, step: Step, count: usize) -> usize
-        requires may_take { MayTakeWords part.now self.old }
-        requires header { IsHeaderStep step }
+        requires { MayTakeHeader part.now self.old step }
         ensures left { LeavesBytes count result self.new }
         ensures none_due_at_stop { HasNoneDueAtStop part.now self.new }
         ensures enters { EntersHistoryIf (0 < count) (change_of part.now self.old self.new)

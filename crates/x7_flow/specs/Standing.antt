@@ -88,6 +88,11 @@ pub record HaveDue (part : PartData) (f : FramesState) (due : ℕ) : Type 0 wher
 abbrev pub HaveWordsDue : PartData → FramesState → ℕ → Type 0
 HaveWordsDue part f count = (more : ℕ) × HaveDue part f (more + count)
 
+-- frames of a part, of whose last read at least `count` words of frame data are still due
+pub record MayReadWords (part : PartData) (f : FramesState) (count : ℕ) : Type 0 where
+  pub fits : FramesFit part f
+  pub due : HaveWordsDue part f count
+
 -- the frames of a device as a map of addresses
 abbrev pub frames_map : PartData → FramesState → FrameMap
 frames_map part f = frame_at part f.memory

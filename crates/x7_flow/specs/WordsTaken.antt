@@ -1,6 +1,6 @@
 -- Words written to FDRI or MFWR taken at once, up to the first that is refused (this project's choice).
-use Rattle.std.specs.Prelude.{◌≡◌, ℕ, ◌+◌, ◌-◌, ◌*◌, ◌≤◌, ◌⊎◌, Bool, true, List, [], ◌∷◌, ◌++◌, length, Option, None, Some}
-use Rattle.x7_words.specs.Word.{words_of_bytes}
+use Rattle.std.specs.Prelude.{◌≡◌, ℕ, ◌+◌, ◌-◌, ◌*◌, ◌/◌, ◌≤◌, ◌⊎◌, Bool, true, List, [], ◌∷◌, ◌++◌, length, Option, None, Some}
+use Rattle.x7_words.specs.Word.{AreWholeWords, words_of_bytes}
 use Rattle.x7_packets.specs.History.{Write, History, entered_all, entry}
 use Rattle.x7_packets.specs.Packet.{payload_steps}
 use Rattle.x7_part.specs.Part.{PartData, frame_words}
@@ -10,9 +10,10 @@ use Rattle.x7_regs.specs.Register.{number_of}
 use Rattle.x7_part.specs.Slot.{slots_from}
 use Rattle.x7_pipeline.specs.declared.fault.RunFault.{RunFault}
 use Rattle.x7_pipeline.specs.Pipeline.{PipelineData}
+use Rattle.x7_flow.specs.declared.settings.FrameSettings.{FrameSettings}
 use Rattle.x7_flow.specs.HistoryFlow.{base_of, frame_fault, run_of}
 use Rattle.x7_flow.specs.Settings.{Settings, settings_of}
-use Rattle.x7_flow.specs.Standing.{AreFramesAfter, FramesStandFor, FramesState}
+use Rattle.x7_flow.specs.Standing.{AreFramesAfter, ForEachHistoryOfFrames, FramesFit, FramesStandFor, FramesState}
 
 -- the registers whose words go to the frames many at once
 abbrev pub TakesWords : Reg → Type 0
@@ -70,6 +71,29 @@ pub record WordsTaken (part : PartData) (f : FramesState) (h : History) (x : Wor
   pub end : EndsBy part x.register (with_words_to x.register x.place taken h) rest seen.1
   pub counted : seen.0 ≡ count_seen (length taken) seen.1
   pub stands : FramesStandFor part f (with_words_to x.register x.place taken h) 0
+
+-- frames of a part, to which whole words of these bytes are written
+pub record MayTakeBytes (part : PartData) (f : FramesState) (bytes : List ℕ) : Type 0 where
+  pub fits : FramesFit part f
+  pub whole : AreWholeWords bytes
+
+-- the frames of a part before and after a call with these settings
+pub record FramesChange : Type 0 where
+  pub part : PartData
+  pub settings : FrameSettings
+  pub old : FramesState
+  pub new : FramesState
+
+-- the change from frames to others, by a call with these settings
+abbrev pub frames_change : PartData → FrameSettings → FramesState → FramesState → FramesChange
+frames_change part settings old new = record { part = part; settings = settings; old = old; new = new }
+
+-- the words of bytes, written to a register, were taken up to the first that is refused; `seen` is how many were looked
+-- at, a refused one too, and its fault, if there is one
+pub record TookBytes (x : FramesChange) (r : Reg) (bytes : List ℕ) (seen : ℕ × Option RunFault) : Type 0 where
+  pub taken : (n : ℕ) → ForEachHistoryOfFrames x.part x.settings x.old (λ h. WordsTaken x.part x.new h (words_to r n bytes) seen)
+  pub within : seen.0 ≤ length bytes / 4
+  pub fits : FramesFit x.part x.new
 
 -- a fact holds of each history whose settings take the words, and that the pipeline and the memory's frames stand for
 -- with no word due

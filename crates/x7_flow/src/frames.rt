@@ -1,13 +1,12 @@
 //! The frames of a device: its pipeline and its memory, which stand for a history.
-ghost use Rattle.std.specs.Prelude.{◌≡◌, ◌+◌, ◌/◌, ◌≤◌, ◌∷◌, [], ℕ, suc, length, IfOk};
-ghost use Rattle.x7_words.specs.Word.{AreWholeWords};
+ghost use Rattle.std.specs.Prelude.{◌≡◌, ◌+◌, ◌∷◌, [], ℕ, suc, IfOk};
 ghost use Rattle.x7_part.specs.Part.{PartData};
 ghost use Rattle.x7_packets.specs.History.{History, Write};
 ghost use Rattle.x7_regs.specs.Register.{number_of};
 ghost use Rattle.x7_regs.specs.declared.register.Reg.TheVariants as reg;
 ghost use Rattle.x7_flow.specs.HistoryFlow.{frame_fault};
-ghost use Rattle.x7_flow.specs.Standing.{AfterAccess, AnswersReads, FramesFit, FramesStandFor, HaveWordsDue, ForEachHistoryOfFrames, far_owing, words_due, write_entry};
-ghost use Rattle.x7_flow.specs.WordsTaken.{TakesWords, WordsTaken, words_to};
+ghost use Rattle.x7_flow.specs.Standing.{AfterAccess, AnswersReads, FramesFit, FramesStandFor, MayReadWords, ForEachHistoryOfFrames, far_owing, words_due, write_entry};
+ghost use Rattle.x7_flow.specs.WordsTaken.{MayTakeBytes, TakesWords, TookBytes, frames_change};
 
 mod saved;
 
@@ -110,11 +109,8 @@ impl Frames {
         part: &Part,
     ) -> (usize, Option<RunFault>)
         requires register { TakesWords reg }
-        requires whole { AreWholeWords bytes.now }
-        requires part { FramesFit part.now self.old }
-        ensures taken { (n : ℕ) → ForEachHistoryOfFrames part.now settings self.old (λ h. WordsTaken part.now self.new h (words_to reg n bytes.now) result) }
-        ensures within { result.0 ≤ length bytes.now / 4 }
-        ensures part { FramesFit part.now self.new }
+        requires may_take { MayTakeBytes part.now self.old bytes.now }
+        ensures { TookBytes (frames_change part.now settings self.old self.new) reg bytes.now result }
     {
         match reg {
             Reg::Mfwr => self.write_copies(settings, bytes, part),
@@ -130,11 +126,8 @@ impl Frames {
         bytes: &[u8],
         part: &Part,
     ) -> (usize, Option<RunFault>)
-        requires whole { AreWholeWords bytes.now }
-        requires part { FramesFit part.now self.old }
-        ensures taken { (n : ℕ) → ForEachHistoryOfFrames part.now settings self.old (λ h. WordsTaken part.now self.new h (words_to reg.Fdri n bytes.now) result) }
-        ensures within { result.0 ≤ length bytes.now / 4 }
-        ensures part { FramesFit part.now self.new }
+        requires { MayTakeBytes part.now self.old bytes.now }
+        ensures { TookBytes (frames_change part.now settings self.old self.new) reg.Fdri bytes.now result }
     {
         if takes_frames(settings) {
             return self.pipeline.write_bytes(bytes, part, &mut self.memory);
@@ -150,11 +143,8 @@ impl Frames {
         bytes: &[u8],
         part: &Part,
     ) -> (usize, Option<RunFault>)
-        requires whole { AreWholeWords bytes.now }
-        requires part { FramesFit part.now self.old }
-        ensures taken { (n : ℕ) → ForEachHistoryOfFrames part.now settings self.old (λ h. WordsTaken part.now self.new h (words_to reg.Mfwr n bytes.now) result) }
-        ensures within { result.0 ≤ length bytes.now / 4 }
-        ensures part { FramesFit part.now self.new }
+        requires { MayTakeBytes part.now self.old bytes.now }
+        ensures { TookBytes (frames_change part.now settings self.old self.new) reg.Mfwr bytes.now result }
     {
         if takes_copies(settings) {
             return take_copies(bytes, part, &mut self.pipeline, &mut self.memory);
@@ -172,8 +162,7 @@ impl Frames {
 
     /// The next word of frame data. At least one must be due.
     pub fn read_word(&mut self, part: &Part) -> u32
-        requires part { FramesFit part.now self.old }
-        requires due { HaveWordsDue part.now self.old 1 }
+        requires { MayReadWords part.now self.old 1 }
         ensures stands { (h : History) (due : ℕ) → FramesStandFor part.now self.old h (due + 1) → FramesStandFor part.now self.new h due }
         ensures word { (h : History) (due : ℕ) → FramesStandFor part.now self.old h (due + 1) → words_due part.now h (suc due) ≡ result ∷ words_due part.now h due }
         ensures part { FramesFit part.now self.new }
@@ -186,8 +175,7 @@ impl Frames {
 
     /// Passes over the next `count` words of frame data. At least as many must be due.
     pub fn drop_words(&mut self, count: u32, part: &Part)
-        requires part { FramesFit part.now self.old }
-        requires due { HaveWordsDue part.now self.old count }
+        requires { MayReadWords part.now self.old count }
         ensures stands { (h : History) (due : ℕ) → FramesStandFor part.now self.old h (due + count) → FramesStandFor part.now self.new h due }
         ensures part { FramesFit part.now self.new }
     {

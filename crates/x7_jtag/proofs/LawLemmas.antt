@@ -8,8 +8,9 @@ use Rattle.x7_part.specs.Part.{PartData}
 use Rattle.x7_engine.specs.declared.stop.StopCause.{StopCause}
 use Rattle.x7_engine.specs.Kept.{on_the_bench}
 use Rattle.x7_packets.specs.History.{History}
+use Rattle.x7_engine.specs.Past.{past_of, state_owing_at}
 use Rattle.x7_engine.specs.Standing.{DeviceStandsFor, DeviceState, due_count, frames_among, frames_due, words_still_due}
-use Rattle.x7_engine.specs.State.{history_taken, reads_of, state_owing, first_stop_of_bytes, taken_by, taken_of}
+use Rattle.x7_engine.specs.State.{history_taken, reads_of, first_stop_of_bytes, taken_by, taken_of}
 use Rattle.x7_engine.specs.Stop.{Stopped, stop_at_place}
 use Rattle.x7_engine.proofs.FrameLemmas.{length_left}
 use Rattle.x7_engine.proofs.StateLemmas.{stop_is_final_stop}
@@ -70,9 +71,9 @@ due_is part t d cs s = due_by part t.queue d (port_after part cs).queue.given (p
 
 -- what a device shows is what the clocks' port says
 pub shows_is : (part : PartData) (t : TapState) (d : DeviceState) (cs : List PortClock) → TapStandsFor part t d cs
-    → state_owing part on_the_bench false (bytes_taken part (port_after part cs)) (frames_due d.registers.values.due) ≡ state_shown part (port_after part cs)
+    → state_owing_at (past_of part on_the_bench false (bytes_taken part (port_after part cs))) (frames_due d.registers.values.due) ≡ state_shown part (port_after part cs)
 shows_is part t d cs s =
     let bytes : List ℕ = bytes_taken part (port_after part cs) in
     let h : History = history_taken part on_the_bench bytes in
     let kind : frames_due d.registers.values.due ≡ frames_among h (due_count d.registers.values.due) = (device_is part t d cs s).registers_are.due_kind in
-    ap (state_owing part on_the_bench false bytes) (kind ∙ ap (frames_among h) (due_is part t d cs s))
+    ap (state_owing_at (past_of part on_the_bench false bytes)) (kind ∙ ap (frames_among h) (due_is part t d cs s))

@@ -1,13 +1,14 @@
 -- Lemmas on specs/Port: what a tap and its device stand for after each action.
-use Rattle.std.proofs.Common.{◌≡◌, ℕ, ◌+◌, ◌%◌, ◌==◌, Bool, true, false, if◌then◌else◌, List, [], ◌∷◌, ◌++◌, get_or, refl, ap, sym, subst, ◌∙◌}
+use Rattle.std.proofs.Common.{◌≡◌, ℕ, ◌+◌, ◌%◌, ◌==◌, Bool, true, false, if◌then◌else◌, List, [], ◌∷◌, ◌++◌, refl, ap, sym, subst, ◌∙◌}
 use Rattle.std.proofs.lemmas.List.Sums.{fold-append}
 use Rattle.x7_regs.specs.declared.register.Reg.TheVariants.{Stat}
 use Rattle.x7_part.specs.Part.{PartData}
 use Rattle.x7_engine.specs.declared.snapshot.Snapshot.{Snapshot}
 use Rattle.x7_engine.specs.Kept.{on_the_bench}
-use Rattle.x7_engine.specs.Shown.{with_values}
+use Rattle.x7_engine.specs.Past.{past_of, state_owing_at, value_owing_at}
+use Rattle.x7_engine.specs.Shown.{with_values, word_in}
 use Rattle.x7_engine.specs.Standing.{DeviceStandsFor, DeviceState}
-use Rattle.x7_engine.specs.State.{state_owing, value_of, value_of_owing}
+use Rattle.x7_engine.specs.State.{value_of}
 use Rattle.x7_jtag.specs.declared.instruction.Instruction.{Instruction}
 use Rattle.x7_jtag.specs.declared.instruction.Instruction.TheVariants as instruction
 use Rattle.x7_jtag.specs.declared.state.State.{State}
@@ -21,12 +22,12 @@ use Rattle.x7_jtag.proofs.StandingLemmas.{resets}
 use Rattle.x7_jtag.proofs.TookLemmas.{state_took}
 
 -- what Capture-IR loads, whatever words of the device are due
-pub status_is : (part : PartData) (given bytes : List ℕ) (snapshot : Snapshot) (stat due n : ℕ) → TookOfGiven part given bytes → snapshot ≡ state_owing part on_the_bench false bytes due → stat ≡ value_of_owing part on_the_bench false bytes due Stat
+pub status_is : (part : PartData) (given bytes : List ℕ) (snapshot : Snapshot) (stat due n : ℕ) → TookOfGiven part given bytes → snapshot ≡ state_owing_at (past_of part on_the_bench false bytes) due → stat ≡ value_owing_at (past_of part on_the_bench false bytes) due Stat
     → n ≡ ir_status_with snapshot.lines.done (init_b_of stat) → n ≡ ir_status part given
 unfolding with_values
 status_is part given bytes snapshot stat due n t e f g =
     g ∙ ap (λ (w : ℕ). ir_status_with snapshot.lines.done (init_b_of w)) f ∙ ap (λ (r : Snapshot). ir_status_with r.lines.done (init_b_of (value_of part on_the_bench false bytes Stat))) e
-    ∙ ap (λ (r : Snapshot). ir_status_with r.lines.done (init_b_of (get_or r.registers 5 (Stat, 0)).1)) (sym (state_took part given bytes t))
+    ∙ ap (λ (r : Snapshot). ir_status_with r.lines.done (init_b_of (word_in Stat r.registers))) (sym (state_took part given bytes t))
 
 -- a new tap
 pub begins : (part : PartData) (t : TapState) (d : DeviceState) → DeviceStandsFor part on_the_bench false d [] → t ≡ record { state = state.TestLogicReset; instruction = instruction.Idcode; register = 0; count = 0; queue = t.queue } → t.queue ≡ record { held = []; word = 0; bits_left = 0 }

@@ -3,8 +3,9 @@ use Rattle.std.specs.Prelude.{ℕ, ◌+◌, ◌-◌, ◌/◌, false, List, lengt
 use Rattle.x7_part.specs.Part.{PartData}
 use Rattle.x7_engine.specs.declared.snapshot.Snapshot.{Snapshot}
 use Rattle.x7_engine.specs.Kept.{on_the_bench}
+use Rattle.x7_engine.specs.Past.{past_of, state_owing_at}
 use Rattle.x7_engine.specs.Standing.{frames_among}
-use Rattle.x7_engine.specs.State.{history_taken, why_stopped, memory_of_bytes, state_owing, first_stop_of_bytes, taken_of}
+use Rattle.x7_engine.specs.State.{history_taken, why_stopped, memory_of_bytes, first_stop_of_bytes, taken_of}
 use Rattle.x7_engine.specs.Stop.{fault_of_stop}
 use Rattle.x7_engine.specs.declared.fault.Fault.{Fault}
 use Rattle.x7_memory.specs.FrameMap.{FrameMap}
@@ -20,7 +21,7 @@ port_words_due part p = length (words_read_out part p.queue.given) - (p.queue.ou
 
 -- the device's state but its memory, where `due` words of frame data are due
 abbrev pub state_with_due : PartData → Port → ℕ → Snapshot
-state_with_due part p due = state_owing part on_the_bench false (bytes_taken part p) due
+state_with_due part p due = state_owing_at (past_of part on_the_bench false (bytes_taken part p)) due
 
 -- the device's state but its memory; FAR counts the words of frame data that went out, and the one whose bits go out
 abbrev pub state_shown : PartData → Port → Snapshot

@@ -11,8 +11,9 @@ use Rattle.x7_memory.specs.FrameMap.{HaveSameFrames, FrameMap}
 use Rattle.x7_memory.specs.PartFrames.{frame_at}
 use Rattle.x7_engine.specs.declared.snapshot.Snapshot.{Snapshot}
 use Rattle.x7_engine.specs.declared.kept.Kept.{Kept}
+use Rattle.x7_engine.specs.Past.{past_of, state_owing_at}
 use Rattle.x7_engine.specs.Standing.{DeviceState, NoWordDue, frames_due}
-use Rattle.x7_engine.specs.State.{state_of, state_owing}
+use Rattle.x7_engine.specs.State.{state_of}
 use Rattle.x7_engine.proofs.FrameLemmas.{none_frames}
 use Rattle.x7_engine.proofs.ShownLemmas.{state_now}
 use Rattle.x7_report.specs.Frames.{AreRanksShown, addresses_shown, frames_text, lines_of_ranks}
@@ -87,8 +88,8 @@ begun_is part state reads frames n old head ranks same shown h =
     ap (λ (t : List ℕ). t ++ lines) h ∙ append_assoc old (report_head part state reads (length ranks)) lines ∙ ap (λ (t : List ℕ). old ++ t) (play_is part state reads frames n ranks same shown)
 
 -- where no word is due, the state reported is that of the bytes
-pub owing_none : (part : PartData) (kept : Kept) (wrapped : Bool) (bytes : List ℕ) (d : DeviceState) → NoWordDue d → state_owing part kept wrapped bytes (frames_due d.registers.values.due) ≡ state_of part kept wrapped bytes
-owing_none part kept wrapped bytes d none = ap (state_owing part kept wrapped bytes) (none_frames d.registers.values.due none) ∙ state_now part kept wrapped bytes
+pub owing_none : (part : PartData) (kept : Kept) (wrapped : Bool) (bytes : List ℕ) (d : DeviceState) → NoWordDue d → state_owing_at (past_of part kept wrapped bytes) (frames_due d.registers.values.due) ≡ state_of part kept wrapped bytes
+owing_none part kept wrapped bytes d none = ap (state_owing_at (past_of part kept wrapped bytes)) (none_frames d.registers.values.due none) ∙ state_now part kept wrapped bytes
 
 -- ---- a report that is written
 

@@ -4,16 +4,15 @@ use Rattle.x7_part.specs.AddressOrder.{addresses_in}
 use Rattle.x7_part.specs.Part.{PartData}
 use Rattle.x7_memory.specs.FrameMap.{FrameMap}
 use Rattle.x7_engine.specs.declared.snapshot.Snapshot.{Snapshot}
-use Rattle.x7_engine.specs.Past.{Past}
+use Rattle.x7_engine.specs.Past.{Past, state_owing_at}
 use Rattle.x7_engine.specs.Standing.{DeviceState, frames_due}
-use Rattle.x7_engine.specs.State.{state_owing}
 use Rattle.x7_report.specs.Frames.{frames_text, lines_of_ranks}
 use Rattle.x7_report.specs.Reads.{reads_text}
 use Rattle.x7_report.specs.State.{state_text}
 
 -- the state that a device of this past shows; while words of frame data are due, FAR is that of the words given so far
 abbrev pub state_reported : DeviceState → Past → Snapshot
-state_reported device past = state_owing past.part past.kept past.wrapped past.bytes (frames_due device.registers.values.due)
+state_reported device past = state_owing_at past (frames_due device.registers.values.due)
 
 -- what a report has before the lines of its frames, of which it shows `count`
 abbrev pub report_head : PartData → Snapshot → List ℕ → ℕ → List ℕ

@@ -3,7 +3,7 @@ ghost use Rattle.std.specs.Prelude.{◌≡◌, ◌≤◌, ◌<◌, ◌+◌, ◌-
 ghost use Rattle.x7_packets.specs.Cutter.{between};
 ghost use Rattle.x7_engine.specs.SoonestEnd.{soonest_end};
 ghost use Rattle.x7_engine.specs.Standing.{CanBeGiven, HasBegun, HasStopped, NoWordDue};
-ghost use Rattle.x7_engine.specs.Turns.{MayTakePiece, TurnAnswers};
+ghost use Rattle.x7_engine.specs.Turns.{MayTakePiece, TurnAnswers, turn_of};
 ghost use Rattle.x7_engine.specs.UntilStarted.{HasNotBegun, NoneBegun, NoneStarted, says_started, taken_until};
 ghost use Rattle.x7_engine.specs.declared.until_started.UntilStarted.TheVariants as until;
 ghost use Rattle.x7_engine.specs.Feeding.{AnswersUntilFor, GivesWordsOfFirst, TakesFirst, with_buffer};
@@ -56,7 +56,7 @@ impl Device {
     /// `true` only where the piece is used up; after `false` the piece's next turn may find nothing left.
     fn turn_until_started(&mut self, piece: &[u8], at: &mut usize) -> bool
         requires { MayTakePiece self.old piece.now at.old }
-        ensures took { TurnAnswers self.old self.new piece.now at.old at.new result }
+        ensures took { TurnAnswers (turn_of self.old self.new piece.now at.old at.new) result }
         ensures first { ForEachPast self.old (λ p. started_at p ≡ false → NoneStarted p.part p.kept p.bytes (between piece.now at.old at.new) (at.new - at.old)) }
     {
         let end = self.turn_end(*at, piece.len());

@@ -12,15 +12,21 @@ returns-then-drops-clause-stands c = λ h s.
     let all : 0 + c.args.count ≡ c.args.count = omega arith in
     c.drop_words.ensures.stands h 0 (subst (FramesStandFor c.args.part.now c.args.frames.now h) (sym all) s)
 
-pub drop_words-requires-clause-due : goal.drop_words-requires-clause-due
-drop_words-requires-clause-due c =
+pub drop_words-requires : goal.drop_words-requires
+drop_words-requires c =
     let due = c.requires.due in
-    (0, record { history = due.history; stands = subst (FramesStandFor c.args.part.now c.args.frames.now due.history) (let all : c.args.count ≡ 0 + c.args.count = omega arith in all) due.stands })
+    record {
+      fits = c.requires.frames;
+      due = (0, record { history = due.history; stands = subst (FramesStandFor c.args.part.now c.args.frames.now due.history) (let all : c.args.count ≡ 0 + c.args.count = omega arith in all) due.stands });
+    }
 
-pub read_word-requires-clause-due : goal.read_word-requires-clause-due
-read_word-requires-clause-due c =
+pub read_word-requires : goal.read_word-requires
+read_word-requires c =
     let due = c.loop-i.invariant.due in
-    (c.args.count - (c.loop-i.i + 1), record { history = due.history; stands = one_due c.args.part.now c.loop-i.frames due.history c.args.count c.loop-i.i c.loop-i-test.true due.stands })
+    record {
+      fits = c.loop-i.invariant.frames;
+      due = (c.args.count - (c.loop-i.i + 1), record { history = due.history; stands = one_due c.args.part.now c.loop-i.frames due.history c.args.count c.loop-i.i c.loop-i-test.true due.stands });
+    }
 
 pub loop-i-init : goal.loop-i-init
 loop-i-init c =

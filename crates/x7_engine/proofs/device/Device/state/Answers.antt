@@ -1,7 +1,8 @@
 use Rattle.std.proofs.Common.{◌≡◌, ℕ, length, sym, ap, subst, ◌∙◌}
 use Rattle.x7_packets.specs.History.{History}
+use Rattle.x7_engine.specs.Past.{past_of, state_owing_at}
 use Rattle.x7_engine.specs.Standing.{DeviceStandsFor, DeviceState, RegistersStandFor, registers_in}
-use Rattle.x7_engine.specs.State.{history_taken, state_owing, taken_of}
+use Rattle.x7_engine.specs.State.{history_taken, taken_of}
 use Rattle.x7_engine.proofs.FrameLemmas.{none_frames}
 use Rattle.x7_engine.proofs.ShownLemmas.{state_now}
 use Rattle.x7_engine.proofs.StateLemmas.{taken_is}
@@ -25,5 +26,5 @@ returns-clause-owing c = λ part kept wrapped bytes s.
 pub returns-clause-value : goal.returns-clause-value
 returns-clause-value c = λ part kept wrapped bytes s none.
     returns-clause-owing c part kept wrapped bytes s
-    ∙ ap (state_owing part kept wrapped bytes) (none_frames c.args.self.now.registers.values.due none)
+    ∙ ap (state_owing_at (past_of part kept wrapped bytes)) (none_frames c.args.self.now.registers.values.due none)
     ∙ state_now part kept wrapped bytes

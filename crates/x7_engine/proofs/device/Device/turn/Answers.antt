@@ -1,6 +1,6 @@
 use Rattle.std.proofs.Common.{ℕ, subst, arith}
 use Rattle.x7_engine.specs.Standing.{DeviceState}
-use Rattle.x7_engine.specs.Turns.{TurnAnswers}
+use Rattle.x7_engine.specs.Turns.{TurnAnswers, turn_of}
 use Rattle.x7_engine.proofs.device.Device.turn.Goals as goal
 use Rattle.x7_packets.proofs.StreamLemmas.{one_sync}
 
@@ -17,5 +17,5 @@ returns-then-take_write c = record {
 pub returns : goal.returns
 returns c =
     let same = c.take_write.ensures.unchanged c.if-take_write.false in
-    subst (λ (at : ℕ). TurnAnswers c.args.self.now c.take_next.new.self c.args.piece.now at c.take_next.new.at c.take_next.result) same.1
-    (subst (λ (d : DeviceState). TurnAnswers d c.take_next.new.self c.args.piece.now c.take_write.new.at c.take_next.new.at c.take_next.result) same.0 c.take_next.ensures)
+    subst (λ (at : ℕ). TurnAnswers (turn_of c.args.self.now c.take_next.new.self c.args.piece.now at c.take_next.new.at) c.take_next.result) same.1
+    (subst (λ (d : DeviceState). TurnAnswers (turn_of d c.take_next.new.self c.args.piece.now c.take_write.new.at c.take_next.new.at) c.take_next.result) same.0 c.take_next.ensures)

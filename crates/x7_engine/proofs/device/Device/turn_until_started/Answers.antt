@@ -2,13 +2,13 @@ use Rattle.std.proofs.Common.{◌≡◌, ◌<◌, ◌≤◌, ◌⊎◌, ℕ, Lis
 use Rattle.std.proofs.lemmas.Bool.Decides.{nat_tests}
 use Rattle.std.proofs.lemmas.List.{length-take-le}
 use Rattle.x7_engine.specs.Standing.{DeviceState}
-use Rattle.x7_engine.specs.Turns.{TurnTakes, TurnMoves}
+use Rattle.x7_engine.specs.Turns.{TurnTakes, TurnMoves, turn_of}
 use Rattle.x7_engine.proofs.UntilLemmas.{in_slice, turn_first}
 use Rattle.x7_engine.proofs.device.Device.turn_until_started.Goals as goal
 use Rattle.x7_packets.proofs.StreamLemmas.{one_sync}
 
 -- a turn over the first bytes of a piece is one over the piece
-slice_turned : (old new : DeviceState) (piece : List ℕ) (end from to : ℕ) → end ≤ length piece → TurnMoves old new (take end piece) from to → TurnMoves old new piece from to
+slice_turned : (old new : DeviceState) (piece : List ℕ) (end from to : ℕ) → end ≤ length piece → TurnMoves (turn_of old new (take end piece) from to) → TurnMoves (turn_of old new piece from to)
 slice_turned old new piece end from to within t = record {
   forward = t.forward;
   within = omega (arith, t.within, length-take-le end piece within, within);

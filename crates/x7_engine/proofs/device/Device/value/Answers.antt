@@ -3,8 +3,9 @@ use Rattle.x7_part.specs.Part.{PartData}
 use Rattle.x7_engine.specs.Course.{Course, course_at}
 use Rattle.x7_engine.specs.declared.stop.StopCause.{StopCause}
 use Rattle.x7_engine.specs.Entering.{ForEachHistory}
+use Rattle.x7_engine.specs.Past.{past_of, value_owing_at}
 use Rattle.x7_engine.specs.Standing.{DeviceStandsFor, DeviceState, frames_due, registers_in}
-use Rattle.x7_engine.specs.State.{course_taken, first_stop_of_bytes, history_taken, value_of_owing, why_stopped}
+use Rattle.x7_engine.specs.State.{course_taken, first_stop_of_bytes, history_taken, why_stopped}
 use Rattle.x7_engine.specs.Stop.{fault_of_stop}
 use Rattle.x7_engine.specs.Value.{value_owing}
 use Rattle.x7_engine.proofs.FrameLemmas.{none_frames}
@@ -22,11 +23,11 @@ returns-clause-owing c = λ part kept wrapped bytes s.
     ∙ ap (λ (n : ℕ). shown (course_at part kept (history_taken part kept bytes) n) c.self.inside.wrapped inside.values.stop) (sym (taken_is part kept wrapped _ bytes stands))
     ∙ ap (λ (w : Bool). shown (course_taken part kept bytes) w inside.values.stop) stands.wrapped_is
     ∙ ap (shown (course_taken part kept bytes) wrapped) (sym (why_is part kept wrapped _ bytes stands))
-    ∙ ap (λ (d : DeviceState). value_of_owing part kept wrapped bytes (frames_due d.registers.values.due) c.args.reg) c.self.view_is
+    ∙ ap (λ (d : DeviceState). value_owing_at (past_of part kept wrapped bytes) (frames_due d.registers.values.due) c.args.reg) c.self.view_is
 
 pub returns-clause-value : goal.returns-clause-value
 returns-clause-value c = λ part kept wrapped bytes s none.
     let course = course_taken part kept bytes in
     returns-clause-owing c part kept wrapped bytes s
-    ∙ ap (λ (n : ℕ). value_of_owing part kept wrapped bytes n c.args.reg) (none_frames c.args.self.now.registers.values.due none)
+    ∙ ap (λ (n : ℕ). value_owing_at (past_of part kept wrapped bytes) n c.args.reg) (none_frames c.args.self.now.registers.values.due none)
     ∙ value_now part kept wrapped (fault_of_stop (why_stopped (first_stop_of_bytes part kept bytes))) course.history course.taken c.args.reg

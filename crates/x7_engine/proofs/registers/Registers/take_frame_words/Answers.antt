@@ -30,7 +30,7 @@ returns c = record {
       omega (arith, inner, c.count_taken-taken.ensures.within, c.write_bytes-count.ensures.within, c.before_firing.ensures.within));
   whole = omega arith;
   going = c.requires.may_take.going;
-  leaves = record { due = refl; frames = c.write_bytes-count.ensures.part };
+  leaves = record { due = refl; frames = c.write_bytes-count.ensures.fits };
   enters = λ kept h n s. (
       let part : PartData = c.args.part.now in
       let bytes : List ℕ = c.args.bytes.now in
