@@ -15,11 +15,20 @@ use Rattle.x7.specs.declared.page.TheConstants.{HELP, VERSION}
 unfoldable pub asks_help : List ℕ → Bool
 asks_help word = if bytes_eq word (codes "--help") then true else if bytes_eq word (codes "-h") then true else bytes_eq word (codes "help")
 
--- the page that the words ask for, as the only word: of help, or by `--version`
+-- whether the word after a form's first asks for help: `--help` or `-h`; `help` may be a file
+unfoldable pub is_help_option : List ℕ → Bool
+is_help_option word = if bytes_eq word (codes "--help") then true else bytes_eq word (codes "-h")
+
+-- the page that a word asks for where it stands alone: that of help, or by `--version`
+abbrev pub page_alone : List ℕ → Option (List ℕ)
+page_alone word = if asks_help word then Some HELP.now else if bytes_eq word (codes "--version") then Some VERSION.now else None
+
+-- the page that the words ask for: one alone, or the second of two where it asks for help
 abbrev pub page_of : List (List ℕ) → Option (List ℕ)
 page_of [] = None
-page_of (word ∷ []) = if asks_help word then Some HELP.now else if bytes_eq word (codes "--version") then Some VERSION.now else None
-page_of (word ∷ next ∷ more) = None
+page_of (word ∷ []) = page_alone word
+page_of (word ∷ next ∷ []) = if is_help_option next then Some HELP.now else None
+page_of (word ∷ next ∷ third ∷ more) = None
 
 -- a page was written whole, and the number is 0; or a prefix of it was, the output failed, and the number is 7
 abbrev pub WritesPage : List ℕ → SinkState → SinkState → ℕ → Type 0

@@ -1,8 +1,8 @@
 //! What the program says of itself.
 ghost use Rattle.std.specs.Prelude.{◌≡◌, MatchOption, None, Some, map, string_bytes};
-ghost use Rattle.x7.specs.Command.{asks_help, page_of};
+ghost use Rattle.x7.specs.Command.{asks_help, is_help_option, page_alone, page_of};
 
-/// What `x7 --help`, `x7 -h` and `x7 help` write: the forms, the statuses, and where to read on.
+/// What `x7 --help`, `x7 -h` and `x7 help` write, and `x7 FORM --help`: the forms, the statuses, and where to read on.
 pub(crate) const HELP: &str = "\
 usage: x7 list STREAM
        x7 asm TEXT
@@ -63,21 +63,44 @@ fn asks_help(word: &str) -> bool
     }
 }
 
-/// The page that the words ask for, as the only word: by `--help`, `-h` or `help`, or by `--version`.
+/// Whether the word after a form's first asks for help: `--help` or `-h`.
+#[tactic(auto, unfolding(crate::specs::Command::is_help_option))]
+fn is_help_option(word: &str) -> bool
+    ensures { result ≡ is_help_option word.now }
+{
+    match word {
+        "--help" | "-h" => true,
+        _ => false,
+    }
+}
+
+/// The page that a word asks for where it stands alone.
+fn page_alone(word: &str) -> Option<&'static str>
+    ensures { MatchOption result (page_alone word.now ≡ None) (λ page. page_alone word.now ≡ Some page.now) }
+{
+    if asks_help(word) {
+        return Some(HELP);
+    }
+    match word {
+        "--version" => Some(VERSION),
+        _ => None,
+    }
+}
+
+/// The page that the words ask for: as the only word, by `--help`, `-h` or `help`, or by `--version`; after another
+/// word, as in `x7 list --help`, by `--help` or `-h`. A file of such a name goes by `./--help`.
 pub(crate) fn page_of(words: &Vec<String>) -> Option<&'static str>
     ensures { MatchOption result (page_of (map string_bytes words.now.items) ≡ None) (λ page. page_of (map string_bytes words.now.items) ≡ Some page.now) }
 {
     let Some((word, more)) = words.split_first() else {
         return None;
     };
-    if !more.is_empty() {
-        return None;
-    }
-    if asks_help(word.as_str()) {
-        return Some(HELP);
-    }
-    match word.as_str() {
-        "--version" => Some(VERSION),
-        _ => None,
+    let Some((next, rest)) = more.split_first() else {
+        return page_alone(word.as_str());
+    };
+    if rest.is_empty() && is_help_option(next.as_str()) {
+        Some(HELP)
+    } else {
+        None
     }
 }
