@@ -18,8 +18,9 @@ def pages(bench: Bench) -> tuple[list[str], str]:
     bench.tally.check("--help is a page", len(lines) < 60 and max(map(len, lines)) < 80, len(lines))
     for words in (["-h"], ["help"], ["list", "--help"], ["play", "-h"], ["--help", "--help"]):
         bench.tally.same(f"{' '.join(words)} is --help", run(bench.folder, [X7, *words]), came)
-    bench.tally.same("a file named help", run(bench.folder, [X7, "list", "help"]), (3, b"", b"x7: missing help\n"))
-    bench.tally.same("a file named --help", run(bench.folder, [X7, "list", "./--help"]), (3, b"", b"x7: missing ./--help\n"))
+    for name in ("help", "./--help"):
+        missing = (3, b"", f"x7: missing {name}\n".encode())
+        bench.tally.same(f"a file named {name}", run(bench.folder, [X7, "list", name]), missing)
     bench.tally.same("no word", run(bench.folder, [X7]), (2, b"", b"x7: usage\n"))
     version = run(bench.folder, [X7, "--version"])
     bench.tally.same("--version, status", (version.status, version.err), (0, b""))
