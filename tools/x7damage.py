@@ -201,7 +201,7 @@ def cause_of_erased_end(source: Source) -> Optional[Cause]:
     count, end = len(source.data) - begin, source.alone
     if count < FEWEST_ERASED or end.end == ["searching"] or end.has_stopped and end.taken < begin:
         return None
-    text = f"the stream stops at byte {begin}: from there on all is FF ({count} bytes), an erased flash"
+    text = f"the stream stops at offset {begin}: from there on all is FF ({count} bytes), an erased flash"
     remedy = "write the flash again, and read it back: only its beginning was written"
     return Cause(Kind.ERASED, text, remedy, Section.EARLY_END, source.first + begin, source)
 
@@ -226,7 +226,7 @@ def cause_of_cleared_end(source: Source) -> Optional[Cause]:
         return None
     place, shown = begin + 4 * len(words) - 8, " ".join(f"{it:08X}" for it in found)
     text = (
-        f"the stream's end, from byte {place} on, stands there with bits cleared: {shown} in place of "
+        f"the stream's end, from offset {place} on, stands there with bits cleared: {shown} in place of "
         f"{DESYNC.hex(' ', 4).upper()}, as where it was written into a flash that wasn't erased"
     )
     remedy = "erase the flash and write it again; read it back"
@@ -242,7 +242,7 @@ def cause_of_zero_end(source: Source) -> Optional[Cause]:
         return None
     if len(source.data) == ADDRESS_LIMIT:
         return None
-    text = f"the stream stops at byte {begin}: from there on all is 00 ({count} bytes)"
+    text = f"the stream stops at offset {begin}: from there on all is 00 ({count} bytes)"
     text += ", as in a file that was begun and not filled" + ("" if source.header else ", or one that is cut off")
     return Cause(Kind.CUT, text, TAKE_AGAIN, Section.EARLY_END, source.first + begin, source)
 
@@ -261,7 +261,7 @@ def cause_of_page(source: Source) -> Optional[Cause]:
         is_page = any((place + lead) % PAGE == 0 for place in (begin, after) for lead in (0, head))
         if after - begin >= SURE_PAGE or is_page:
             text = (
-                f"bytes {begin} to {after - 1} are all FF ({after - begin} bytes), as in a flash of which a page "
+                f"from offset {begin} to {after - 1} all is FF ({after - begin} bytes), as in a flash of which a page "
                 "was erased and not written"
             )
             remedy = "write the flash again, and read it back"
@@ -300,7 +300,7 @@ def cause_of_exchange(source: Source) -> Optional[Cause]:
         return None
     if not plays(data[at:] + data[:at]):
         return None
-    text = f"the file's two parts are exchanged: the stream begins at byte {at}, and what stands before that is its end"
+    text = f"the file's two parts are exchanged: the stream begins at offset {at}, and its end stands before that"
     remedy = (
         f"put them in order: tail -c +{at + 1 + (source.header.size if source.header else 0)} FILE > NEW, and "
         "the other part after it"
@@ -327,13 +327,13 @@ def cause_of_later_stream(source: Source) -> Optional[Cause]:
         return None
     header = data.rfind(x7.FIXED, first, at)
     if header >= 0:
-        text = f"the stream is cut off at byte {header}, where the header of a second one begins, which is whole"
+        text = f"the stream is cut off at offset {header}, where the header of a second one begins, which is whole"
         return Cause(Kind.CUT, text, "give the second one alone", Section.EARLY_END, source.first + header, source)
     if x7kinds.reads(data[:at]):
-        text = f"the stream is cut off before the sync word at byte {at}, from which on a second one is whole"
+        text = f"the stream is cut off before the sync word at offset {at}, from which on a second one is whole"
         return Cause(Kind.CUT, text, "give the second one alone", Section.EARLY_END, source.first + at, source)
     text = (
-        f"the sync word at byte {first} isn't the stream's own, which stands at byte {at}: what comes between is "
+        f"the sync word at offset {first} isn't the stream's own, which stands at offset {at}: what comes between is "
         "taken for packets"
     )
     remedy = f"cut away what stands before the stream: tail -c +{at + 1} of the data, or less of it"
@@ -473,7 +473,7 @@ def cause_of_shift(source: Source) -> Optional[Cause]:
     if sync < 0 or off is None:
         return None
     shift, last = shifts[off], places[off - 1] if off else sync
-    where = f"between bytes {last} and {places[off]}"
+    where = f"between offsets {last} and {places[off]}"
     if source.lost and source.lost % 4 == 4 - shift:
         text = f"{lost_or_added(source.lost)} {where}: the packets after that aren't at the places of words"
     else:
