@@ -33,15 +33,15 @@ COMMANDS = re.compile(rb"\x30\x00\x80\x01\x00\x00\x00[\x00-\x13]")
 DESYNC = x7.write_packet(x7.CMD, [x7.CODES["DESYNC"]])
 # DESYNC is searched in this many last bytes: the vendor's streams have 400 no-ops after it
 END_BYTES = 8192
-# The fewest bytes FF at the end that are an erased flash, and the fewest within a stream that are a page of one. No
-# frame has so many as a page of 512, since the error correction code in its middle isn't all ones.
-FEWEST_ERASED, PAGE, SURE_PAGE = 64, 256, 405
-# the fewest bytes 00 at the end that are no words of few frames, and the fewest words after DESYNC that are its no-ops
-FEWEST_ZEROS, FEWEST_NOPS = 1024, 16
+FEWEST_ERASED = 64  # bytes FF at the end that are an erased flash
+PAGE = 256  # bytes of a page of a flash
+SURE_PAGE = 405  # bytes FF that aren't frames': of a frame's 404 the error correction code isn't all ones
+FEWEST_ZEROS = 1024  # bytes 00 at the end that are no words of few frames
+FEWEST_NOPS = 16  # words after DESYNC that are its no-ops
 # how many bytes 24 bits of address reach, of an SPI flash: what ends there is cut off
 ADDRESS_LIMIT = 1 << 24
-# the fewest bytes of a file that is judged by the bytes that it lacks, and how often those beside must stand in it
-FEWEST_BYTES, OFTEN = 512, 24
+FEWEST_BYTES = 512  # of a file that is judged by the bytes that it lacks
+OFTEN = 24  # how often the bytes beside these must stand in it
 # how many sync words after the first one are tried
 MOST_SYNCS = 4
 
@@ -248,8 +248,8 @@ def cause_of_zero_end(source: Source) -> Optional[Cause]:
 
 
 def cause_of_page(source: Source) -> Optional[Cause]:
-    """The cause where a page of FF stands within a stream, or none. One that a frame may have is one where a page of a
-    flash begins or ends."""
+    """The cause where bytes FF stand within a stream as an unwritten page of a flash, or none. SURE_PAGE bytes or more
+    are one; fewer only where they begin or end at a page's edge, counted in the data or in the file with its header."""
     data, head = source.data, source.header.size if source.header else 0
     sync, end = data.find(x7.SYNC), data.rfind(DESYNC)
     if sync < 0:
