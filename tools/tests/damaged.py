@@ -17,7 +17,7 @@ class Damage(NamedTuple):
     files: Files  # what `why` is given, one after the other
     right: str  # a pattern of what is right to say
     status: int  # what `why` ends with
-    part: str  # a pattern of what is true and says less
+    weaker: str  # a pattern of what is true and says less
 
 
 class Good:

@@ -13,6 +13,7 @@ import random
 import re
 import tarfile
 import zipfile
+from enum import Enum
 from typing import Callable, Iterator, List
 
 from casefiles import header  # (casefiles puts the tools on the path)
@@ -650,25 +651,35 @@ def all_of(g: Good, other: Good) -> Iterator[Damage]:
         yield from pair(g, other)
 
 
+class Verdict(Enum):
+    """How well what was said fits."""
+
+    RIGHT = "it says what happened"
+    WEAKER = "it is true, and says less"
+    UNKNOWN = "it says that what happened, or how much of it, is unknown"
+    NOTHING = "it says nothing of it"
+    WRONG = "it isn't so"
+
+
 # A number of bytes or words in what is said.
 COUNTED = re.compile(r"(\d+) (?:bytes|words)")
+# What says that something is unknown. The kind of a cause doesn't tell it: of lost bytes, or of a check that fails, how
+# many or which may be unknown too.
+SAYS_UNKNOWN = re.compile("unknown|nor one in any way")
 
 
-def judged(damage: Damage, status: int, text: str, most: int) -> str:
-    """How well what was said fits: right, part, unknown, nothing or wrong; `most` is how many bytes there are. A count
-    past these, and a good file that is blamed, are wrong."""
+def judged(damage: Damage, status: int, text: str, most: int) -> Verdict:
+    """How well what was said fits; `most` is how many bytes there are. A count past these, and a good file that is
+    blamed, are wrong."""
     if status == 2 != damage.status or any(int(it) > 4 * most for it in COUNTED.findall(text)):
-        return "wrong"
-    if re.search(damage.right, text) and (
-        status == damage.status or "starts|" in damage.right and damage.status == 0 == status
-    ):
-        return "right"
-    if re.search("unknown|nor one in any way", text):
-        return "unknown"
+        return Verdict.WRONG
+    names_it = bool(re.search(damage.right, text))
+    if names_it and status == damage.status:
+        return Verdict.RIGHT
+    if SAYS_UNKNOWN.search(text):
+        return Verdict.UNKNOWN
     if status == 0 and damage.status == 1:
-        return "nothing"
-    if damage.part and status == 1 and re.search(damage.part, text):
-        return "part"
-    if re.search(damage.right, text):
-        return "part"
-    return "nothing" if status == 0 else "wrong"
+        return Verdict.NOTHING
+    if names_it or damage.weaker and status == 1 and re.search(damage.weaker, text):
+        return Verdict.WEAKER
+    return Verdict.NOTHING if status == 0 else Verdict.WRONG
