@@ -49,17 +49,17 @@ def cause_of_stopped_boot(subject: Subject, report: Report) -> Cause:
     """The cause of a boot of which no attempt started."""
     registers, path, leads = subject.fate.registers, path_of(report), leads_on(report)
     if report.end[0] == "searching" and not registers.get("CMD") and not leads:
-        return boot_cause(
-            f"{path}: nowhere in the flash is a sync word", f"{CALLED}why FLASH names what it is", Section.NO_SYNC,
-        )
+        text = f"no attempt started ({path}): nowhere in the flash is a sync word"
+        return boot_cause(text, f"{CALLED}why FLASH names what it is", Section.NO_SYNC)
     if report.attempts[-1].kind != "fallback":
-        text = f"{path}; no fallback follows, since CTL0 {registers['CTL0']:08X} has bit 10"
+        ctl0 = f"CTL0 {registers['CTL0']:08X}"
+        text = f"no attempt started ({path}), and no fallback follows: {ctl0} has bit 10 set, which forbids it"
         remedy = "mend that image; and let the tool allow fallback (BITSTREAM.CONFIG.CONFIGFALLBACK ENABLE)"
         return boot_cause(text, remedy, Section.NO_FALLBACK)
     if not leads:
-        text = f"{path}; the flash has one image, and the fallback finds the same one"
+        text = f"no attempt started ({path}): the flash has one image, and the fallback finds the same one"
         return boot_cause(text, ALONE, Section.NO_FALLBACK)
-    text = f"{path}; the golden image doesn't start either"
+    text = f"no attempt started ({path}): the golden image doesn't start either"
     return boot_cause(text, "play each of the two streams alone", Section.NO_FALLBACK)
 
 

@@ -129,7 +129,8 @@ def cause_of_fault(subject: Subject) -> Optional[Cause]:
     told = TOLD[kind]
     text = told.text.format(*words)
     if kind == "Crc":
-        text += damage_of_frames(source, after - source.first) or ("" if source.header else ": which is unknown")
+        unknown = "" if source.header else "; which of them is unknown"
+        text += damage_of_frames(source, after - source.first) or unknown
     return Cause(told.kind, text, told.remedy, told.section, after, source)
 
 
@@ -157,7 +158,7 @@ def cause_of_packet(source: Source, word: str, after: int) -> Cause:
         text += "the header's length is right, so none was lost or added, and it, or words before it, are damaged"
     else:
         text += "words were lost or added before it, or the word itself is damaged"
-        text += "" if source.header else ", alone or with others: which is unknown"
+        text += "" if source.header else ", alone or with others; which of these is unknown"
     text += damage_of_frames(source, after - source.first)
     return Cause(Kind.PACKET, text, COUNT_BYTES, Section.LOST_WORDS, after, source)
 
@@ -178,10 +179,11 @@ def damage_of_frames(source: Source, before: int) -> str:
     first, last = found.wrong[0], found.wrong[-1] + FRAME_BYTES - 1
     if len(found.wrong) <= FEW_FRAMES:
         places = ", ".join(f"{it} to {it + FRAME_BYTES - 1}" for it in found.wrong)
-        return f"; damaged by the error correction codes: {len(found.wrong)} of {found.held} frames, at bytes {places}"
+        count = f"{len(found.wrong)} of {found.held} frames"
+        return f"; damaged by the error correction codes: {count}, at offsets {places}"
     return (
         f"; damaged by their error correction codes: {len(found.wrong)} of {found.held} frames that hold something, "
-        f"between bytes {first} and {last}: what did it is unknown, such as a flash written where it wasn't erased"
+        f"between offsets {first} and {last}: what did it is unknown, such as a flash written where it wasn't erased"
     )
 
 
@@ -215,8 +217,8 @@ def cause_of_phase(subject: Subject) -> Cause:
     if waits:
         text = f"startup waits in phase {fate.phase} for {waits}"
         remedy = (
-            "see that these clocks run and come to the device; or let the tool not wait (NoWait). How long it takes is "
-            "lock and match of the part file"
+            "see that these clocks run and come to the device; or let the tool not wait (NoWait). In x7 the part file "
+            "says how long they take: lock and match"
         )
         return Cause(Kind.WAITS, text, remedy, Section.WAITS)
     text = f"the bytes end in phase {fate.phase} of startup: after DESYNC each phase takes four bytes, or a clock"
@@ -412,8 +414,8 @@ def cause_of_several_devices(subject: Subject) -> Optional[Cause]:
             continue
         if source is first:
             at, header = after - source.first, source.data.rfind(x7.FIXED, 0, after - source.first)
-            where = f"a second stream, before byte {at}"
-            where = f"the header of a second .bit file stands at byte {header}" if header >= 0 else where
+            where = f"a second stream, before offset {at}"
+            where = f"the header of a second .bit file stands at offset {header}" if header >= 0 else where
             text = (
                 f"the file has streams of two devices: {wanted:08X}{named(wanted)}, and {idcode:08X}{named(idcode)} "
                 f"({where}); no device takes both"

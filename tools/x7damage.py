@@ -33,15 +33,15 @@ COMMANDS = re.compile(rb"\x30\x00\x80\x01\x00\x00\x00[\x00-\x13]")
 DESYNC = x7.write_packet(x7.CMD, [x7.CODES["DESYNC"]])
 # DESYNC is searched in this many last bytes: the vendor's streams have 400 no-ops after it
 END_BYTES = 8192
-# The fewest bytes FF at the end that are an erased flash, and the fewest within a stream that are a page of one. No
-# frame has so many as a page of 512, since the error correction code in its middle isn't all ones.
-FEWEST_ERASED, PAGE, SURE_PAGE = 64, 256, 405
-# the fewest bytes 00 at the end that are no words of few frames, and the fewest words after DESYNC that are its no-ops
-FEWEST_ZEROS, FEWEST_NOPS = 1024, 16
+FEWEST_ERASED = 64  # bytes FF at the end that are an erased flash
+PAGE = 256  # bytes of a page of a flash
+SURE_PAGE = 405  # bytes FF that aren't frames': of a frame's 404 the error correction code isn't all ones
+FEWEST_ZEROS = 1024  # bytes 00 at the end that are no words of few frames
+FEWEST_NOPS = 16  # words after DESYNC that are its no-ops
 # how many bytes 24 bits of address reach, of an SPI flash: what ends there is cut off
 ADDRESS_LIMIT = 1 << 24
-# the fewest bytes of a file that is judged by the bytes that it lacks, and how often those beside must stand in it
-FEWEST_BYTES, OFTEN = 512, 24
+FEWEST_BYTES = 512  # of a file that is judged by the bytes that it lacks
+OFTEN = 24  # how often the bytes beside these must stand in it
 # how many sync words after the first one are tried
 MOST_SYNCS = 4
 
@@ -206,7 +206,7 @@ def cause_of_erased_end(source: Source) -> Optional[Cause]:
     count, end = len(source.data) - begin, source.alone
     if count < FEWEST_ERASED or end.end == ["searching"] or end.has_stopped and end.taken < begin:
         return None
-    text = f"the stream stops at byte {begin}: from there on all is FF ({count} bytes), an erased flash"
+    text = f"the stream stops at offset {begin}: from there on all is FF ({count} bytes), an erased flash"
     remedy = "write the flash again, and read it back: only its beginning was written"
     return Cause(Kind.ERASED, text, remedy, Section.EARLY_END, source.first + begin, source)
 
@@ -231,7 +231,7 @@ def cause_of_cleared_end(source: Source) -> Optional[Cause]:
         return None
     place, shown = begin + 4 * len(words) - 8, " ".join(f"{it:08X}" for it in found)
     text = (
-        f"the stream's end, from byte {place} on, stands there with bits cleared: {shown} in place of "
+        f"the stream's end, from offset {place} on, stands there with bits cleared: {shown} in place of "
         f"{DESYNC.hex(' ', 4).upper()}, as where it was written into a flash that wasn't erased"
     )
     remedy = "erase the flash and write it again; read it back"
@@ -247,14 +247,14 @@ def cause_of_zero_end(source: Source) -> Optional[Cause]:
         return None
     if len(source.data) == ADDRESS_LIMIT:
         return None
-    text = f"the stream stops at byte {begin}: from there on all is 00 ({count} bytes)"
+    text = f"the stream stops at offset {begin}: from there on all is 00 ({count} bytes)"
     text += ", as in a file that was begun and not filled" + ("" if source.header else ", or one that is cut off")
     return Cause(Kind.CUT, text, TAKE_AGAIN, Section.EARLY_END, source.first + begin, source)
 
 
 def cause_of_page(source: Source) -> Optional[Cause]:
-    """The cause where a page of FF stands within a stream, or none. One that a frame may have is one where a page of a
-    flash begins or ends."""
+    """The cause where bytes FF stand within a stream as an unwritten page of a flash, or none. SURE_PAGE bytes or more
+    are one; fewer only where they begin or end at a page's edge, counted in the data or in the file with its header."""
     data, head = source.data, source.header.size if source.header else 0
     sync, end = data.find(x7.SYNC), data.rfind(DESYNC)
     if sync < 0:
@@ -266,8 +266,8 @@ def cause_of_page(source: Source) -> Optional[Cause]:
         is_page = any((place + lead) % PAGE == 0 for place in (begin, after) for lead in (0, head))
         if after - begin >= SURE_PAGE or is_page:
             text = (
-                f"bytes {begin} to {after - 1} are all FF ({after - begin} bytes), as in a flash of which a page was "
-                "erased and not written"
+                f"from offset {begin} to {after - 1} all is FF ({after - begin} bytes), as in a flash of which a page "
+                "was erased and not written"
             )
             remedy = "write the flash again, and read it back"
             return Cause(Kind.ERASED, text, remedy, Section.LOST_WORDS, source.first + begin + 1, source)
@@ -305,7 +305,7 @@ def cause_of_exchange(source: Source) -> Optional[Cause]:
         return None
     if not plays(data[at:] + data[:at]):
         return None
-    text = f"the file's two parts are exchanged: the stream begins at byte {at}, and what stands before that is its end"
+    text = f"the file's two parts are exchanged: the stream begins at offset {at}, and its end stands before that"
     remedy = (
         f"put them in order: tail -c +{at + 1 + (source.header.size if source.header else 0)} FILE > NEW, and the "
         "other part after it"
@@ -332,14 +332,14 @@ def cause_of_later_stream(source: Source) -> Optional[Cause]:
         return None
     header = data.rfind(x7.FIXED, first, at)
     if header >= 0:
-        text = f"the stream is cut off at byte {header}, where the header of a second one begins, which is whole"
+        text = f"the stream is cut off at offset {header}, where the header of a second one begins, which is whole"
         return Cause(Kind.CUT, text, "give the second one alone", Section.EARLY_END, source.first + header, source)
     if x7kinds.is_stream(data[:at]):
-        text = f"the stream is cut off before the sync word at byte {at}, from which on a second one is whole"
+        text = f"the stream is cut off before the sync word at offset {at}, from which on a second one is whole"
         return Cause(Kind.CUT, text, "give the second one alone", Section.EARLY_END, source.first + at, source)
     text = (
-        f"the sync word at byte {first} isn't the stream's own, which stands at byte {at}: what comes between is taken "
-        "for packets"
+        f"the sync word at offset {first} isn't the stream's own, which stands at offset {at}: what comes between is "
+        "taken for packets"
     )
     remedy = f"cut away what stands before the stream: tail -c +{at + 1} of the data, or less of it"
     return Cause(Kind.FALSE_SYNC, text, remedy, Section.NO_SYNC, source.first + first + 4, source)
@@ -477,7 +477,7 @@ def cause_of_shift(source: Source) -> Optional[Cause]:
     if sync < 0 or off is None:
         return None
     shift, last = shifts[off], places[off - 1] if off else sync
-    where = f"between bytes {last} and {places[off]}"
+    where = f"between offsets {last} and {places[off]}"
     if source.lost and source.lost % 4 == 4 - shift:
         text = f"{lost_or_added(source.lost)} {where}: the packets after that aren't at the places of words"
     else:

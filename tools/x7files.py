@@ -65,7 +65,10 @@ def cause_of_empty(source: Source) -> Cause:
     if source.header:
         text = f"the stream is cut off right after its header, which tells of {source.header_count} bytes of data"
         return unsynced(Kind.CUT, text, TAKE_AGAIN, source)
-    text = "the file has no data: it is empty, or `x7 list` refused it: see its line"
+    text = (
+        "the file is empty; if it should be a listing, `x7 list` refused the stream, and its line on standard error "
+        "says why"
+    )
     return unsynced(Kind.EMPTY, text, "write it again", source)
 
 
@@ -82,7 +85,7 @@ def cause_of_no_sync(source: Source) -> Cause:
     packets = re.search(rb"\x30\x00\x80\x01\x00\x00\x00[\x00-\x13]|\x30\x01\x80\x01....", data, re.S)
     if packets:
         what = damaged_sync(data, packets.start())
-        text = f"no sync word AA995566, though packets follow from byte {packets.start()} on: {what}"
+        text = f"no sync word AA995566, though packets follow from offset {packets.start()} on: {what}"
         return unsynced(Kind.NO_BEGINNING, text, TAKE_AGAIN, source)
     alone = frames_alone(data)
     if alone:
@@ -103,7 +106,7 @@ def cause_of_no_sync(source: Source) -> Cause:
 def cause_of_frames(source: Source, alone: Alone) -> Cause:
     """The cause where a file is frames without packets, as a readback gives them."""
     turned = f", {alone.way.what} {alone.way.how}" if alone.way else ""
-    late = f", from byte {alone.first} on" if alone.first else ""
+    late = f", from offset {alone.first} on" if alone.first else ""
     codes = f"the error correction code (word 50) is right in {alone.right} of the first frames that hold something"
     text = f"no sync word, and no packets: it is frame data alone, as of a readback{turned}{late}: {codes}"
     remedy = "a device takes no frames without packets: give the .bit or .bin file from which it was configured"

@@ -66,9 +66,9 @@ def notes_of_codes(source: Source, subject: Subject) -> List[str]:
         return []
     return [
         f"the error correction code of {len(codes.wrong)} of {codes.held} frames{of_name(source, subject)} isn't that "
-        f"of their words, first at byte {codes.wrong[0]}: frames that were changed, as by hand or after a readback. A "
-        f"device takes them, and its own readback check (POST_CRC, SEM) tells of errors: {x7.CALLED}frames mend makes "
-        "it anew",
+        f"of their words, first at offset {codes.wrong[0]}: frames that were changed, as by hand or after a readback. "
+        f"A device takes them, and its own readback check (POST_CRC, SEM) tells of errors: {x7.CALLED}frames mend "
+        "makes it anew",
     ]
 
 
@@ -77,7 +77,7 @@ def notes_of_copies(source: Source, subject: Subject) -> List[str]:
     at = source.data.find(x7.FIXED)
     if at < 0:
         return []
-    return [f"a second header of a .bit file stands at byte {at} of the data{of_name(source, subject)}"]
+    return [f"a second header of a .bit file stands at offset {at} of the data{of_name(source, subject)}"]
 
 
 def notes_of_width(source: Source, subject: Subject) -> List[str]:

@@ -227,7 +227,7 @@ def repeated(data: bytes) -> Optional[Wires]:
             what = "byte" if size == 1 else f"block of {size} bytes"
             if 4 * size > len(data):
                 return Wires(
-                    f"the {size} bytes from byte {size} on repeat those before them", "give the first half alone",
+                    f"the {size} bytes from offset {size} on repeat those before them", "give the first half alone",
                 )
             text = (
                 f"each {what} stands twice, as where an address line is stuck, and every second {what} may be missing"

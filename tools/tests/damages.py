@@ -13,6 +13,7 @@ import random
 import re
 import tarfile
 import zipfile
+from enum import Enum
 from typing import Callable, Iterator, List
 
 from casefiles import header  # (casefiles puts the tools on the path)
@@ -69,8 +70,8 @@ def losses(g: Good) -> List[Damage]:
     found.append(row("a page twice", [twice], r"256 bytes .{0,30}added|tells of .* bytes were added", 1, LOOSE))
     eaten = g.bit(b"".join(g.data[at : at + 511] for at in range(0, len(g.data), 512)))
     found.append(row("each 512th byte lost", [eaten], "bytes were lost|bytes .*lost", 1, LOOSE))
-    found.append(row("the beginning lost", [g.data[g.sync + 12 :]], "packets follow from byte"))
-    found.append(row("a page lost first", [g.data[256:]], "packets follow from byte|beginning"))
+    found.append(row("the beginning lost", [g.data[g.sync + 12 :]], "packets follow from offset"))
+    found.append(row("a page lost first", [g.data[256:]], "packets follow from offset|beginning"))
     late = (int.from_bytes(g.data, "big") >> 3).to_bytes(len(g.data), "big")
     found.append(row("three bits late", [late], "all bits come 3 places late"))
     return found
@@ -346,7 +347,7 @@ def other_design(g: Good) -> bytes:
 def several_streams(g: Good, other: Good) -> List[Damage]:
     """A flash with a stream's parts in another order, or with two streams."""
     flash, half = g.data + b"\xff" * (-len(g.data) % 65536), len(g.data) // 2 // 256 * 256
-    order, two = "exchanged|other order|wrong order|begins at byte", "two devices|different devices|second "
+    order, two = "exchanged|other order|wrong order|begins at offset", "two devices|different devices|second "
     two += "(header|stream)"
     return [
         row("halves exchanged", [g.data[half:] + g.data[:half]], order),
@@ -378,7 +379,7 @@ def readbacks(g: Good) -> List[Damage]:
         row("frames alone, swapped", [swapped], "readback|frames alone|frame data|unknown"),
         row("a readback with codes", [frames], right + ": .*error correction code"),
         *(row(f"a readback, {it.what} swapped", [it.back(frames)], f"{right}, {it.what} swapped") for it in ways),
-        row("a readback with codes after words of its own", [bytes(40) + frames], right + ", from byte 40 on"),
+        row("a readback with codes after words of its own", [bytes(40) + frames], right + ", from offset 40 on"),
         row("one frame of a readback, and its pad", [bytes(404) + frames[held : held + 404]], right),
         row("a readback in a header", [g.bit(frames)], right),
     ]
@@ -474,7 +475,7 @@ def texts(g: Good) -> List[Damage]:
         row("a line of x7", [b"x7: bad input: design.bit\n"], "x7 refused"),
         row("a text", [b"hello\nworld\n"], "a text, which begins 'hello'"),
         row("a mark and a text", [b"\xef\xbb\xbfhello\n"], "a text, which begins"),
-        row("empty", [b""], "it is empty"),
+        row("empty", [b""], "the file is empty"),
         row(
             "a part file",
             [b"name = \"xc7a35t\"\nidcode = 0x0362D093\n\n[[row]]\nblock = 0\n"],
@@ -673,25 +674,35 @@ def all_of(g: Good, other: Good) -> Iterator[Damage]:
         yield from pair(g, other)
 
 
+class Verdict(Enum):
+    """How well what was said fits."""
+
+    RIGHT = "it says what happened"
+    WEAKER = "it is true, and says less"
+    UNKNOWN = "it says that what happened, or how much of it, is unknown"
+    NOTHING = "it says nothing of it"
+    WRONG = "it isn't so"
+
+
 # A number of bytes or words in what is said.
 COUNTED = re.compile(r"(\d+) (?:bytes|words)")
+# What says that something is unknown. The kind of a cause doesn't tell it: of lost bytes, or of a check that fails, how
+# many or which may be unknown too.
+SAYS_UNKNOWN = re.compile("unknown|nor one in any way")
 
 
-def judged(damage: Damage, status: int, text: str, most: int) -> str:
-    """How well what was said fits: right, part, unknown, nothing or wrong; `most` is how many bytes there are. A count
-    past these, and a good file that is blamed, are wrong."""
+def judged(damage: Damage, status: int, text: str, most: int) -> Verdict:
+    """How well what was said fits; `most` is how many bytes there are. A count past these, and a good file that is
+    blamed, are wrong."""
     if status == 2 != damage.status or any(int(it) > 4 * most for it in COUNTED.findall(text)):
-        return "wrong"
-    if re.search(damage.right, text) and (
-        status == damage.status or "starts|" in damage.right and damage.status == 0 == status
-    ):
-        return "right"
-    if re.search("unknown|nor one in any way", text):
-        return "unknown"
+        return Verdict.WRONG
+    names_it = bool(re.search(damage.right, text))
+    if names_it and status == damage.status:
+        return Verdict.RIGHT
+    if SAYS_UNKNOWN.search(text):
+        return Verdict.UNKNOWN
     if status == 0 and damage.status == 1:
-        return "nothing"
-    if damage.weaker and status == 1 and re.search(damage.weaker, text):
-        return "part"
-    if re.search(damage.right, text):
-        return "part"
-    return "nothing" if status == 0 else "wrong"
+        return Verdict.NOTHING
+    if names_it or damage.weaker and status == 1 and re.search(damage.weaker, text):
+        return Verdict.WEAKER
+    return Verdict.NOTHING if status == 0 else Verdict.WRONG

@@ -132,7 +132,7 @@ def codes(folder: str) -> None:
     TALLY.same("two are wrong", found and found.wrong, [held[2].place, held[5].place])
     status, text = said(folder, GOOD.bit(broken))
     where = ", ".join(f"{it.place} to {it.place + 403}" for it in (held[2], held[5]))
-    TALLY.check("two are named", status == 1 and f"2 of {len(held)} frames, at bytes {where}" in text, text)
+    TALLY.check("two are named", status == 1 and f"2 of {len(held)} frames, at offsets {where}" in text, text)
     status, text = said(folder, GOOD.bit(damaged.flip(GOOD.data, GOOD.checks[0])))
     TALLY.check("a damaged check", f"before it that hold something: {len(held)}, each with the" in text, text)
     without = s.bit(s.full())

@@ -20,7 +20,7 @@ from typing import Dict, List
 from casefiles import Tally, put_file
 from calls import called
 from damaged import Damage, Good, coded
-from damages import all_of, judged
+from damages import Verdict, all_of, judged
 import streams as s
 
 # The kinds of which `why` knows less: that something is wrong, and that what happened is unknown.
@@ -49,9 +49,9 @@ def table(tally: Tally, kind: str, good: Good, other: Good, folder: str) -> None
     for damage in all_of(good, other):
         status, text = said(damage, folder)
         verdict = judged(damage, status, text, most_of(damage, good))
-        allowed = ("right", "unknown") if KNOWN_LESS.fullmatch(damage.name) else ("right",)
-        tally.check(f"{kind}, {damage.name}", verdict in allowed, f"{verdict}, status {status}: {text[:400]!r}, "
-                                                                  f"wanted {damage.right!r}")
+        allowed = (Verdict.RIGHT, Verdict.UNKNOWN) if KNOWN_LESS.fullmatch(damage.name) else (Verdict.RIGHT,)
+        came = f"{verdict.value}, status {status}: {text[:400]!r}, wanted {damage.right!r}"
+        tally.check(f"{kind}, {damage.name}", verdict in allowed, came)
 
 
 def half_written(tally: Tally, good: Good, folder: str) -> None:
@@ -70,7 +70,7 @@ def half_written(tally: Tally, good: Good, folder: str) -> None:
 
 def of_files(paths: List[str]) -> None:
     """Tries streams that are given, in pairs, and says what isn't right, and the counts."""
-    counts: Dict[str, int] = collections.Counter()
+    counts: Dict[Verdict, int] = collections.Counter()
     with tempfile.TemporaryDirectory() as folder:
         for one, other in zip(paths[::2], paths[1::2]):
             with open(one, "rb") as first, open(other, "rb") as second:
@@ -79,10 +79,10 @@ def of_files(paths: List[str]) -> None:
                 status, text = said(damage, folder)
                 verdict = judged(damage, status, text, most_of(damage, good))
                 counts[verdict] += 1
-                if verdict != "right":
-                    print(f"{os.path.basename(one)}, {damage.name}: {verdict}, status {status}: "
+                if verdict is not Verdict.RIGHT:
+                    print(f"{os.path.basename(one)}, {damage.name}: {verdict.value}, status {status}: "
                           f"{text.split(chr(10))[0][:200]}", flush=True)
-    print(", ".join(f"{name} {count}" for name, count in sorted(counts.items())))
+    print(", ".join(f"{verdict.name.lower()} {counts[verdict]}" for verdict in Verdict if counts[verdict]))
 
 
 if len(sys.argv) > 2:

@@ -2,7 +2,7 @@
 streams, modes, times, what an erase takes, opcodes; and that none of the good ones is refused."""
 from __future__ import annotations
 
-from typing import Dict, List, NamedTuple, Optional, Sequence, Set, Tuple
+from typing import Dict, List, NamedTuple, Optional, Sequence, Set
 
 from runs import DEVICE, Bench, frame_of, run_parts, text_of_frames
 import x7formats as x7
@@ -16,10 +16,22 @@ START = "write CMD 1\ncmd SHUTDOWN"
 FAST = {"data 02003FE5": "data 02423FE5", START: f"write BSPI 1\ndata 0000026B\nwrite CMD 1\ncmd BSPI_READ\n{START}"}
 
 
-# the name of a case, what is changed, and the checks that fail
-Golden = Tuple[str, Dict[str, str], List[str]]
-# the name of a case, the word of TIMER, what else is changed, the checks that fail, and the notes
-Timed = Tuple[str, str, Dict[str, str], List[str], List[str]]
+class Golden(NamedTuple):
+    """A golden stream that is changed, and what is said of it."""
+
+    name: str
+    changes: Dict[str, str]  # lines of its listing, old and new
+    fails: List[str]  # the checks that fail
+
+
+class Timed(NamedTuple):
+    """A stream with a watchdog, and what is said of it."""
+
+    name: str
+    word: str  # of TIMER
+    changes: Dict[str, str]  # further lines of its listing, old and new
+    fails: List[str]  # the checks that fail
+    notes: List[str]  # the notes that are made
 
 
 class Said(NamedTuple):
@@ -83,11 +95,11 @@ def goldens(bench: Bench) -> None:
     words = ["made.part", "flash", "next"]
     other_device = {"data 0362D093": "data 0362C093"}
     cases: List[Golden] = [
-        ("a golden stream of JTAG's clock", {"data 02003FE5": "data 02013FE5"}, ["golden clock"]),
-        ("a golden stream of the user's clock", {"data 02003FE5": "data 0200BFE5"}, ["golden clock"]),
-        ("a golden stream without a check", {"crc\n": "# "}, ["golden stream"]),
-        ("a golden stream for another device", other_device, ["golden idcode", "closed", "damaged"]),
-        ("a golden stream at 33 MHz on four lines", FAST, []),
+        Golden("a golden stream of JTAG's clock", {"data 02003FE5": "data 02013FE5"}, ["golden clock"]),
+        Golden("a golden stream of the user's clock", {"data 02003FE5": "data 0200BFE5"}, ["golden clock"]),
+        Golden("a golden stream without a check", {"crc\n": "# "}, ["golden stream"]),
+        Golden("a golden stream for another device", other_device, ["golden idcode", "closed", "damaged"]),
+        Golden("a golden stream at 33 MHz on four lines", FAST, []),
     ]
     for name, changes, fails in cases:
         put_flash(bench, changed(bench, "golden", changes), "update")
@@ -124,15 +136,15 @@ def times(bench: Bench) -> None:
     """A watchdog is judged by seconds: it fails where it is too short at any clock, and what isn't sure is noted. The
     stream has some 15,000 bytes: 40 ms on one line at 3 MHz, 0.9 on four at 33."""
     words = ["made.part", "flash", "other"]
-    ends = ["damaged"]
+    ends, other_clock = ["damaged"], {"data 02003FE5": "data 02083FE5"}
     cases: List[Timed] = [
-        ("a watchdog that lasts, in fewer bytes than the stream's", "40000E00", FAST, [], ends),
-        ("a watchdog that lasts", "40100000", {}, [], ends),
-        ("a watchdog that lasts at these clocks", "40003000", {}, [], ["time", *ends]),
-        ("a watchdog that doesn't at these clocks", "40001000", {}, [], ["time", *ends]),
-        ("a watchdog whose clock isn't known", "40001000", {"data 02003FE5": "data 02083FE5"}, [], ["time", *ends]),
-        ("a watchdog that lasts at no clock", "40000010", {}, ["time"], ends),
-        ("no watchdog", "00000010", {}, [], ends),
+        Timed("a watchdog that lasts, in fewer bytes than the stream's", "40000E00", FAST, [], ends),
+        Timed("a watchdog that lasts", "40100000", {}, [], ends),
+        Timed("a watchdog that lasts at these clocks", "40003000", {}, [], ["time", *ends]),
+        Timed("a watchdog that doesn't at these clocks", "40001000", {}, [], ["time", *ends]),
+        Timed("a watchdog whose clock isn't known", "40001000", other_clock, [], ["time", *ends]),
+        Timed("a watchdog that lasts at no clock", "40000010", {}, ["time"], ends),
+        Timed("no watchdog", "00000010", {}, [], ends),
     ]
     for name, word, changes, fails, notes in cases:
         changed(bench, "next", armed(word, changes))
@@ -141,9 +153,9 @@ def times(bench: Bench) -> None:
         bench.tally.check(f"{name}: both times are said", "bytes at" in text and "take" in text, text)
         bench.tally.same(f"{name}: allow_fallback takes it", bench.tool("allow_fallback", "other").status, 0)
     cases_of_goldens: List[Timed] = [
-        ("a golden watchdog that lasts", "40100000", {}, [], ["damaged"]),
-        ("a golden watchdog that may not last", "40001000", {}, [], ["golden time", "damaged"]),
-        ("a golden watchdog that lasts at no clock", "40000010", {}, ["golden time"], ["damaged"]),
+        Timed("a golden watchdog that lasts", "40100000", {}, [], ["damaged"]),
+        Timed("a golden watchdog that may not last", "40001000", {}, [], ["golden time", "damaged"]),
+        Timed("a golden watchdog that lasts at no clock", "40000010", {}, ["golden time"], ["damaged"]),
     ]
     for name, word, changes, fails, notes in cases_of_goldens:
         put_flash(bench, changed(bench, "golden", armed(word, changes)), "update")

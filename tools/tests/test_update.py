@@ -160,22 +160,23 @@ def no_streams(bench: Bench) -> None:
         ("unchecked", "no check"),
     ):
         bench.refuses("flash_steps", "flash", name, what=what)
-        room = len(bench.get(name)) <= 3 * SECTOR
+        fits = len(bench.get(name)) <= 3 * SECTOR
         status = bench.tool("flash_steps", "--any", "flash", name).status
-        bench.tally.same(f"--any takes {name}", status, 0 if room else 2)
+        bench.tally.same(f"--any takes {name}", status, 0 if fits else 2)
 
 
 def cuts(bench: Bench) -> None:
     """The power goes between two steps, or in the middle of one: what is there boots."""
     new_flash(bench)
-    raw, flash, take = bench.get("next"), bytearray(bench.get("flash")), random.Random(5)
+    raw, flash, rng = bench.get("next"), bytearray(bench.get("flash")), random.Random(5)
     for number, line in enumerate(steps_of(bench, *STEPS)):
         torn, before = bytearray(flash), bytes(flash)
         apply(flash, line, raw)
-        for place in range(len(flash)) if before != flash and number % 31 < 2 else ():
+        is_tried = number % 31 < 2  # two steps in 31: a boot takes a while
+        for place in range(len(flash)) if before != flash and is_tried else ():
             if before[place] != flash[place]:
-                torn[place] = before[place] if take.random() < 0.5 else flash[place]
-        if number % 31 < 2:
+                torn[place] = before[place] if rng.random() < 0.5 else flash[place]
+        if is_tried:
             bench.put("torn", bytes(torn))
             came = bench.x7("boot", "made.part", "torn")
             is_so = came.status == 0 and b"end started" in came.out
