@@ -2,7 +2,7 @@
 python3 (3.8) and its library alone."""
 from __future__ import annotations
 
-from typing import Dict, List, NamedTuple, Tuple
+from typing import NamedTuple
 
 import x7formats as x7
 from x7causes import outputs_off_at
@@ -83,7 +83,7 @@ def frames_line(source: Source) -> str:
     return f"{how}, {found.written} written{pads}, {found.filled} not zero; {held}{ends}"
 
 
-def flash_line(source: Source, registers: Dict[str, int]) -> str:
+def flash_line(source: Source, registers: dict[str, int]) -> str:
     """How an SPI flash is read, the watchdog, the start address, and the bus width pattern."""
     bspi, watch = registers["BSPI"], watch_of(source)
     said = [f"no opcode of an SPI flash (BSPI {bspi:08X})"]
@@ -125,7 +125,7 @@ def rules_line(source: Source) -> str:
     return "; ".join(it for it in said if it)
 
 
-def lines_about(source: Source) -> List[Tuple[str, str]]:
+def lines_about(source: Source) -> list[tuple[str, str]]:
     """The lines of a stream, each with its name."""
     registers = source.alone.registers
     return [

@@ -3,7 +3,7 @@ two bits of their place are the other way round. python3 (3.8) and its library a
 from __future__ import annotations
 
 from itertools import combinations
-from typing import Iterator, Optional
+from typing import Iterator
 
 import x7formats as x7
 import x7kinds
@@ -56,7 +56,7 @@ def steps_well(data: bytes) -> bool:
     return False
 
 
-def orders_of(data: bytes) -> Iterator["tuple[int, int, bytes]"]:
+def orders_of(data: bytes) -> Iterator[tuple[int, int, bytes]]:
     """Pairs of lines that may be exchanged, each with the data in their order. None is past all that isn't FF."""
     end = len(data.rstrip(b"\xff"))
     for one, other in combinations(range(len(data).bit_length() - 1), 2):
@@ -66,7 +66,7 @@ def orders_of(data: bytes) -> Iterator["tuple[int, int, bytes]"]:
                 yield one, other, turned
 
 
-def exchanged_lines(data: bytes, is_stream: Judge) -> Optional[Wires]:
+def exchanged_lines(data: bytes, is_stream: Judge) -> Wires | None:
     """Two address lines that are exchanged, or none; `is_stream` judges the data in their order."""
     if not is_whole_flash(data):
         return None

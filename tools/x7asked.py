@@ -2,7 +2,7 @@
 library alone."""
 from __future__ import annotations
 
-from typing import List, NamedTuple, Optional
+from typing import NamedTuple
 
 from x7device import Device
 from x7formats import CMD, CODES, REGISTERS, SYNC, TIMER, Stream, checks_of, payload, steps, stream_alone, with_checks
@@ -33,7 +33,7 @@ class Reader(Device):
 
     def __init__(self, ignores_iprog: bool = False) -> None:
         super().__init__()
-        self.armed_by: List[Armed] = []
+        self.armed_by: list[Armed] = []
         self.ignores_iprog = ignores_iprog
 
     def load_watchdog(self, after: int) -> None:
@@ -55,10 +55,10 @@ class Asked:
         self.stream, self.device = stream, Reader(ignores_iprog)
         self.device.play(stream.data)
         written = self.device.written
-        self.idcodes: List[int] = [it.word for it in written if it.register == "IDCODE"]
-        self.commands: List[str] = [it.word for it in self.device.commands]
+        self.idcodes: list[int] = [it.word for it in written if it.register == "IDCODE"]
+        self.commands: list[str] = [it.word for it in self.device.commands]
         self.checks = sum(it.register == "CRC" for it in written)
-        self.ctl0s: List[int] = [it.word for it in written if it.register == "CTL0"]
+        self.ctl0s: list[int] = [it.word for it in written if it.register == "CTL0"]
         self.cor0: int = self.device.registers["COR0"]
         self.bspi: int = self.device.registers["BSPI"]
         self.has_frames, self.reads = bool(self.device.frames), self.device.reads
@@ -107,9 +107,9 @@ class Asked:
         no_check = "" if self.checks else "it has no check: damage isn't seen, and nothing falls back"
         return self.why_no_stream() or no_check
 
-    def lead(self) -> Optional[List[str]]:
+    def lead(self) -> list[str] | None:
         """What stands before the first RCRC and may not stand there in a golden stream; none where there is no RCRC."""
-        found: List[str] = []
+        found: list[str] = []
         for step in steps(self.stream.data):
             if step.kind != "write" or not step.present or step.register is None or REGISTERS[step.register] in LEAD:
                 continue
@@ -140,10 +140,10 @@ class Asked:
     @property
     def loaded(self) -> int:
         """How many bytes of the data a device has read when its startup begins; all where none begins."""
-        begun: Optional[int] = self.device.begun
+        begun: int | None = self.device.begun
         return len(self.stream.data) if begun is None else begun
 
-    def watches(self, kept: int = 0) -> List[Watch]:
+    def watches(self, kept: int = 0) -> list[Watch]:
         """The watchdog's time beside that of what is read of the stream while it counts, for each word of TIMER, `kept`
         from before among them; where no watchdog runs, the time of the whole load."""
         begun = [Armed(0, kept), *(it for it in self.device.armed_by if it.after < self.loaded)]
@@ -151,7 +151,7 @@ class Asked:
         found = [watch(it.timer, end - it.after, self.cor0, self.bspi) for it, end in zip(begun, ends)]
         return [it for it in found if it.verdict is not Verdict.OFF] or self.unwatched()
 
-    def unwatched(self) -> List[Watch]:
+    def unwatched(self) -> list[Watch]:
         """The time of the whole load with no watchdog, as in a fallback."""
         return [watch(0, self.loaded, self.cor0, self.bspi)]
 

@@ -35,7 +35,7 @@ def boot_cause(text: str, remedy: str, section: Section) -> Cause:
     return Cause(Kind.BOOT, text, remedy, section)
 
 
-def cause_of_boot(subject: Subject, report: Report, started: Finder) -> Optional[Cause]:
+def cause_of_boot(subject: Subject, report: Report, started: Finder) -> Cause | None:
     """The cause of a boot that did not start, or not with the update, or none; `started` looks at a device that has."""
     if report.boot_end == "loop":
         text = f"each attempt leads to another one ({path_of(report)})"
@@ -63,7 +63,7 @@ def cause_of_stopped_boot(subject: Subject, report: Report) -> Cause:
     return boot_cause(text, "play each of the two streams alone", Section.NO_FALLBACK)
 
 
-def cause_of_fallback(report: Report) -> Optional[Cause]:
+def cause_of_fallback(report: Report) -> Cause | None:
     """The cause where an attempt started after one that failed, or none."""
     failed = [it for it in report.attempts if it.ending not in WELL]
     if not failed:
@@ -78,7 +78,7 @@ def cause_of_fallback(report: Report) -> Optional[Cause]:
     return boot_cause(text, ALONE, Section.FALLBACK)
 
 
-def cause_of_place(subject: Subject, report: Report) -> Optional[Cause]:
+def cause_of_place(subject: Subject, report: Report) -> Cause | None:
     """The cause where another image started than the one that was meant, or none."""
     last = report.attempts[-1]
     if last.address % SECTOR:
@@ -100,7 +100,7 @@ def cause_of_place(subject: Subject, report: Report) -> Optional[Cause]:
     return None
 
 
-def cause_of_clock(subject: Subject) -> Optional[Cause]:
+def cause_of_clock(subject: Subject) -> Cause | None:
     """The cause where a boot's startup runs on a clock that a flash doesn't give, or none."""
     if not subject.fate.registers["COR0"] >> 16 & 1:
         return None
@@ -115,7 +115,7 @@ def is_golden_alone(subject: Subject, report: Report) -> bool:
     return begins_with_slots(subject.data) or max(SECTOR, total) < report.taken <= SECTOR + total
 
 
-def cause_of_svf(subject: Subject, report: Report, started: Finder, fault: Finder, phase: Finder) -> Optional[Cause]:
+def cause_of_svf(subject: Subject, report: Report, started: Finder, fault: Finder, phase: Finder) -> Cause | None:
     """The cause where a scan of an SVF text reads what it doesn't want, or none; the others look at a device that has
     started, stopped at a fault, or stands in a phase."""
     if not isinstance(report.svf, tuple):

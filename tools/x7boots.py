@@ -7,7 +7,7 @@ from __future__ import annotations
 
 import os
 import subprocess
-from typing import List, NamedTuple, Tuple
+from typing import NamedTuple
 
 from x7formats import Report, read_report
 from x7partfile import Part, read_part
@@ -67,7 +67,7 @@ class Bench:
         return self.report("play", self.run("play", self.part_path, self.path("stream")))
 
 
-def course(report: Report) -> List[Tuple[str, int, str]]:
+def course(report: Report) -> list[tuple[str, int, str]]:
     """The attempts of a boot: the kind of each, its place in the flash, and its ending."""
     return [(it.kind, it.address, it.ending) for it in report.attempts]
 

@@ -3,7 +3,7 @@
 from __future__ import annotations
 
 from enum import Enum
-from typing import TYPE_CHECKING, NamedTuple, Optional
+from typing import TYPE_CHECKING, NamedTuple
 
 if TYPE_CHECKING:
     from x7subject import Source
@@ -72,9 +72,9 @@ class Cause(NamedTuple):
     kind: Kind
     text: str  # a sentence for the user, without its point
     remedy: str  # what to do
-    section: Optional[Section]  # of the page BOARD, or none where it has nothing to the matter
-    after: Optional[int] = None  # the place after its last byte in the data of all streams, or none
-    source: Optional[Source] = None  # the stream that it is one of, or none
+    section: Section | None  # of the page BOARD, or none where it has nothing to the matter
+    after: int | None = None  # the place after its last byte in the data of all streams, or none
+    source: Source | None = None  # the stream that it is one of, or none
 
 
 # the remedies that more than one cause has

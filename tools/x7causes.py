@@ -2,7 +2,7 @@
 its place, remedy and section. `cause_of` says in which order they are looked for."""
 from __future__ import annotations
 
-from typing import List, NamedTuple, Optional, Sequence, Tuple
+from typing import NamedTuple, Sequence
 
 import x7formats as x7
 from x7bootcause import cause_of_boot, cause_of_svf
@@ -40,7 +40,7 @@ def cause_of_others(what: str) -> Cause:
     return Cause(Kind.OTHER_REPORT, f"the report is of other streams than these: it {what}", again, None)
 
 
-def cause_of_belonging(subject: Subject) -> Optional[Cause]:
+def cause_of_belonging(subject: Subject) -> Cause | None:
     """The cause where the report of a play isn't one of these streams, or none."""
     report, total = subject.report, len(subject.data)
     if report is None or not subject.is_play:
@@ -106,7 +106,7 @@ NO_CHECK_WORD = "0000DEFC"
 FEW_FRAMES = 3
 
 
-def cause_of_fault(subject: Subject) -> Optional[Cause]:
+def cause_of_fault(subject: Subject) -> Cause | None:
     """The cause of a fault; none of a watchdog, which is judged by seconds."""
     kind, words, after = subject.fate.end[1], subject.fate.end[2:], subject.fate.taken
     source = subject.source_at(after) or subject.sources[-1]
@@ -293,12 +293,12 @@ def nothing_started(text: str, remedy: str) -> Cause:
 # ---- devices that start
 
 
-def cause_of_started(subject: Subject) -> Optional[Cause]:
+def cause_of_started(subject: Subject) -> Cause | None:
     """The cause where phase 7 has come, and the device doesn't run as it should all the same, or none."""
     return cause_of_kept_off(subject) or cause_of_dropped(subject) or cause_of_unchecked_loss(subject)
 
 
-def cause_of_kept_off(subject: Subject) -> Optional[Cause]:
+def cause_of_kept_off(subject: Subject) -> Cause | None:
     """The cause where outputs, writes or the interconnect are off for ever, or none."""
     fate = subject.fate
     for name, on, what in (("GTS", fate.gts, "the outputs stay off"), ("GWE", fate.gwe, "flip-flops and memories "
@@ -330,7 +330,7 @@ def outputs_off_at(device: Device) -> int:
     return found
 
 
-def cause_of_dropped(subject: Subject) -> Optional[Cause]:
+def cause_of_dropped(subject: Subject) -> Cause | None:
     """The cause where frames are dropped by SBITS, or none."""
     if not subject.device.dropped:
         return None
@@ -345,7 +345,7 @@ def cause_of_dropped(subject: Subject) -> Optional[Cause]:
     return Cause(Kind.DROPPED, text, remedy, Section.PARTIAL, step.first + 4, source)
 
 
-def cause_of_unchecked_loss(subject: Subject) -> Optional[Cause]:
+def cause_of_unchecked_loss(subject: Subject) -> Cause | None:
     """The cause where a stream without a check has fewer bytes than its header tells of, or none."""
     for source in subject.sources:
         if source.lost > 0 and not has_check(source):
@@ -361,7 +361,7 @@ def cause_of_unchecked_loss(subject: Subject) -> Optional[Cause]:
 # ---- plays
 
 
-def cause_of_play(subject: Subject) -> Optional[Cause]:
+def cause_of_play(subject: Subject) -> Cause | None:
     """The cause of how a play ended, or none where the device runs."""
     fate = subject.fate
     if fate.end[0] == "fault":
@@ -400,12 +400,12 @@ def cause_of_iprog(subject: Subject) -> Cause:
 # ---- devices
 
 
-def idcodes_of(source: Source) -> List[Tuple[int, int]]:
+def idcodes_of(source: Source) -> list[tuple[int, int]]:
     """The IDCODEs that a stream writes before anything ends it, each with the place after it in the data of all."""
     return [(source.first + it.after, int(it.word)) for it in source.alone.written if it.register == "IDCODE"]
 
 
-def cause_of_several_devices(subject: Subject) -> Optional[Cause]:
+def cause_of_several_devices(subject: Subject) -> Cause | None:
     """The cause where streams, or one file's, write IDCODEs of different devices, or none."""
     known = [(source, *it) for source in subject.sources for it in idcodes_of(source) if named(it[1])]
     for source, after, idcode in known:
@@ -427,7 +427,7 @@ def cause_of_several_devices(subject: Subject) -> Optional[Cause]:
     return None
 
 
-def cause_of_header_part(subject: Subject) -> Optional[Cause]:
+def cause_of_header_part(subject: Subject) -> Cause | None:
     """The cause where the part that a header names has another IDCODE than its stream writes, or none."""
     for source in subject.sources:
         by_header, idcode = idcode_of_name(source.part), source.idcode
@@ -443,7 +443,7 @@ def cause_of_header_part(subject: Subject) -> Optional[Cause]:
 # ---- all of it
 
 
-def cause_of_sources(subject: Subject) -> Optional[Cause]:
+def cause_of_sources(subject: Subject) -> Cause | None:
     """The cause where a file isn't a stream of the family, or none."""
     for source in subject.sources:
         found = cause_of_header(source) or cause_of_file(source) or cause_of_no_zeros(source) or cause_of_family(source)
@@ -452,7 +452,7 @@ def cause_of_sources(subject: Subject) -> Optional[Cause]:
     return None
 
 
-def cause_of_unfinished(subject: Subject) -> Optional[Cause]:
+def cause_of_unfinished(subject: Subject) -> Cause | None:
     """The cause where a stream before the last one is cut off, or none: what comes after it is taken for its rest."""
     for source in subject.sources[:-1]:
         if source.alone.end[0] == "synced":
@@ -469,7 +469,7 @@ def cause_of_unfinished(subject: Subject) -> Optional[Cause]:
     return None
 
 
-def cause_of_words(subject: Subject) -> Optional[Cause]:
+def cause_of_words(subject: Subject) -> Cause | None:
     """The cause where what is damaged in a stream explains more than how the play ended, or none."""
     for source in subject.sources:
         found = cause_of_damage(source) or cause_of_large_count(source, MOST_READS) or cause_of_early_end(source)
@@ -485,7 +485,7 @@ def runs(subject: Subject) -> bool:
     return subject.fate.phase == 7 and subject.fate.end[0] == "searching" and is_readable
 
 
-def cause_of(subject: Subject) -> Optional[Cause]:
+def cause_of(subject: Subject) -> Cause | None:
     """The first cause that is found, or none."""
     found = cause_of_sources(subject)
     if found:
@@ -503,7 +503,7 @@ def cause_of(subject: Subject) -> Optional[Cause]:
     return found or cause_of_play(subject)
 
 
-def length_of(subject: Subject, found: Optional[Cause]) -> str:
+def length_of(subject: Subject, found: Cause | None) -> str:
     """Says where a header tells of more or fewer bytes than there are: of the stream at fault, or of the first such
     one."""
     if found and found.kind in (Kind.CUT, Kind.EMPTY):

@@ -2,8 +2,6 @@
 python3 (3.8) and its library alone."""
 from __future__ import annotations
 
-from typing import List, Optional
-
 from x7asked import CONFIG_FALLBACK, SSCLKSRC, Asked
 from x7partfile import Part
 from x7parts import DEVICE_BITS
@@ -24,7 +22,7 @@ class Checks:
     def __init__(self) -> None:
         self.count, self.failed = 0, 0
 
-    def tell(self, is_well: bool, name: str, text: str, wrong: Optional[str] = None) -> None:
+    def tell(self, is_well: bool, name: str, text: str, wrong: str | None = None) -> None:
         """Writes the line of a check: the text, or `wrong` where the check fails and that says more."""
         self.count += 1
         self.failed += not is_well
@@ -60,7 +58,7 @@ def look_at_fallback(checks: Checks, asked: Asked) -> None:
     checks.tell(not forbids, "fallback", "CTL0 allows a fallback", remedy)
 
 
-def look_at_time(checks: Checks, watches: List[Watch], role: str = "", before: str = "") -> None:
+def look_at_time(checks: Checks, watches: list[Watch], role: str = "", before: str = "") -> None:
     """Says how long the load of a stream takes, and whether a watchdog lasts for it. Where that isn't sure, a note
     stands in the place of the check. `before` is said first."""
     text = before + "; ".join(it.text for it in watches)

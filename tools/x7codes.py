@@ -5,7 +5,7 @@ from __future__ import annotations
 
 import functools
 import re
-from typing import List, NamedTuple, Optional
+from typing import NamedTuple
 
 import x7formats as x7
 import x7kinds
@@ -21,7 +21,7 @@ SEARCHED = 1 << 21
 
 
 @functools.lru_cache(maxsize=None)
-def tables() -> List[List[int]]:
+def tables() -> list[list[int]]:
     """What each value of each byte of a frame adds to the code, made when first asked for."""
     return ecc_tables()
 
@@ -39,7 +39,7 @@ class Frame(NamedTuple):
     has_code: bool  # whether any bit of its code is 1
 
 
-def frames_of(data: bytes, before: Optional[int] = None) -> List[Frame]:
+def frames_of(data: bytes, before: int | None = None) -> list[Frame]:
     """The frames that hold something of a stream's data, of whole ones in each write to FDRI, up to a place."""
     found = []
     for step in x7.steps(data if before is None else data[:before]):
@@ -55,10 +55,10 @@ class Codes(NamedTuple):
     """What the codes of the frames of a stream tell."""
 
     held: int  # how many frames hold something
-    wrong: List[int]  # the places of those whose code isn't that of their words
+    wrong: list[int]  # the places of those whose code isn't that of their words
 
 
-def codes_of(data: bytes, before: Optional[int] = None) -> Optional[Codes]:
+def codes_of(data: bytes, before: int | None = None) -> Codes | None:
     """What the codes of the frames tell up to a place; none where the frames have no codes, or there are none."""
     found = frames_of(data, before)
     if not any(it.has_code for it in found):
@@ -74,16 +74,16 @@ class Alone(NamedTuple):
 
     first: int  # the place of the first frame
     right: int  # how many of the frames that were looked at have the right code
-    way: Optional[x7kinds.Way]  # how its bytes were turned, or none
+    way: x7kinds.Way | None  # how its bytes were turned, or none
 
 
 # a byte of a frame that holds something
 HELD = re.compile(rb"[^\x00\xff]")
 
 
-def held_places(data: bytes) -> List[int]:
+def held_places(data: bytes) -> list[int]:
     """Places of bytes that hold something, one of each piece as long as a frame, the first ones."""
-    found: List[int] = []
+    found: list[int] = []
     for begin in range(0, min(len(data), SEARCHED), FRAME_BYTES):
         piece = data[begin : begin + FRAME_BYTES]
         held = HELD.search(piece) if piece != ZEROS else None
@@ -94,7 +94,7 @@ def held_places(data: bytes) -> List[int]:
     return found
 
 
-def frames_from(data: bytes, first: int, held: List[int]) -> int:
+def frames_from(data: bytes, first: int, held: list[int]) -> int:
     """How many of the frames around places that hold something, where frames stand from a place on, have the right
     code; 0 where more than a few have not, as those of memories in logic, which change, may."""
     places = sorted({first + (it - first) // FRAME_BYTES * FRAME_BYTES for it in held if it >= first})
@@ -109,7 +109,7 @@ def frames_from(data: bytes, first: int, held: List[int]) -> int:
     return right if 4 * wrong <= right else 0
 
 
-def frames_alone(data: bytes) -> Optional[Alone]:
+def frames_alone(data: bytes) -> Alone | None:
     """Frames that data are without packets, in any way that bytes are turned, or none. They may begin a few words late,
     as in a readback."""
     held = held_places(data)

@@ -2,7 +2,7 @@
 nearly each of them, or a debug one, which writes the address of each to LOUT. python3 (3.8) and its library alone."""
 from __future__ import annotations
 
-from typing import Dict, Iterable, List, NamedTuple, Optional, Set, Tuple
+from typing import Dict, Iterable, NamedTuple, Set, Tuple
 
 import x7formats as x7
 from x7asked import Asked
@@ -24,7 +24,7 @@ class Named(NamedTuple):
     """What a stream names of its device."""
 
     # the part in the header, as `7a35tcpg236`, or none without a header
-    part: Optional[str]
+    part: str | None
     # the IDCODE that it writes first
     idcode: int
     # the minors of each column of each row
@@ -34,9 +34,9 @@ class Named(NamedTuple):
 class Rows(NamedTuple):
     """The rows of a device, in the order of their addresses."""
 
-    rows: List[Row]
+    rows: list[Row]
     # the columns of a row of which minors, or all, aren't named, each with what isn't
-    guesses: Dict[Key, List[str]]
+    guesses: dict[Key, list[str]]
 
 
 def stream_in(path: str) -> x7.Stream:
@@ -73,11 +73,11 @@ class FrameRuns:
 
     def __init__(self) -> None:
         # the IDCODE that is written first, or none
-        self.idcode: Optional[int] = None
+        self.idcode: int | None = None
         # each run that is named: its first address, and how many frames follow one another from there
-        self.runs: List[Tuple[int, int]] = []
+        self.runs: list[tuple[int, int]] = []
         # FAR where no frame was written since it was loaded
-        self.far: Optional[int] = None
+        self.far: int | None = None
         # how many writes of frame data there were for which nothing named an address
         self.nameless = 0
         # whether frame data came since LOUT was written
@@ -121,7 +121,7 @@ def runs_of(data: bytes) -> FrameRuns:
     return found
 
 
-def columns_of(runs: Iterable[Tuple[int, int]]) -> Columns:
+def columns_of(runs: Iterable[tuple[int, int]]) -> Columns:
     """The minors that are named, by row and column."""
     rows: Columns = {}
     for far, count in runs:
@@ -154,7 +154,7 @@ def named_by(path: str) -> Named:
     return Named(part, found.idcode, columns_of(found.runs))
 
 
-def unnamed(columns: Dict[int, Set[int]]) -> List[str]:
+def unnamed(columns: dict[int, set[int]]) -> list[str]:
     """The columns of a row of which a minor, or all, aren't named, each with what isn't."""
     found = []
     for column in range(max(columns) + 1):
@@ -185,19 +185,19 @@ def merged(several: Iterable[Columns]) -> Columns:
     return found
 
 
-def word_count(rows: List[Row]) -> int:
+def word_count(rows: list[Row]) -> int:
     """The words of frame data in an uncompressed stream: those of all frames, and of two pads after each row."""
     total = sum(sum(row.minors) for row in rows) + 2 * len(rows)
     return total * x7.FRAME_WORDS
 
 
-def found_line(rows: List[Row]) -> str:
+def found_line(rows: list[Row]) -> str:
     """What was found as a line."""
     total = sum(sum(row.minors) for row in rows)
     return f"{len(rows)} rows, {total} frames; an uncompressed stream of the device has `write2 {word_count(rows)}`"
 
 
-def part_text(head: List[str], name: str, idcode: int, found: Rows) -> str:
+def part_text(head: list[str], name: str, idcode: int, found: Rows) -> str:
     """The text of a part file, with these lines on top."""
     lines = [*head, f'name = "{name}"', f"idcode = 0x{idcode:08X}", ""]
     for row in found.rows:

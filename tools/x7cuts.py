@@ -7,7 +7,7 @@ from __future__ import annotations
 
 import random
 from enum import Enum
-from typing import Iterator, List, NamedTuple, Optional, Tuple
+from typing import Iterator, NamedTuple
 
 from x7boots import Bench, course, is_golden, runs, went
 from x7checks import Checks
@@ -41,14 +41,14 @@ class References(NamedTuple):
     """The boots with which that of a cut is compared."""
 
     before: Report  # of the flash before the update
-    golden: Optional[Report]  # with no update there, or none where the golden stream doesn't start
+    golden: Report | None  # with no update there, or none where the golden stream doesn't start
     updated: Report  # of the updated flash
 
 
-def chosen(steps: List[Step]) -> List[int]:
+def chosen(steps: list[Step]) -> list[int]:
     """The steps that are cut, from 0: the first and the last and some between them of each row of programs or erases. A
     read changes nothing."""
-    found: List[int] = []
+    found: list[int] = []
     first = 0
     while first < len(steps):
         end = first
@@ -67,7 +67,7 @@ def torn(before: bytes, after: bytes, take: random.Random) -> bytes:
     return (old ^ (old ^ new) & take.getrandbits(8 * len(before))).to_bytes(len(before), "big")
 
 
-def cuts(flash: bytes, steps: List[Step]) -> Iterator[Cut]:
+def cuts(flash: bytes, steps: list[Step]) -> Iterator[Cut]:
     """What a power loss leaves before a step, and in the midst of it."""
     now, take, wanted = bytearray(flash), random.Random(SEED), set(chosen(steps))
     for number, step in enumerate(steps):
@@ -98,13 +98,13 @@ def left_by(report: Report, known: References) -> Left:
     return Left.OTHER
 
 
-def cuts_counted(found: List[Tuple[Cut, Left]]) -> str:
+def cuts_counted(found: list[tuple[Cut, Left]]) -> str:
     """How many cuts were tried, and what they left, in words."""
     parts = [f"{sum(left is it for _, left in found)} {it.value}" for it in (Left.BEFORE, Left.GOLDEN, Left.UPDATED)]
     return f"{len(found)} cuts boot: {', '.join(parts)}"
 
 
-def try_cuts(checks: Checks, bench: Bench, timer: int, flash: bytes, steps: List[Step], known: References) -> None:
+def try_cuts(checks: Checks, bench: Bench, timer: int, flash: bytes, steps: list[Step], known: References) -> None:
     """Boots what power losses leave of a flash of the vendor's MultiBoot in the steps of an update. `timer` is the word
     of TIMER with which the golden stream leads on."""
     found, wrong, wrapped = [], [], 0

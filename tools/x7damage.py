@@ -5,7 +5,7 @@ from __future__ import annotations
 
 import re
 from itertools import combinations
-from typing import Callable, List, NamedTuple, Optional, Pattern, Tuple
+from typing import Callable, NamedTuple, Pattern
 
 import x7formats as x7
 import x7kinds
@@ -70,7 +70,7 @@ def lost_or_added(count: int) -> str:
 # ---- bytes that a tool for texts, or a line, changes or takes
 
 
-def cause_of_no_zeros(source: Source) -> Optional[Cause]:
+def cause_of_no_zeros(source: Source) -> Cause | None:
     """The cause where a stream has no byte 00, which every stream has, or none."""
     data = source.data
     if len(data) < FEWEST_BYTES or 0 in data or x7.SYNC not in data:
@@ -90,10 +90,10 @@ def cause_of_no_zeros(source: Source) -> Optional[Cause]:
 class Line(NamedTuple):
     """Bytes that a line takes out, or changes, as a terminal or a tool for texts does."""
 
-    taken: Tuple[int, ...]  # the bytes that are gone
-    beside: Tuple[int, ...]  # bytes that stand as often in any stream
+    taken: tuple[int, ...]  # the bytes that are gone
+    beside: tuple[int, ...]  # bytes that stand as often in any stream
     text: str  # what it is as
-    trace: Optional[Pattern[bytes]] = None  # what remains of what every stream has
+    trace: Pattern[bytes] | None = None  # what remains of what every stream has
     known: str = ""  # what that is
 
 
@@ -113,7 +113,7 @@ LINES = [
 ]
 
 
-def cause_of_eaten(source: Source) -> Optional[Cause]:
+def cause_of_eaten(source: Source) -> Cause | None:
     """The cause where bytes of a value are gone that stand as often as those beside it, or in every stream, or none."""
     data = source.data
     for line in LINES:
@@ -131,7 +131,7 @@ def cause_of_eaten(source: Source) -> Optional[Cause]:
     return None
 
 
-def cause_of_text_mode(source: Source) -> Optional[Cause]:
+def cause_of_text_mode(source: Source) -> Cause | None:
     """The cause where a file went through a transfer as text, which puts 0D before each 0A, or none."""
     lone = len(re.findall(rb"(?<!\r)\n", source.data))
     if lone or source.data.count(b"\n") <= 8:
@@ -166,7 +166,7 @@ MENDS = [
 TRIED_ALONE = 3
 
 
-def cause_of_line(source: Source) -> Optional[Cause]:
+def cause_of_line(source: Source) -> Cause | None:
     """The cause where a stream that was mended comes to its end, or none. With a header, the mended one has its
     length."""
     for mend in MENDS if source.header else MENDS[:TRIED_ALONE]:
@@ -181,7 +181,7 @@ def cause_of_line(source: Source) -> Optional[Cause]:
     return None
 
 
-def cause_of_line_ends(source: Source) -> Optional[Cause]:
+def cause_of_line_ends(source: Source) -> Cause | None:
     """The cause where a file went through a transfer as text that makes 0A of 0D 0A, or none."""
     data = source.data
     mended = with_line_ends(data, plays) if source.header is None or source.lost > 0 else None
@@ -195,12 +195,12 @@ def cause_of_line_ends(source: Source) -> Optional[Cause]:
 # ---- pages of a flash, and parts in another order
 
 
-def broken_at(source: Source) -> Optional[int]:
+def broken_at(source: Source) -> int | None:
     """The place in the data of all streams after which the stream alone can't be taken, or none where it ends well."""
     return source.first + source.alone.taken if source.alone.has_stopped else None
 
 
-def cause_of_erased_end(source: Source) -> Optional[Cause]:
+def cause_of_erased_end(source: Source) -> Cause | None:
     """The cause where all is FF from a place within a session on, or none."""
     begin = len(source.data.rstrip(b"\xff"))
     count, end = len(source.data) - begin, source.alone
@@ -211,7 +211,7 @@ def cause_of_erased_end(source: Source) -> Optional[Cause]:
     return Cause(Kind.ERASED, text, remedy, Section.EARLY_END, source.first + begin, source)
 
 
-def cause_of_cleared_end(source: Source) -> Optional[Cause]:
+def cause_of_cleared_end(source: Source) -> Cause | None:
     """The cause where DESYNC and the no-ops after it stand at the end with bits cleared, or none: a flash takes a 1
     for a 0 by an erase alone."""
     data, sync = source.data.rstrip(b"\xff"), source.data.find(x7.SYNC)
@@ -238,7 +238,7 @@ def cause_of_cleared_end(source: Source) -> Optional[Cause]:
     return Cause(Kind.ERASED, text, remedy, Section.LOST_WORDS, source.first + place + 8, source)
 
 
-def cause_of_zero_end(source: Source) -> Optional[Cause]:
+def cause_of_zero_end(source: Source) -> Cause | None:
     """The cause where all is 00 from a place within a session on, and no header tells that the end is missing, or
     none."""
     begin = len(source.data.rstrip(b"\0"))
@@ -252,7 +252,7 @@ def cause_of_zero_end(source: Source) -> Optional[Cause]:
     return Cause(Kind.CUT, text, TAKE_AGAIN, Section.EARLY_END, source.first + begin, source)
 
 
-def cause_of_page(source: Source) -> Optional[Cause]:
+def cause_of_page(source: Source) -> Cause | None:
     """The cause where bytes FF stand within a stream as an unwritten page of a flash, or none. SURE_PAGE bytes or more
     are one; fewer only where they begin or end at a page's edge, counted in the data or in the file with its header."""
     data, head = source.data, source.header.size if source.header else 0
@@ -284,7 +284,7 @@ def begin_of_lead(data: bytes, end: int) -> int:
     return low + len(data[low:end].rstrip(b"\xff"))
 
 
-def beginning(data: bytes) -> Optional[int]:
+def beginning(data: bytes) -> int | None:
     """Where a stream begins, with the words FF before its sync word, or none."""
     sync = data.find(x7.SYNC)
     while sync >= 0:
@@ -298,7 +298,7 @@ def beginning(data: bytes) -> Optional[int]:
     return None
 
 
-def cause_of_exchange(source: Source) -> Optional[Cause]:
+def cause_of_exchange(source: Source) -> Cause | None:
     """The cause where the two parts of a file are exchanged, or none."""
     data, at = source.data, beginning(source.data)
     if at is None or at < PAGE or not PACKETS.search(data, 0, at):
@@ -313,7 +313,7 @@ def cause_of_exchange(source: Source) -> Optional[Cause]:
     return Cause(Kind.TURNED, text, remedy, Section.LOST_WORDS, None, source)
 
 
-def later_stream(data: bytes) -> Optional[int]:
+def later_stream(data: bytes) -> int | None:
     """The place of a later sync word from which on data are a whole stream, or none."""
     at = data.find(x7.SYNC)
     for _ in range(MOST_SYNCS):
@@ -325,7 +325,7 @@ def later_stream(data: bytes) -> Optional[int]:
     return None
 
 
-def cause_of_later_stream(source: Source) -> Optional[Cause]:
+def cause_of_later_stream(source: Source) -> Cause | None:
     """The cause where what stands before a whole stream keeps a device from taking it, or none."""
     data, first, at = source.data, source.data.find(x7.SYNC), later_stream(source.data)
     if at is None:
@@ -345,7 +345,7 @@ def cause_of_later_stream(source: Source) -> Optional[Cause]:
     return Cause(Kind.FALSE_SYNC, text, remedy, Section.NO_SYNC, source.first + first + 4, source)
 
 
-def cause_of_turned_end(source: Source) -> Optional[Cause]:
+def cause_of_turned_end(source: Source) -> Cause | None:
     """The cause where the end of a file is turned, and its beginning isn't, or none."""
     tail = source.data[-END_BYTES:]
     if DESYNC in tail or not COMMANDS.search(source.data):
@@ -361,7 +361,7 @@ def cause_of_turned_end(source: Source) -> Optional[Cause]:
 # ---- bytes that were lost or added
 
 
-def is_frame_data(steps: List[x7.Step], at: int) -> bool:
+def is_frame_data(steps: list[x7.Step], at: int) -> bool:
     """Whether a step writes frame data whose count may be believed: a type 2 packet alone right after the type 1 packet
     of no words."""
     step = steps[at]
@@ -371,7 +371,7 @@ def is_frame_data(steps: List[x7.Step], at: int) -> bool:
     return step.word >> 29 == 1 or before is not None and before.register == x7.FDRI and before.word_count == 0
 
 
-def cause_of_swallowed(source: Source) -> Optional[Cause]:
+def cause_of_swallowed(source: Source) -> Cause | None:
     """The cause where frame data take packets after them for frames, or end before their packets begin, or none."""
     steps = source.steps
     for at, step in enumerate(steps):
@@ -388,7 +388,7 @@ def cause_of_swallowed(source: Source) -> Optional[Cause]:
     return None
 
 
-def packets_begin(data: bytes, step: x7.Step) -> Optional[int]:
+def packets_begin(data: bytes, step: x7.Step) -> int | None:
     """Where packets begin within the payload of frame data, or none."""
     found = PACKETS.search(data, step.first, step.end + PACKET_BYTES)
     if found and found.start() < step.end:
@@ -397,7 +397,7 @@ def packets_begin(data: bytes, step: x7.Step) -> Optional[int]:
     return ended if ended >= 0 and step.present < step.word_count else None
 
 
-def added_after(source: Source, steps: List[x7.Step], at: int) -> int:
+def added_after(source: Source, steps: list[x7.Step], at: int) -> int:
     """How many bytes stand between the end of frame data and the packets after them; 0 where a packet follows."""
     step = steps[at]
     following = steps[at + 1] if at + 1 < len(steps) else None
@@ -418,7 +418,7 @@ def most_lost(source: Source) -> int:
     return max(source.lost, 0) if source.header else len(source.data) // 2
 
 
-def swallowed(source: Source, step: x7.Step, begins: int) -> Optional[Cause]:
+def swallowed(source: Source, step: x7.Step, begins: int) -> Cause | None:
     """The cause where packets begin within the payload of frame data, or none."""
     missing = step.first + 4 * step.word_count - begins
     head, place = x7.head_line(step), source.first + begins + 4
@@ -445,7 +445,7 @@ def is_one_bit(count: int) -> bool:
     return count % 4 == 0 and bin(count).count("1") == 1
 
 
-def cause_of_added(source: Source, step: x7.Step, more: int) -> Optional[Cause]:
+def cause_of_added(source: Source, step: x7.Step, more: int) -> Cause | None:
     """The cause where `more` bytes stand between frame data and the packets after them, or none. They were added, or
     the count of the write is damaged and leaves them out. The header's length tells which; without a header it is
     unknown; where the length fits neither, there is no cause."""
@@ -468,7 +468,7 @@ def cause_of_added(source: Source, step: x7.Step, more: int) -> Optional[Cause]:
     return Cause(Kind.LOST, text, COUNT_BYTES, Section.LOST_WORDS, place, source)
 
 
-def cause_of_shift(source: Source) -> Optional[Cause]:
+def cause_of_shift(source: Source) -> Cause | None:
     """The cause where packets from a place on don't stand at the places of words, or none."""
     data, sync = source.data, source.data.find(x7.SYNC)
     places = [it.start() for it in COMMANDS.finditer(data, max(sync, 0))]
@@ -487,7 +487,7 @@ def cause_of_shift(source: Source) -> Optional[Cause]:
     return Cause(Kind.LOST, text, COUNT_BYTES, Section.LOST_WORDS, source.first + places[off] + 1, source)
 
 
-def cause_of_early_end(source: Source) -> Optional[Cause]:
+def cause_of_early_end(source: Source) -> Cause | None:
     """The cause where a session ends, and packets follow that no session takes, or none."""
     after = 0
     for step in source.steps:
@@ -504,7 +504,7 @@ def cause_of_early_end(source: Source) -> Optional[Cause]:
     return None
 
 
-def cause_of_large_count(source: Source, most_reads: int) -> Optional[Cause]:
+def cause_of_large_count(source: Source, most_reads: int) -> Cause | None:
     """The cause where a header asks for more words than x7 reads out, or than there are, or none."""
     for step in source.steps:
         ends = step.kind == "write" and x7.ends_session(source.data, step)
@@ -522,25 +522,25 @@ def cause_of_large_count(source: Source, most_reads: int) -> Optional[Cause]:
     return None
 
 
-def cause_of_repeat(source: Source) -> Optional[Cause]:
+def cause_of_repeat(source: Source) -> Cause | None:
     """The cause where blocks of the file stand twice, or none."""
     found = repeated(source.data)
     return Cause(Kind.PINS, found.text, found.remedy, Section.LOST_WORDS, None, source) if found else None
 
 
-def cause_of_lines(source: Source) -> Optional[Cause]:
+def cause_of_lines(source: Source) -> Cause | None:
     """The cause where data lines are exchanged that leave the sync word as it is, or none."""
     found = exchanged(source.data, plays)
     return Cause(Kind.PINS, found.text, found.remedy, Section.LOST_WORDS, None, source) if found else None
 
 
-def cause_of_address(source: Source) -> Optional[Cause]:
+def cause_of_address(source: Source) -> Cause | None:
     """The cause where two address lines are exchanged that leave the beginning as it is, or none."""
     found = exchanged_lines(source.data, plays) if not source.header else None
     return Cause(Kind.PINS, found.text, found.remedy, Section.LOST_WORDS, None, source) if found else None
 
 
-def cause_of_idcode_word(source: Source, idcode: Written) -> Optional[Cause]:
+def cause_of_idcode_word(source: Source, idcode: Written) -> Cause | None:
     """The cause where the stream plays with the IDCODE of a device from which its own differs in a bit or two, or
     none."""
     place = idcode.after - source.first - 4
@@ -557,7 +557,7 @@ def cause_of_idcode_word(source: Source, idcode: Written) -> Optional[Cause]:
     return None
 
 
-def cause_of_images(source: Source) -> Optional[Cause]:
+def cause_of_images(source: Source) -> Cause | None:
     """The cause where the IDCODE is what those of two devices have in common, or none: in a flash that isn't erased
     between two images only bits that both have stay 1."""
     idcode = source.idcode
@@ -587,7 +587,7 @@ LOOKS = [
 ]  # fmt: skip
 
 
-def cause_of_damage(source: Source) -> Optional[Cause]:
+def cause_of_damage(source: Source) -> Cause | None:
     """The cause of what is damaged within a stream that doesn't come to its end, or none."""
     if source.is_whole:
         return cause_of_swallowed(source) if source.alone.phase != 7 else None

@@ -20,7 +20,7 @@ this project's choice, after what these programs write.
 from __future__ import annotations
 
 import re
-from typing import Iterator, List, NamedTuple, Optional, Sequence
+from typing import Iterator, NamedTuple, Sequence
 
 from x7run import Refused
 
@@ -52,8 +52,8 @@ class Row(NamedTuple):
     """A line of a dump."""
 
     number: int  # of the line, from 1
-    label: Optional[str]  # the digits of the place of its first byte, or none
-    groups: List[str]  # of digits, with the column of characters cut off
+    label: str | None  # the digits of the place of its first byte, or none
+    groups: list[str]  # of digits, with the column of characters cut off
     characters: str  # the column of characters, or empty
     has_colon: bool  # whether one stands after the label
 
@@ -68,7 +68,7 @@ OCTAL = {3: Kind(8, 1), 6: Kind(8, 2)}
 BITS = Kind(2, 1)
 
 
-def after_colon(number: int, label: str, body: str, is_bits: bool) -> Optional[Row]:
+def after_colon(number: int, label: str, body: str, is_bits: bool) -> Row | None:
     """The row of a label, a colon and this body, or none: its groups stand one blank apart, and more blanks before as
     many characters as there are bytes. Only where a group lacks digits do more blanks stand before it, in the last row
     of `xxd -e`."""
@@ -87,7 +87,7 @@ def after_colon(number: int, label: str, body: str, is_bits: bool) -> Optional[R
     return None
 
 
-def row_of(number: int, line: str, is_bits: bool) -> Optional[Row]:
+def row_of(number: int, line: str, is_bits: bool) -> Row | None:
     """The row of a line, its label among the groups where no colon stands after it, or none."""
     if line.strip() == "*":
         return Row(number, None, ["*"], "", False)
@@ -124,7 +124,7 @@ def rows_of(lines: Sequence[str]) -> Iterator[Row]:
             yield row
 
 
-def with_labels(rows: List[Row]) -> List[Row]:
+def with_labels(rows: list[Row]) -> list[Row]:
     """The rows with the first group as label, where no colon says which is: where it has another size than the second
     one, or counts the bytes of the rows."""
     first = rows[0]
@@ -137,7 +137,7 @@ def with_labels(rows: List[Row]) -> List[Row]:
     return labelled if len(rows) > 1 and not faults(labelled[:2], HEX_OF_ANY_SIZE, 16) else rows
 
 
-def kind_of(rows: List[Row]) -> Kind:
+def kind_of(rows: list[Row]) -> Kind:
     """How the groups of rows stand for bytes, by those of the first row."""
     first = rows[0]
     digits = len(first.groups[0])
@@ -148,7 +148,7 @@ def kind_of(rows: List[Row]) -> Kind:
     return Kind(16, digits // 2) if first.label is not None else HEX_OF_ANY_SIZE
 
 
-def bases_of(rows: List[Row], kind: Kind) -> List[int]:
+def bases_of(rows: list[Row], kind: Kind) -> list[int]:
     """The bases in which labels may count, the likeliest first: `od` counts by eight in seven digits."""
     is_of_od = not rows[0].has_colon and len(rows[0].label or "") == 7 and (kind.size == 1 or kind.base == 8)
     return [8, 16, 10] if is_of_od else [16, 8, 10]
@@ -159,7 +159,7 @@ def count_of(row: Row, kind: Kind) -> int:
     return len(row.groups) * kind.size if kind.base != 16 else sum(len(it) for it in row.groups) // 2
 
 
-def faults(rows: List[Row], kind: Kind, base: int) -> str:
+def faults(rows: list[Row], kind: Kind, base: int) -> str:
     """Why the labels of rows don't count their bytes by this base, or nothing."""
     place, count, is_open = -1, 0, False
     for row in rows:
@@ -181,7 +181,7 @@ def faults(rows: List[Row], kind: Kind, base: int) -> str:
     return "the dump ends with a row `*`, and no place after it" if is_open else ""
 
 
-def is_lowest_first(rows: List[Row], kind: Kind) -> bool:
+def is_lowest_first(rows: list[Row], kind: Kind) -> bool:
     """Whether the lowest byte of a group stands first in the file: by the first column of characters that tells, else
     by the form of the dump."""
     if kind.size < 2:
@@ -211,7 +211,7 @@ def bytes_of(row: Row, kind: Kind, is_turned: bool) -> bytes:
     return bytes.fromhex("".join(reversed(groups)))[::-1]
 
 
-def data_of(rows: List[Row], kind: Kind, base: int) -> bytes:
+def data_of(rows: list[Row], kind: Kind, base: int) -> bytes:
     """The bytes of rows whose labels count them by this base."""
     is_turned, data, last, is_open = is_lowest_first(rows, kind), bytearray(), b"", False
     begin = int(rows[0].label or "0", base)
@@ -231,7 +231,7 @@ def data_of(rows: List[Row], kind: Kind, base: int) -> bytes:
     return bytes(data)
 
 
-def refuse_groups(rows: List[Row], kind: Kind) -> None:
+def refuse_groups(rows: list[Row], kind: Kind) -> None:
     """Refuses the first row with a group that stands for no bytes."""
     size = len(rows[0].groups[0])
     whole = re.compile({2: "[01]{8}", 8: f"[0-7]{{{size}}}", 16: "(?:[0-9A-Fa-f]{2})+"}[kind.base])
@@ -259,13 +259,13 @@ def read_rows(lines: Sequence[str]) -> bytes:
     return data_of(rows, kind, bases[found.index("")])
 
 
-def lines_of(raw: bytes) -> List[str]:
+def lines_of(raw: bytes) -> list[str]:
     """The lines of a text, without a byte order mark."""
     raw = raw[3:] if raw.startswith(b"\xef\xbb\xbf") else raw
     return [line.rstrip("\r") for line in raw.decode("ascii", "replace").split("\n")]
 
 
-def first_lines(raw: bytes) -> List[str]:
+def first_lines(raw: bytes) -> list[str]:
     """The lines that tell whether a file is a dump: none that is cut, or the first one up to a whole group or byte."""
     lines = [line for line in lines_of(raw[:JUDGED_BYTES]) if line.strip()]
     if len(raw) <= JUDGED_BYTES or not lines:
@@ -290,13 +290,13 @@ def is_dump(raw: bytes) -> bool:
         return False
 
 
-def lines_to_label(lines: List[str]) -> List[str]:
+def lines_to_label(lines: list[str]) -> list[str]:
     """Lines without the rows `*` at their end, which the lines after them decide."""
     while lines and lines[-1].strip() == "*":
         lines = lines[:-1]
     return lines
 
 
-def bytes_of_dump(raw: bytes) -> Optional[bytes]:
+def bytes_of_dump(raw: bytes) -> bytes | None:
     """The bytes that a dump shows, or none where a file is no dump. A dump that is damaged is refused with its line."""
     return read_rows(lines_of(raw)) if is_dump(raw) else None

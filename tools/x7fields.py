@@ -2,7 +2,7 @@
 registers)."""
 from __future__ import annotations
 
-from typing import Dict, List, NamedTuple, Optional, Tuple
+from typing import NamedTuple
 
 
 class Field(NamedTuple):
@@ -11,7 +11,7 @@ class Field(NamedTuple):
     name: str
     low: int  # its lowest bit
     width: int  # in bits
-    meaning: Optional[List[str]]  # of each of its values, or none where a value is a number
+    meaning: list[str] | None  # of each of its values, or none where a value is a number
 
 
 MODES = [
@@ -37,7 +37,7 @@ def field_of(low: int, width: int, word: int) -> int:
     return word >> low & (1 << width) - 1
 
 
-def cycle(name: str) -> List[str]:
+def cycle(name: str) -> list[str]:
     """The meaning of the codes of a _CYCLE field of COR0."""
     if name in ("LOCK_CYCLE", "MATCH_CYCLE"):
         return [*(f"waits in phase {code}" for code in range(7)), "no wait"]
@@ -46,7 +46,7 @@ def cycle(name: str) -> List[str]:
     return [*(f"phase {code + 1}" for code in range(6)), "with DONE", "never (KEEP)"]
 
 
-FIELDS: Dict[str, List[Field]] = {
+FIELDS: dict[str, list[Field]] = {
     "STAT": [
         Field("CRC_ERROR", 0, 1, ["no check failed", "a check failed"]),
         Field("PART_SECURED", 1, 1, ["no decryption is set", "decryption is set"]),
@@ -109,7 +109,7 @@ FIELDS["BOOTSTS"] = [
 ]  # fmt: skip
 
 
-def fields_of(register: str, word: int) -> List[Tuple[str, str, int, str]]:
+def fields_of(register: str, word: int) -> list[tuple[str, str, int, str]]:
     """The fields of a word of STAT, BOOTSTS, COR0 or CTL0: each with its bits, its value, and what it means."""
     found = []
     for field in FIELDS[register]:

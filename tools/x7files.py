@@ -3,7 +3,6 @@ library alone."""
 from __future__ import annotations
 
 import re
-from typing import Optional
 
 import x7formats as x7
 import x7kinds
@@ -35,7 +34,7 @@ def unsynced(kind: Kind, text: str, remedy: str, source: Source) -> Cause:
 # ---- files
 
 
-def cause_of_file(source: Source) -> Optional[Cause]:
+def cause_of_file(source: Source) -> Cause | None:
     """The cause where a file can't be a stream as it is, or none."""
     data = source.data
     if not data:
@@ -141,12 +140,12 @@ def damaged_sync(data: bytes, packets: int) -> str:
 # ---- other families
 
 
-def foreign(text: str, remedy: str, after: Optional[int], source: Source) -> Cause:
+def foreign(text: str, remedy: str, after: int | None, source: Source) -> Cause:
     """A cause by which a stream is of another family."""
     return Cause(Kind.OTHER_FAMILY, text, remedy, Section.OTHER_DEVICE, after, source)
 
 
-def cause_of_header(source: Source) -> Optional[Cause]:
+def cause_of_header(source: Source) -> Cause | None:
     """The cause where the header names a part of another family, or none."""
     family = family_of(source.part)
     if not family:
@@ -155,7 +154,7 @@ def cause_of_header(source: Source) -> Optional[Cause]:
     return foreign(text, SERIES_7, None, source)
 
 
-def cause_of_family(source: Source) -> Optional[Cause]:
+def cause_of_family(source: Source) -> Cause | None:
     """The cause where the first packets are another family's, or none."""
     if is_of_16_bits(source.data):
         text = "its packets have words of 16 bits, as those of a Spartan-6 have, and no 7-series device's"

@@ -5,7 +5,7 @@ from __future__ import annotations
 import gzip
 import re
 import zlib
-from typing import Callable, List, NamedTuple, Optional, Sequence
+from typing import Callable, NamedTuple, Sequence
 
 import x7formats as x7
 from x7dumps import is_dump
@@ -163,12 +163,12 @@ def is_text(data: bytes) -> bool:
     return bool(data) and all(32 <= byte < 127 or byte in b"\t\r\n" for byte in data[:4096])
 
 
-def packed_kind_of(raw: bytes) -> Optional[Other]:
+def packed_kind_of(raw: bytes) -> Other | None:
     """What a file is by the bytes that its kind has at a place, or none."""
     return next((Other(it.what, it.remedy) for it in MAGIC if raw.startswith(it.begins, it.place)), None)
 
 
-def kind_of(raw: bytes) -> Optional[Other]:
+def kind_of(raw: bytes) -> Other | None:
     """What a file is by its first bytes, where it is no stream: what, and the remedy; or none."""
     packed = packed_kind_of(raw)
     if packed:
@@ -279,7 +279,7 @@ class Turned(NamedTuple):
     offset: int  # from which byte on
 
 
-def turning_of(data: bytes) -> Optional[Turned]:
+def turning_of(data: bytes) -> Turned | None:
     """The way back, and from which byte on, that makes a stream of data, or none."""
     beginning = data[:JUDGED]
     for way in WAYS:
@@ -289,7 +289,7 @@ def turning_of(data: bytes) -> Optional[Turned]:
     return next((Turned(way, 0) for way in WHOLE_WAYS if is_stream(way.back(data[-JUDGED:]))), None)
 
 
-def late_by(data: bytes) -> Optional[int]:
+def late_by(data: bytes) -> int | None:
     """By how many bits the data are late, or none."""
     beginning = data[:4096]
     for bits in range(1, 8):
@@ -301,8 +301,8 @@ def late_by(data: bytes) -> Optional[int]:
 def of_digits(raw: bytes) -> bytes:
     """The data of a .rbt file: its lines of 32 digits, after some lines of text. A line that is damaged is refused, and
     `Bits:` compared."""
-    count: Optional[int] = None
-    lines: List[int] = []
+    count: int | None = None
+    lines: list[int] = []
     begun = False
     for number, line in enumerate(raw.rstrip(b"\r\n").split(b"\n"), 1):
         line = line.rstrip(b"\r")

@@ -3,7 +3,7 @@ flash images), and the vendor's MultiBoot, a golden stream at 0 that leads to on
 library alone."""
 from __future__ import annotations
 
-from typing import NamedTuple, Optional, Tuple, Union
+from typing import NamedTuple, Union
 
 from x7asked import Asked
 from x7formats import DUMMY_WORD, SYNC, Stream, end_of_nops, ends_session, steps, word_at
@@ -25,7 +25,7 @@ class Layout(NamedTuple):
     """A flash with slots. Places are bytes of the flash."""
 
     update: int  # where the update stands
-    opened: Optional[int]  # the slot that is open, or none
+    opened: int | None  # the slot that is open, or none
     next: int  # the slot that an update opens
 
     @property
@@ -40,7 +40,7 @@ class VendorLayout(NamedTuple):
     update: int  # where the update stands
     end: int  # the place after the golden stream's session
     timer: int  # the word of TIMER at the golden stream's IPROG, which the attempt at the update keeps
-    sync: Optional[int]  # the place of the first sync word from the update's place on, or none
+    sync: int | None  # the place of the first sync word from the update's place on, or none
 
     @property
     def golden(self) -> int:
@@ -74,7 +74,7 @@ def check_size(size: int) -> None:
         refuse_layout(size, f"the flash has {size} bytes, and {what}")
 
 
-def layout_of(first: bytes, size: Optional[int] = None) -> Layout:
+def layout_of(first: bytes, size: int | None = None) -> Layout:
     """Where the update of a flash stands, which slot is open, if one is, and which is the next. `first` is the flash,
     or its first sector where `size` gives the flash's bytes. A flash without a layout is refused with the place that
     `x7 update` tells."""
@@ -89,7 +89,7 @@ def layout_of(first: bytes, size: Optional[int] = None) -> Layout:
     return Layout(update, *slots_of(first, wanted))
 
 
-def slots_of(first: bytes, wanted: bytes) -> Tuple[Optional[int], int]:
+def slots_of(first: bytes, wanted: bytes) -> tuple[int | None, int]:
     """Which slot is open, if one is, and which is the next, of slots that lead where the first one does."""
     opened, next_slot = None, 0
     for slot in range(SLOTS):
@@ -121,7 +121,7 @@ def start_place(wbstar: int, unit: int) -> int:
     return wbstar & BYTE_BITS if unit == 1 else (wbstar & LONG_BITS) * LONG_UNIT
 
 
-def vendor_golden_of(flash: bytes) -> Optional[Asked]:
+def vendor_golden_of(flash: bytes) -> Asked | None:
     """What the stream at 0 asks, as a fallback reads it, where it leads on before its frames; else none. A slot, which
     leads on too, has no frames."""
     end = None if begins_with_slots(flash) else session_end(flash, 0)
@@ -160,7 +160,7 @@ def any_layout_of(flash: bytes, size: int, unit: int = 1, wants_vendor: bool = F
 # ---- what stands in a flash
 
 
-def session_end(flash: bytes, place: int) -> Optional[int]:
+def session_end(flash: bytes, place: int) -> int | None:
     """Where the first session from a place on ends, no-ops after it included; or none where words come that no stream
     has, or a run of FF as an erased flash has."""
     data, erased = flash[place:], 0
@@ -194,7 +194,7 @@ class Rest(NamedTuple):
     held: int  # how many
 
 
-def rest_of(flash: bytes, begin: int) -> Optional[Rest]:
+def rest_of(flash: bytes, begin: int) -> Rest | None:
     """The bytes from a place on that aren't FF, or none."""
     data = flash[begin:]
     left = data.lstrip(b"\xff")
@@ -203,7 +203,7 @@ def rest_of(flash: bytes, begin: int) -> Optional[Rest]:
     return Rest(begin + len(data) - len(left), begin + len(data.rstrip(b"\xff")) - 1, len(data) - data.count(0xFF))
 
 
-def lengthened(path: str, count: Optional[int]) -> str:
+def lengthened(path: str, count: int | None) -> str:
     """How a file that lacks the last bytes of its flash, which are FF, gets them: a command; N stands in it for a count
     that isn't known."""
     return f"head -c {'N' if count is None else count} /dev/zero | tr '\\0' '\\377' >> {path}"

@@ -4,7 +4,7 @@ from __future__ import annotations
 
 import re
 from itertools import combinations, product
-from typing import Callable, Iterator, List, NamedTuple, Optional, Sequence, Tuple
+from typing import Callable, Iterator, NamedTuple, Sequence
 
 import x7formats as x7
 from x7codes import FRAME_BYTES, is_right
@@ -30,7 +30,7 @@ class Slip(NamedTuple):
     lost: int  # how many, 1 to 3
 
 
-def slips(data: bytes) -> List[Slip]:
+def slips(data: bytes) -> list[Slip]:
     """Where bytes were lost, by packets that stand off their words."""
     found, sync = [], data.find(x7.SYNC)
     last, shift = sync + 4, 0
@@ -51,7 +51,7 @@ def put_back(data: bytes, places: Sequence[int]) -> bytes:
     return b"".join([*parts, data[last:]])
 
 
-def line_feeds(data: bytes, low: int, high: int) -> List[int]:
+def line_feeds(data: bytes, low: int, high: int) -> list[int]:
     """The places of bytes 0A between two places."""
     return [low + it.start() for it in re.finditer(b"\n", data[low:high])]
 
@@ -66,7 +66,7 @@ def by_codes(data: bytes) -> bytes:
         done, begin = mended
 
 
-def next_by_codes(data: bytes, begin: int) -> Optional[Tuple[bytes, int]]:
+def next_by_codes(data: bytes, begin: int) -> tuple[bytes, int] | None:
     """Data with the first frame mended that begins at a place or later and lacks bytes, and the place after it; or
     none."""
     for step in x7.steps(data):
@@ -84,7 +84,7 @@ def next_by_codes(data: bytes, begin: int) -> Optional[Tuple[bytes, int]]:
     return None
 
 
-def mended_frame(frame: bytes) -> Optional[Tuple[bytes, int]]:
+def mended_frame(frame: bytes) -> tuple[bytes, int] | None:
     """A frame with bytes 0D put back, and of how many bytes it was made; none where that gives no right code."""
     for count in range(1, MOST_OF_A_FRAME + 1):
         taken = frame[: FRAME_BYTES - count]
@@ -95,7 +95,7 @@ def mended_frame(frame: bytes) -> Optional[Tuple[bytes, int]]:
     return None
 
 
-def choices(data: bytes) -> Iterator[List[int]]:
+def choices(data: bytes) -> Iterator[list[int]]:
     """Ways to put bytes 0D back, so that each packet stands at a word: the places before which; none where there are
     too many."""
     ways, total = [], 1
@@ -109,7 +109,7 @@ def choices(data: bytes) -> Iterator[List[int]]:
         yield [place for places in chosen for place in places]
 
 
-def with_line_ends(data: bytes, is_stream: Judge) -> Optional[bytes]:
+def with_line_ends(data: bytes, is_stream: Judge) -> bytes | None:
     """The stream of data that lost the 0D of each 0D 0A, or none."""
     if b"\r\n" in data or b"\n" not in data or x7.SYNC not in data:
         return None

@@ -2,8 +2,6 @@
 words can't show. python3 (3.8) and its library alone."""
 from __future__ import annotations
 
-from typing import List, Optional
-
 import x7formats as x7
 from x7cause import DAMAGED, Cause
 from x7codes import codes_of
@@ -34,7 +32,7 @@ def of_name(source: Source, subject: Subject) -> str:
     return f" of {source.name}" if len(subject.sources) > 1 else ""
 
 
-def notes_of_source(source: Source, subject: Subject) -> List[str]:
+def notes_of_source(source: Source, subject: Subject) -> list[str]:
     """What is worth saying of one stream."""
     notes = []
     if source.has_frames and not has_check(source) and source.is_whole:
@@ -59,7 +57,7 @@ def notes_of_source(source: Source, subject: Subject) -> List[str]:
     return notes + notes_of_width(source, subject) + notes_of_copies(source, subject) + notes_of_codes(source, subject)
 
 
-def notes_of_codes(source: Source, subject: Subject) -> List[str]:
+def notes_of_codes(source: Source, subject: Subject) -> list[str]:
     """Where a few frames of a whole stream have another error correction code than their words, and most have not."""
     codes = codes_of(source.data) if source.has_frames and source.is_whole else None
     if codes is None or not codes.wrong or 2 * len(codes.wrong) > codes.held:
@@ -72,7 +70,7 @@ def notes_of_codes(source: Source, subject: Subject) -> List[str]:
     ]
 
 
-def notes_of_copies(source: Source, subject: Subject) -> List[str]:
+def notes_of_copies(source: Source, subject: Subject) -> list[str]:
     """Where a second header stands in a file."""
     at = source.data.find(x7.FIXED)
     if at < 0:
@@ -80,7 +78,7 @@ def notes_of_copies(source: Source, subject: Subject) -> List[str]:
     return [f"a second header of a .bit file stands at offset {at} of the data{of_name(source, subject)}"]
 
 
-def notes_of_width(source: Source, subject: Subject) -> List[str]:
+def notes_of_width(source: Source, subject: Subject) -> list[str]:
     """Where a full stream lacks the bus width pattern, or has another one."""
     before = source.data[: max(source.data.find(x7.SYNC), 0)]
     if not source.has_frames or not source.writes(x7.COR0) or BUS_WIDTH in before:
@@ -92,7 +90,7 @@ def notes_of_width(source: Source, subject: Subject) -> List[str]:
     ]
 
 
-def notes_of_package(subject: Subject) -> List[str]:
+def notes_of_package(subject: Subject) -> list[str]:
     """Where the part file, or a header, names another package of the same device than a header does."""
     names = [it.part for it in subject.sources if it.part]
     given = [subject.part.name] if subject.part else []
@@ -119,7 +117,7 @@ def has_package(part: str) -> bool:
     return bool(package_of(part))
 
 
-def notes_of_waits(subject: Subject) -> List[str]:
+def notes_of_waits(subject: Subject) -> list[str]:
     """Where startup waits for clocks or impedance on a board, and not in x7, since the part file has no number for
     it."""
     cor0, part, notes = subject.fate.registers.get("COR0", 0), subject.part, []
@@ -136,7 +134,7 @@ def notes_of_waits(subject: Subject) -> List[str]:
     return notes
 
 
-def notes_of_flash(subject: Subject) -> List[str]:
+def notes_of_flash(subject: Subject) -> list[str]:
     """How an SPI flash is to be read, where that asks for more than every flash and board has."""
     bspi = subject.fate.registers.get("BSPI", 0)
     lines, is_long = lines_of(bspi), has_long_address(bspi)
@@ -149,7 +147,7 @@ def notes_of_flash(subject: Subject) -> List[str]:
             f"address bits (BSPI {bspi:08X}): {'; '.join(needs)}"]
 
 
-def notes_of_clock(subject: Subject) -> List[str]:
+def notes_of_clock(subject: Subject) -> list[str]:
     """Where startup runs on another clock than CCLK."""
     cor0 = subject.fate.registers.get("COR0", 0)
     is_boot = subject.report is not None and bool(subject.report.attempts)
@@ -160,7 +158,7 @@ def notes_of_clock(subject: Subject) -> List[str]:
     return []
 
 
-def notes_of_wrap(subject: Subject) -> List[str]:
+def notes_of_wrap(subject: Subject) -> list[str]:
     """Where an attempt ended at the flash's end."""
     wraps = [it for it in (subject.report.attempts if subject.report else []) if it.ending == "wrap"]
     if not wraps:
@@ -172,7 +170,7 @@ def notes_of_wrap(subject: Subject) -> List[str]:
     ]
 
 
-def notes_of_others(subject: Subject) -> List[str]:
+def notes_of_others(subject: Subject) -> list[str]:
     """Where a flash that is given beside the report of its boot has streams for different devices."""
     if subject.report is None or not subject.report.attempts:
         return []
@@ -185,7 +183,7 @@ def notes_of_others(subject: Subject) -> List[str]:
     return notes
 
 
-def notes_of(subject: Subject, found: Optional[Cause]) -> List[str]:
+def notes_of(subject: Subject, found: Cause | None) -> list[str]:
     """What is worth saying besides a cause, or where there is none."""
     if found and (found.kind in DAMAGED or found.section is None) or any(family_of(it.part) for it in subject.sources):
         return []

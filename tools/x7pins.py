@@ -5,7 +5,7 @@ from __future__ import annotations
 
 import re
 from itertools import combinations, product
-from typing import Callable, Iterator, List, NamedTuple, Optional, Tuple
+from typing import Callable, Iterator, NamedTuple
 
 import x7formats as x7
 import x7kinds
@@ -37,14 +37,14 @@ class Wires(NamedTuple):
     remedy: str
 
 
-def listed(bits: List[int]) -> str:
+def listed(bits: list[int]) -> str:
     """Bits as a text."""
     if len(bits) == 1:
         return f"bit {bits[0]}"
     return f"bits {', '.join(map(str, bits[:-1]))} and {bits[-1]}"
 
 
-def verb(bits: List[int]) -> str:
+def verb(bits: list[int]) -> str:
     """What is said of one or more bits."""
     return "is" if len(bits) == 1 else "are"
 
@@ -59,7 +59,7 @@ def table_of(keep: int, put: int) -> bytes:
     return bytes(byte & keep | put for byte in range(256))
 
 
-def stuck(data: bytes) -> Optional[Wires]:
+def stuck(data: bytes) -> Wires | None:
     """Data lines that are the same in every byte, or none."""
     values = set(data)
     ones, zeros = 0, 255
@@ -77,7 +77,7 @@ def stuck(data: bytes) -> Optional[Wires]:
     return Wires(f"{' and '.join(said)}: {lines}", "look at that line: a short, an open pin, another driver")
 
 
-def joined(data: bytes) -> Optional[Wires]:
+def joined(data: bytes) -> Wires | None:
     """Two data lines that carry the same bits in every byte, or none."""
     values = set(data)
     if len(values) < FEWEST_VALUES:
@@ -86,7 +86,7 @@ def joined(data: bytes) -> Optional[Wires]:
         if any((it >> one ^ it >> other) & 1 for it in values):
             continue
         both = 1 << one | 1 << other
-        drives: Tuple[Callable[[int], int], ...] = (
+        drives: tuple[Callable[[int], int], ...] = (
             lambda it: it >> one & it >> other & 1,
             lambda it: (it >> one | it >> other) & 1,
             lambda it: it >> one & 1,
@@ -107,7 +107,7 @@ def joined(data: bytes) -> Optional[Wires]:
 AFTER_LEAD = re.compile(rb"\xff{8}([^\xff]{4})", re.S)
 
 
-def swap_table(pairs: List[int]) -> bytes:
+def swap_table(pairs: list[int]) -> bytes:
     """The table of bytes with bits exchanged, by pairs."""
     places = list(range(8))
     for one, other in zip(pairs[::2], pairs[1::2]):
@@ -115,12 +115,12 @@ def swap_table(pairs: List[int]) -> bytes:
     return order_table(places)
 
 
-def order_table(places: List[int]) -> bytes:
+def order_table(places: list[int]) -> bytes:
     """The table that puts bits back in their order: bit number n of a byte is the one that stands at `places[n]`."""
     return bytes(sum((byte >> place & 1) << bit for bit, place in enumerate(places)) for byte in range(256))
 
 
-def sync_orders(four: bytes) -> List[List[int]]:
+def sync_orders(four: bytes) -> list[list[int]]:
     """The orders of the eight bits that make a sync word of four bytes, the usual one among them where they are one;
     none of other bytes. The halves of each of its bytes are alike, so for each of four pairs two orders do."""
     first, second = four[0], four[1]
@@ -138,7 +138,7 @@ def sync_orders(four: bytes) -> List[List[int]]:
     return found
 
 
-def orders_of(data: bytes) -> Iterator[List[int]]:
+def orders_of(data: bytes) -> Iterator[list[int]]:
     """The orders of data lines, but the usual one, in which data begin as a stream."""
     seen = set()
     for found in AFTER_LEAD.finditer(data[:SEARCHED]):
@@ -154,7 +154,7 @@ def begins_well(data: bytes) -> bool:
     return x7kinds.is_stream(data[:JUDGED])
 
 
-def exchanged(data: bytes, is_stream: Judge) -> Optional[Wires]:
+def exchanged(data: bytes, is_stream: Judge) -> Wires | None:
     """Data lines that are exchanged, two or more, or none. Where it isn't clear which, that is said."""
     orders = list(orders_of(data))
     sure = next((it for it in orders if is_stream(data.translate(order_table(it)))), None)
@@ -166,7 +166,7 @@ def exchanged(data: bytes, is_stream: Judge) -> Optional[Wires]:
     return Wires(text, "compare the lines with the board's drawing, and take the file again")
 
 
-def of_order(places: List[int]) -> Wires:
+def of_order(places: list[int]) -> Wires:
     """What is said of data lines in this order."""
     moved = [bit for bit in range(8) if places[bit] != bit]
     if all(places[places[bit]] == bit for bit in moved) and len(moved) == 2:
@@ -182,12 +182,12 @@ def of_order(places: List[int]) -> Wires:
     return Wires(text, "put these lines in their order")
 
 
-def ways(bits: List[int], places: List[int], what: str) -> str:
+def ways(bits: list[int], places: list[int], what: str) -> str:
     """Where each of some bits stands."""
     return ", ".join(f"{what} {bit} comes as {what} {places[bit]}" for bit in bits)
 
 
-def inverted(data: bytes) -> Optional[Wires]:
+def inverted(data: bytes) -> Wires | None:
     """Data lines that are inverted, one of eight or of four, or none."""
     for bits in [[bit] for bit in range(8)] + [[bit, bit + 4] for bit in range(4)]:
         mask = sum(1 << bit for bit in bits)
@@ -198,7 +198,7 @@ def inverted(data: bytes) -> Optional[Wires]:
     return None
 
 
-def half(data: bytes) -> Optional[Wires]:
+def half(data: bytes) -> Wires | None:
     """Every second byte, or halfword, of a stream, or none."""
     for what, patterns in HALVES:
         if any(bytes.fromhex(it) in data[:SEARCHED] for it in patterns):
@@ -219,7 +219,7 @@ def is_repeated(data: bytes, size: int) -> bool:
     return all(data[at : at + size] == data[at + size : at + 2 * size] for at in range(0, 2 * size * pairs, 2 * size))
 
 
-def repeated(data: bytes) -> Optional[Wires]:
+def repeated(data: bytes) -> Wires | None:
     """Blocks each of which stands twice, in all of the data, or none."""
     size = 1
     while len(data) >= FEWEST_BYTES and 2 * size <= len(data):
@@ -237,7 +237,7 @@ def repeated(data: bytes) -> Optional[Wires]:
     return None
 
 
-def wires_of(data: bytes, is_stream: Judge = begins_well) -> Optional[Wires]:
+def wires_of(data: bytes, is_stream: Judge = begins_well) -> Wires | None:
     """What wires did to a stream, or none; `is_stream` judges one in which exchanged lines were put back, since the
     beginning alone may not tell in which of two orders they are."""
     found = repeated(data) or stuck(data) or joined(data)

@@ -3,7 +3,7 @@ python3 (3.8) and its library alone."""
 from __future__ import annotations
 
 from enum import Enum
-from typing import Iterator, List, NamedTuple, Optional, Tuple
+from typing import Iterator, NamedTuple
 
 from x7formats import SYNC
 from x7layout import FREE, SECTOR, SLOT_SIZE, SPENT, Layout, VendorLayout
@@ -26,10 +26,10 @@ class Step(NamedTuple):
     verb: Verb  # what it does
     place: int  # its first byte
     data: bytes  # the bytes that it programs or reads; of an erase, FF
-    offset: Optional[int]  # where they stand in the data of the stream, where they are a part of it
+    offset: int | None  # where they stand in the data of the stream, where they are a part of it
 
 
-def pieces(place: int, count: int, page: int) -> Iterator[Tuple[int, int]]:
+def pieces(place: int, count: int, page: int) -> Iterator[tuple[int, int]]:
     """Places and sizes that cover `count` bytes from a place on, cut where a page ends; uncut where `page` is 0."""
     end = place + count
     while place < end:
@@ -39,7 +39,7 @@ def pieces(place: int, count: int, page: int) -> Iterator[Tuple[int, int]]:
 
 
 def of_stream(
-    verb: Verb, update: int, data: bytes, page: int, first: int = 0, end: Optional[int] = None
+    verb: Verb, update: int, data: bytes, page: int, first: int = 0, end: int | None = None
 ) -> Iterator[Step]:
     """Programs of the bytes of a stream from `first` to `end`, to its end where none is said, or reads of them, page by
     page."""
@@ -61,9 +61,9 @@ def erased_rest(end: int, size: int) -> Iterator[Step]:
         yield Step(Verb.READ, end, b"\xff" * (size - end), None)
 
 
-def slot_steps(layout: Layout, size: int, data: bytes, page: int) -> List[Step]:
+def slot_steps(layout: Layout, size: int, data: bytes, page: int) -> list[Step]:
     """The steps of an update of a flash with slots, of `size` bytes, in the order of `x7 update`."""
-    steps: List[Step] = []
+    steps: list[Step] = []
     if layout.opened is not None:
         steps.append(Step(Verb.PROGRAM, SLOT_SIZE * layout.opened, SPENT, None))
     steps += erases(layout.update, size)
@@ -73,12 +73,12 @@ def slot_steps(layout: Layout, size: int, data: bytes, page: int) -> List[Step]:
     return steps + [Step(verb, SLOT_SIZE * layout.next, SYNC, None) for verb in (Verb.PROGRAM, Verb.READ)]
 
 
-def vendor_steps(layout: VendorLayout, size: int, data: bytes, page: int) -> List[Step]:
+def vendor_steps(layout: VendorLayout, size: int, data: bytes, page: int) -> list[Step]:
     """The steps of an update of the vendor's MultiBoot: the sync word of what stands there is cleared first, and that
     of the new stream written last, once all else was read back. In between no stream begins at the update's place."""
     sync, update = data.index(SYNC), layout.update
     place, after = update + sync, sync + len(SYNC)
-    steps: List[Step] = []
+    steps: list[Step] = []
     if layout.sync is not None:
         steps.append(Step(Verb.PROGRAM, layout.sync, SPENT, None))
     steps += erases(update, size)

@@ -4,7 +4,7 @@ from __future__ import annotations
 
 import functools
 import os
-from typing import Dict, List, NamedTuple, Optional
+from typing import NamedTuple
 
 import x7formats as x7
 from x7device import Device
@@ -62,7 +62,7 @@ class Source:
         return f"{x7.text_of(self.header.date)} {x7.text_of(self.header.time)}".strip() if self.header else ""
 
     @functools.cached_property
-    def steps(self) -> List[x7.Step]:
+    def steps(self) -> list[x7.Step]:
         """The steps of its data."""
         return list(x7.steps(self.data))
 
@@ -76,7 +76,7 @@ class Source:
         """Whether the stream has sessions, all of which come to their end."""
         return self.alone.end == ["searching"] and bool(self.alone.written)
 
-    def writes(self, register: int) -> List[Written]:
+    def writes(self, register: int) -> list[Written]:
         """What it writes to a register, each packet's first word."""
         found = [it for it in self.steps if it.kind == "write" and it.register == register and it.present]
         return [Written(self.first + it.first + 4, x7.word_at(self.data, it.first)) for it in found]
@@ -87,7 +87,7 @@ class Source:
         return any(it.kind == "write" and it.register in (x7.FDRI, x7.MFWR) for it in self.steps)
 
     @property
-    def idcode(self) -> Optional[Written]:
+    def idcode(self) -> Written | None:
         """The first IDCODE that it writes, or none."""
         return next(iter(self.writes(x7.IDCODE)), None)
 
@@ -95,20 +95,20 @@ class Source:
 class Fate(NamedTuple):
     """What becomes of the device."""
 
-    end: List[str]  # the words after 'end' of a report
+    end: list[str]  # the words after 'end' of a report
     taken: int  # bytes of the data of all streams
     phase: int  # of startup, 0 to 7
     gts: int  # 1 where the outputs are enabled
     gwe: int  # 1 where flip-flops and memories can be written
     ghigh: int  # 1 where the interconnect is on
-    registers: Dict[str, int]  # by name
+    registers: dict[str, int]  # by name
 
 
 class Subject:
     """What is asked about: the streams, what they do to a device, and the report, where there is one."""
 
     def __init__(
-        self, sources: List[Source], report: Optional[x7.Report], part: Optional[Part], is_of_shelf: bool = False,
+        self, sources: list[Source], report: x7.Report | None, part: Part | None, is_of_shelf: bool = False,
     ) -> None:
         self.sources = sources  # in the order of the play
         self.report = report  # of their play, boot or SVF text, or none
@@ -130,7 +130,7 @@ class Subject:
         """What becomes of the device: by the report, or where there is none by the device without frames."""
         return fate_of_report(self.report) if self.report else fate_of_device(self.device)
 
-    def source_at(self, after: int) -> Optional[Source]:
+    def source_at(self, after: int) -> Source | None:
         """The stream that the byte before a place stands in, or none."""
         return next((it for it in self.sources if it.first < after <= it.first + len(it.data)), None)
 
@@ -153,7 +153,7 @@ class Subject:
         return f"{text}, line {found.number} of {whose} listing: '{found.text[:60]}'{head}"
 
     @staticmethod
-    def line(source: Source, at: int) -> Optional[x7.ListedLine]:
+    def line(source: Source, at: int) -> x7.ListedLine | None:
         """The line of a stream's listing that the byte before a place stands in."""
         return x7.listed_line_at(source.path, at) if source.is_listing else x7.line_at(
             x7.Stream(source.header, source.data), at,

@@ -8,7 +8,7 @@ watchdog's time with that of a load.
 from __future__ import annotations
 
 from enum import Enum
-from typing import NamedTuple, Optional
+from typing import NamedTuple
 
 # The rates of CCLK in MHz that the vendor's tool offers (UG908, BITSTREAM.CONFIG.CONFIGRATE).
 RATES = (3, 6, 9, 12, 16, 22, 26, 33, 40, 50, 66)
@@ -29,7 +29,7 @@ class Seconds(NamedTuple):
     """A time in seconds. It is surely no less than `least` and no more than `most`."""
 
     least: float  # where the clock is as fast as it may be
-    nominal: Optional[float]  # at the clock's nominal rate; none where that isn't known
+    nominal: float | None  # at the clock's nominal rate; none where that isn't known
     most: float  # where the clock is as slow as it may be
 
 
@@ -50,7 +50,7 @@ class Watch(NamedTuple):
     text: str  # both times, with what they come from
 
 
-def rate_of(cor0: int) -> Optional[int]:
+def rate_of(cor0: int) -> int | None:
     """The nominal rate of CCLK in MHz that OSCFSEL of COR0 asks for, or none where the code isn't known.
 
     No guide lists the codes. Seen in streams of the vendor's tool are 0, of its default of 3 MHz, and 33. So a code
@@ -93,7 +93,7 @@ def load_seconds(byte_count: int, cor0: int = 0, bspi: int = 0) -> Seconds:
     return Seconds(cycles / MOST_RATE / 1e6, cycles / rate / 1e6 if rate else None, cycles / slowest / 1e6)
 
 
-def timer_seconds(timer: int) -> Optional[Seconds]:
+def timer_seconds(timer: int) -> Seconds | None:
     """How long the watchdog waits with a word of TIMER, or none where it doesn't run (CFG_MON is 0, or the number)."""
     if not timer & CFG_MON or not timer & STEPS:
         return None
@@ -122,7 +122,7 @@ def load_text(byte_count: int, cor0: int = 0, bspi: int = 0) -> str:
     return f"{byte_count} bytes at {clock_text(cor0, bspi)} take {time}"
 
 
-def verdict_of(timer: Optional[Seconds], load: Seconds) -> Verdict:
+def verdict_of(timer: Seconds | None, load: Seconds) -> Verdict:
     """What the watchdog's time is beside that of a load."""
     if timer is None:
         return Verdict.OFF

@@ -2,7 +2,7 @@
 ends by its watchdog may start on a board, and another one may not. python3 (3.8) and its library alone."""
 from __future__ import annotations
 
-from typing import List, NamedTuple, Optional
+from typing import NamedTuple
 
 import x7formats as x7
 from x7cause import Cause, Kind, Section
@@ -35,7 +35,7 @@ class Armed(NamedTuple):
     watch: Watch  # its time beside that of the load up to the next word of TIMER, or the end of startup
 
 
-def watch_of(source: Source) -> Optional[Armed]:
+def watch_of(source: Source) -> Armed | None:
     """The watchdog that a stream arms, that of several which waits the least beside its load, or none."""
     words = source.writes(x7.TIMER)
     ends = [it.after - source.first for it in words[1:]] + [end_of_startup(source)]
@@ -57,7 +57,7 @@ def is_reported(subject: Subject) -> bool:
     return subject.report is not None and subject.report.end[:2] == ["fault", "Watchdog"]
 
 
-def cause_of_watchdog(subject: Subject) -> Optional[Cause]:
+def cause_of_watchdog(subject: Subject) -> Cause | None:
     """The cause where a watchdog fires before the load ends, or none: surely, or where a report ends by it, at nominal
     clocks."""
     for source in subject.sources:
@@ -72,7 +72,7 @@ def cause_of_watchdog(subject: Subject) -> Optional[Cause]:
     return None
 
 
-def notes_of_watchdog(subject: Subject) -> List[str]:
+def notes_of_watchdog(subject: Subject) -> list[str]:
     """What is worth saying of a watchdog that isn't the cause."""
     notes = []
     for source in subject.sources:

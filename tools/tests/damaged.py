@@ -2,7 +2,7 @@
 made with."""
 from __future__ import annotations
 
-from typing import Callable, Dict, List, NamedTuple, Optional
+from typing import Callable, List, NamedTuple
 
 import x7formats as x7
 from x7ecc import ecc_of, ecc_tables, with_ecc
@@ -51,7 +51,7 @@ class Good:
         """Other data behind the header as it is."""
         return self.head + data
 
-    def mended(self, data: bytes, places: Optional[List[int]] = None) -> bytes:
+    def mended(self, data: bytes, places: list[int] | None = None) -> bytes:
         """The file of data whose checks are made anew."""
         return self.head + x7.with_checks(data, self.checks if places is None else places)
 
@@ -118,7 +118,7 @@ def each_byte(data: bytes, change: Callable[[int], int]) -> bytes:
     return data.translate(bytes(change(it) & 255 for it in range(256)))
 
 
-def exchanged_bits(byte: int, pairs: Dict[int, int]) -> int:
+def exchanged_bits(byte: int, pairs: dict[int, int]) -> int:
     """A byte whose bits go to other places."""
     return sum((byte >> bit & 1) << pairs.get(bit, bit) for bit in range(8))
 

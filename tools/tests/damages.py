@@ -14,7 +14,7 @@ import re
 import tarfile
 import zipfile
 from enum import Enum
-from typing import Callable, Iterator, List
+from typing import Callable, Iterator
 
 from casefiles import header  # (casefiles puts the tools on the path)
 from damaged import LOOSE, Damage, Good, cut_out, each_byte, exchanged_bits, exchanged_places, flip, put, put_in, row
@@ -24,7 +24,7 @@ import x7formats as x7
 import x7kinds
 
 
-def cuts(g: Good) -> List[Damage]:
+def cuts(g: Good) -> list[Damage]:
     """The end is missing."""
     found = []
     places = {
@@ -46,7 +46,7 @@ def cuts(g: Good) -> List[Damage]:
     return found
 
 
-def losses(g: Good) -> List[Damage]:
+def losses(g: Good) -> list[Damage]:
     """Bytes are lost or added."""
     found, place = [], g.middle - 3
     for count in (1, 2, 3, 4, 5, 80, 256, 404, 512, 1024, 4096, 65536):
@@ -77,7 +77,7 @@ def losses(g: Good) -> List[Damage]:
     return found
 
 
-def lines(g: Good) -> List[Damage]:
+def lines(g: Good) -> list[Damage]:
     """What a serial line, a shell or a tool for texts does."""
     xon = b"".join(g.data[at : at + 1000] + b"\x13\x11"[at // 1000 % 2 :][:1] for at in range(0, len(g.data), 1000))
     lf, ended = g.data.replace(b"\n", b"\r\n"), with_line_ends(g)
@@ -137,7 +137,7 @@ def doubled_ff(g: Good) -> Damage:
     return row("FF doubled in front", [doubled], "length: the header", 0)
 
 
-def bits(g: Good) -> List[Damage]:
+def bits(g: Good) -> list[Damage]:
     """A word, or a bit of one, is another one."""
     idcode, far = g.word_of(x7.IDCODE), g.word_of(x7.FAR)
     return [
@@ -171,7 +171,7 @@ def bits(g: Good) -> List[Damage]:
     ]
 
 
-def commands(g: Good) -> List[Damage]:
+def commands(g: Good) -> list[Damage]:
     """A command is another one, or words stand where none should."""
     return [
         row("START to another command", [g.mended(put(g.data, g.start, 0))], "START is damaged or lost"),
@@ -195,7 +195,7 @@ def commands(g: Good) -> List[Damage]:
     ]
 
 
-def turned(g: Good) -> List[Damage]:
+def turned(g: Good) -> list[Damage]:
     """Bits, bytes or words in another order."""
     found = []
     for way in x7kinds.WAYS:
@@ -218,7 +218,7 @@ def turned(g: Good) -> List[Damage]:
     return found
 
 
-def pins(g: Good) -> List[Damage]:
+def pins(g: Good) -> list[Damage]:
     """Data lines that are stuck, exchanged, joined or inverted."""
     found = []
     for bit in range(8):
@@ -255,7 +255,7 @@ def pins(g: Good) -> List[Damage]:
     return found
 
 
-def orders_of_lines(g: Good) -> List[Damage]:
+def orders_of_lines(g: Good) -> list[Damage]:
     """Three data lines or more in another order; bit n of each byte comes as the bit that stands at place n."""
     found = []
     for name, order in (
@@ -276,7 +276,7 @@ def orders_of_lines(g: Good) -> List[Damage]:
     return found
 
 
-def address_lines(g: Good) -> List[Damage]:
+def address_lines(g: Good) -> list[Damage]:
     """Two address lines of a parallel flash that are exchanged, and that is read as a whole."""
     width = len(g.data).bit_length()
     flash = g.data.ljust(1 << width, b"\xff")
@@ -289,12 +289,12 @@ def address_lines(g: Good) -> List[Damage]:
     return found
 
 
-def flashes(g: Good, other: Good) -> List[Damage]:
+def flashes(g: Good, other: Good) -> list[Damage]:
     """What a flash holds: partly written, not erased, of several streams."""
     return [*half_written(g), *not_erased(g, other), *several_streams(g, other), *readbacks(g)]
 
 
-def half_written(g: Good) -> List[Damage]:
+def half_written(g: Good) -> list[Damage]:
     """A flash, or a file, of which a part was written."""
     found, size, half = [], len(g.data), len(g.data) // 2 // 256 * 256
     for name, count, whole in (
@@ -320,7 +320,7 @@ def half_written(g: Good) -> List[Damage]:
     return found
 
 
-def not_erased(g: Good, other: Good) -> List[Damage]:
+def not_erased(g: Good, other: Good) -> list[Damage]:
     """A flash that was written where it wasn't erased: a bit is 1 where all that was written has it."""
     right, half = "erased|unknown", len(g.data) // 2 // 256 * 256
     found = []
@@ -344,7 +344,7 @@ def other_design(g: Good) -> bytes:
     return x7.with_checks(data, g.checks)
 
 
-def several_streams(g: Good, other: Good) -> List[Damage]:
+def several_streams(g: Good, other: Good) -> list[Damage]:
     """A flash with a stream's parts in another order, or with two streams."""
     flash, half = g.data + b"\xff" * (-len(g.data) % 65536), len(g.data) // 2 // 256 * 256
     order, two = "exchanged|other order|wrong order|begins at offset", "two devices|different devices|second "
@@ -366,7 +366,7 @@ def raw_frames(g: Good) -> bytes:
     return bytes(404) + b"".join(g.data[it.first : it.end] for it in g.writes if it.register == x7.FDRI)
 
 
-def readbacks(g: Good) -> List[Damage]:
+def readbacks(g: Good) -> list[Damage]:
     """Frames as a device gives them, with the error correction code of each in its word 50, given as a stream."""
     frames = with_codes(raw_frames(g))
     names = ("the bytes of each word", "the bits of each byte")
@@ -385,12 +385,12 @@ def readbacks(g: Good) -> List[Damage]:
     ]
 
 
-def packed(g: Good) -> List[Damage]:
+def packed(g: Good) -> list[Damage]:
     """Files that hold a stream in another form, and files of other kinds."""
     return [*compressed(g), *as_text(g), *of_others(g)]
 
 
-def compressed(g: Good) -> List[Damage]:
+def compressed(g: Good) -> list[Damage]:
     """Files in which a stream is packed."""
     zipped, tarred = io.BytesIO(), io.BytesIO()
     with zipfile.ZipFile(zipped, "w") as file:
@@ -413,7 +413,7 @@ def compressed(g: Good) -> List[Damage]:
     ]
 
 
-def as_text(g: Good) -> List[Damage]:
+def as_text(g: Good) -> list[Damage]:
     """Files that hold a stream as a text."""
     rbt = b"Xilinx ASCII Bitstream\nBits: %d\n" % (8 * len(g.data)) + b"".join(
         b"%s\n" % f"{it:032b}".encode() for it in x7.words_of(g.data[:4096])
@@ -436,7 +436,7 @@ def as_text(g: Good) -> List[Damage]:
     ]
 
 
-def of_others(g: Good) -> List[Damage]:
+def of_others(g: Good) -> list[Damage]:
     """Files of other kinds, some of which hold a stream."""
     return [
         row("ELF", [b"\x7fELF" + bytes(900)], "ELF"),
@@ -462,7 +462,7 @@ def intel_hex(data: bytes) -> bytes:
     return ("\n".join([*lines, ":00000001FF"]) + "\n").encode()
 
 
-def texts(g: Good) -> List[Damage]:
+def texts(g: Good) -> list[Damage]:
     """Texts in place of a stream."""
     svf = b"STATE RESET;\nSIR 6 TDI (0B);\n"
     return [
@@ -486,7 +486,7 @@ def texts(g: Good) -> List[Damage]:
     ]
 
 
-def dump_rows(data: bytes, width: int = 16) -> List[bytes]:
+def dump_rows(data: bytes, width: int = 16) -> list[bytes]:
     """The first bytes of data in rows."""
     return [data[at : at + width] for at in range(0, min(len(data), 1024), width)]
 
@@ -496,15 +496,15 @@ def ascii_of(part: bytes) -> str:
     return "".join(chr(it) if 32 <= it < 127 else "." for it in part)
 
 
-def dumps(g: Good) -> List[Damage]:
+def dumps(g: Good) -> list[Damage]:
     """Dumps as text. Only what xxd writes in hexadecimal is for xxd -r."""
     def lines(form: Callable[[int, bytes], str]) -> bytes:
         return "".join(f"{form(16 * at, part)}\n" for at, part in enumerate(dump_rows(g.data))).encode()
 
-    def halves(part: bytes, order: str) -> List[int]:
+    def halves(part: bytes, order: str) -> list[int]:
         return [int.from_bytes(part[at : at + 2], order) for at in range(0, 16, 2)]  # type: ignore[arg-type]
 
-    def words(part: bytes, order: str) -> List[int]:
+    def words(part: bytes, order: str) -> list[int]:
         return [int.from_bytes(part[at : at + 4], order) for at in range(0, 16, 4)]  # type: ignore[arg-type]
 
     xxd = lines(lambda at, it: f"{at:08x}: {' '.join(f'{one:04x}' for one in halves(it, 'big'))}  {ascii_of(it)}")
@@ -537,7 +537,7 @@ def dumps(g: Good) -> List[Damage]:
     ]
 
 
-def headers(g: Good, other: Good) -> List[Damage]:
+def headers(g: Good, other: Good) -> list[Damage]:
     """The header is another one's, or damaged."""
     length = len(g.data)
     own = x7.header_of(g.raw)
@@ -591,7 +591,7 @@ def spartan_3e() -> bytes:
     return bytes.fromhex(words.replace(" ", "")) + bytes(40000)
 
 
-def settings(g: Good) -> List[Damage]:
+def settings(g: Good) -> list[Damage]:
     """Settings that keep a board dead, or that are worth saying, in a stream that is whole."""
     cor0 = x7.word_at(g.data, g.word_of(x7.COR0))
     width = g.data.find(bytes.fromhex("000000BB11220044"))
@@ -635,7 +635,7 @@ def no_checks(g: Good) -> bytes:
     return g.bit(data)
 
 
-def several(g: Good, other: Good) -> List[Damage]:
+def several(g: Good, other: Good) -> list[Damage]:
     """Several files."""
     return [
         row("a cut one, then a good one", [g.bit(g.data[: g.middle]), g.raw], "s0.bit: .*cut off"),
@@ -647,7 +647,7 @@ def several(g: Good, other: Good) -> List[Damage]:
     ]
 
 
-def good(g: Good) -> List[Damage]:
+def good(g: Good) -> list[Damage]:
     """Good files, of which nothing wrong may be said."""
     return [
         row("the stream", [g.raw], "starts|nothing is wrong", 0),

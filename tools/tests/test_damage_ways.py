@@ -8,7 +8,6 @@ import itertools
 import random
 import tempfile
 import time
-from typing import List, Optional, Tuple
 
 from calls import called
 from casefiles import Tally, put_file
@@ -27,13 +26,13 @@ GOOD = damaged.coded(s.bit(s.full()))
 SMALL = damaged.coded(s.bit(s.compressed()))
 
 
-def said(folder: str, raw: bytes, *words: str) -> Tuple[int, str]:
+def said(folder: str, raw: bytes, *words: str) -> tuple[int, str]:
     """The status of `why --alone` of a file, and what it says."""
     status, out, err = called("why", *(words or ("--alone",)), put_file(folder, "s0.bit", raw))
     return status, out.decode() + err
 
 
-def plain_line(stream: x7.Stream, place: int) -> Optional[Tuple[int, str, str]]:
+def plain_line(stream: x7.Stream, place: int) -> tuple[int, str, str] | None:
     """The line of a listing that the byte before a place stands in, by its lines one after the other."""
     number = 1 if stream.header else 0
     for step in x7.steps(stream.data):
@@ -157,7 +156,7 @@ def readbacks() -> None:
 
 def watchdogs(folder: str) -> None:
     """Of several words of TIMER each is judged up to the next one, and the worst is told with its own place."""
-    lines: List[str] = s.with_data(s.full(), "TIMER", "40000001")
+    lines: list[str] = s.with_data(s.full(), "TIMER", "40000001")
     short = s.bit([*lines[:4], *s.written("TIMER", "40000100"), *lines[4:]])
     status, text = said(folder, short)
     TALLY.check("the second", status == 1 and "TIMER 40000001 waits" in text and "'data 40000001'" in text, text)

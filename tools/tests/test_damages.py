@@ -15,7 +15,6 @@ import re
 import sys
 import tempfile
 import time
-from typing import Dict, List
 
 from casefiles import Tally, put_file
 from calls import called
@@ -27,14 +26,14 @@ import streams as s
 KNOWN_LESS = re.compile(r"\d+ bytes lost, no header")
 
 
-def said(damage: Damage, folder: str) -> "tuple[int, str]":
+def said(damage: Damage, folder: str) -> tuple[int, str]:
     """The status of `why --alone` of the files, and what it says."""
     paths = [put_file(folder, f"s{number}.bit", raw) for number, raw in enumerate(damage.files)]
     status, out, err = called("why", "--alone", *paths)
     return status, out.decode() + err
 
 
-def other_device(lines: List[str]) -> Good:
+def other_device(lines: list[str]) -> Good:
     """A planned stream of another device."""
     return coded(s.bit(s.with_data(lines, "IDCODE", "03631093"), "7a100tcsg324"))
 
@@ -68,9 +67,9 @@ def half_written(tally: Tally, good: Good, folder: str) -> None:
     tally.check("its time", spent < 2, f"{spent} seconds of a processor")
 
 
-def of_files(paths: List[str]) -> None:
+def of_files(paths: list[str]) -> None:
     """Tries streams that are given, in pairs, and says what isn't right, and the counts."""
-    counts: Dict[Verdict, int] = collections.Counter()
+    counts: dict[Verdict, int] = collections.Counter()
     with tempfile.TemporaryDirectory() as folder:
         for one, other in zip(paths[::2], paths[1::2]):
             with open(one, "rb") as first, open(other, "rb") as second:

@@ -2,7 +2,7 @@
 streams, modes, times, what an erase takes, opcodes; and that none of the good ones is refused."""
 from __future__ import annotations
 
-from typing import Dict, List, NamedTuple, Optional, Sequence, Set
+from typing import NamedTuple, Sequence
 
 from runs import DEVICE, Bench, frame_of, run_parts, text_of_frames
 import x7formats as x7
@@ -20,8 +20,8 @@ class Golden(NamedTuple):
     """A golden stream that is changed, and what is said of it."""
 
     name: str
-    changes: Dict[str, str]  # lines of its listing, old and new
-    fails: List[str]  # the checks that fail
+    changes: dict[str, str]  # lines of its listing, old and new
+    fails: list[str]  # the checks that fail
 
 
 class Timed(NamedTuple):
@@ -29,18 +29,18 @@ class Timed(NamedTuple):
 
     name: str
     word: str  # of TIMER
-    changes: Dict[str, str]  # further lines of its listing, old and new
-    fails: List[str]  # the checks that fail
-    notes: List[str]  # the notes that are made
+    changes: dict[str, str]  # further lines of its listing, old and new
+    fails: list[str]  # the checks that fail
+    notes: list[str]  # the notes that are made
 
 
 class Said(NamedTuple):
     """What a call of `check_update` said."""
 
-    status: Optional[int]  # its status, or none where it didn't end in time
-    fails: Set[str]  # the names of the checks that fail
-    lines: Dict[str, str]  # the line of each check, by its name
-    notes: Dict[str, str]  # the notes, by their names
+    status: int | None  # its status, or none where it didn't end in time
+    fails: set[str]  # the names of the checks that fail
+    lines: dict[str, str]  # the line of each check, by its name
+    notes: dict[str, str]  # the notes, by their names
 
 
 def said(bench: Bench, *words: str) -> Said:
@@ -79,7 +79,7 @@ def put_flash(bench: Bench, golden: str, update: str) -> None:
     bench.put("flash", bench.get("image").ljust(SIZE, b"\xff"))
 
 
-def changed(bench: Bench, stream: str, changes: Dict[str, str]) -> str:
+def changed(bench: Bench, stream: str, changes: dict[str, str]) -> str:
     """The name of a stream with changes of its listing, its checks made anew."""
     lines = "\n".join(x7.listing_of(x7.stream_of(bench.get(stream)))).replace("write CRC 1\ndata ", "crc\n# ")
     for old, new in changes.items():
@@ -94,7 +94,7 @@ def goldens(bench: Bench) -> None:
     """The golden stream is judged as the update is."""
     words = ["made.part", "flash", "next"]
     other_device = {"data 0362D093": "data 0362C093"}
-    cases: List[Golden] = [
+    cases: list[Golden] = [
         Golden("a golden stream of JTAG's clock", {"data 02003FE5": "data 02013FE5"}, ["golden clock"]),
         Golden("a golden stream of the user's clock", {"data 02003FE5": "data 0200BFE5"}, ["golden clock"]),
         Golden("a golden stream without a check", {"crc\n": "# "}, ["golden stream"]),
@@ -127,7 +127,7 @@ def modes(bench: Bench) -> None:
     expect(bench, "no mode", [], ["mode.part", "flash", "next"])
 
 
-def armed(word: str, changes: Dict[str, str]) -> Dict[str, str]:
+def armed(word: str, changes: dict[str, str]) -> dict[str, str]:
     """Changes that let a stream write TIMER too."""
     return {**changes, BEFORE_COR0.split("\n", maxsplit=1)[0]: f"write TIMER 1\ndata {word}\nwrite COR0 1"}
 
@@ -137,7 +137,7 @@ def times(bench: Bench) -> None:
     stream has some 15,000 bytes: 40 ms on one line at 3 MHz, 0.9 on four at 33."""
     words = ["made.part", "flash", "other"]
     ends, other_clock = ["damaged"], {"data 02003FE5": "data 02083FE5"}
-    cases: List[Timed] = [
+    cases: list[Timed] = [
         Timed("a watchdog that lasts, in fewer bytes than the stream's", "40000E00", FAST, [], ends),
         Timed("a watchdog that lasts", "40100000", {}, [], ends),
         Timed("a watchdog that lasts at these clocks", "40003000", {}, [], ["time", *ends]),
@@ -152,7 +152,7 @@ def times(bench: Bench) -> None:
         text = found.notes.get("time") or found.lines["time"]
         bench.tally.check(f"{name}: both times are said", "bytes at" in text and "take" in text, text)
         bench.tally.same(f"{name}: allow_fallback takes it", bench.tool("allow_fallback", "other").status, 0)
-    cases_of_goldens: List[Timed] = [
+    cases_of_goldens: list[Timed] = [
         Timed("a golden watchdog that lasts", "40100000", {}, [], ["damaged"]),
         Timed("a golden watchdog that may not last", "40001000", {}, [], ["golden time", "damaged"]),
         Timed("a golden watchdog that lasts at no clock", "40000010", {}, ["golden time"], ["damaged"]),

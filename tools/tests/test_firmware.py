@@ -9,7 +9,6 @@ import os
 import random
 import shutil
 import tempfile
-from typing import Dict, List, Tuple
 
 from casefiles import TOOLS
 from runs import X7, Bench, run
@@ -39,7 +38,7 @@ def has_sanitizers(bench: Bench) -> bool:
     return built and run(bench.folder, ["./one"]).status == 0
 
 
-def flash_with(words: List[bytes], update: int, size: int, take: random.Random) -> bytes:
+def flash_with(words: list[bytes], update: int, size: int, take: random.Random) -> bytes:
     """A flash of this size whose first slots have these switch words; golden stream and update are any bytes."""
     slot = slot_of(update.to_bytes(4, "big"))
     words = words + [b"\xff" * 4] * (SLOTS - len(words))
@@ -47,11 +46,11 @@ def flash_with(words: List[bytes], update: int, size: int, take: random.Random) 
     return b"".join(word + slot[4:] for word in words) + rest
 
 
-def flashes() -> List[Tuple[str, bytes]]:
+def flashes() -> list[tuple[str, bytes]]:
     """Flashes with slots of all kinds: free, spent, open, torn."""
     take, spent, opened = random.Random(11), bytes(4), slot_of(bytes(4))[:4]
     torn = [bytes.fromhex(it) for it in ("AA995567", "AA985566", "FFFFFFFE", "80000000", "AA9955FF")]
-    cases: Dict[str, List[bytes]] = {
+    cases: dict[str, list[bytes]] = {
         "new": [], "an image": [opened], "closed": [spent], "two updates": [spent, opened], "torn": [*torn, opened],
         "all torn": torn, "a free one among them": [spent, b"\xff" * 4, spent], "open before a torn": [opened, torn[0]],
         "the last but one": [spent] * (SLOTS - 2) + [opened], "one left": [spent] * (SLOTS - 1),
@@ -64,16 +63,16 @@ def flashes() -> List[Tuple[str, bytes]]:
     return found
 
 
-def updates() -> List[bytes]:
+def updates() -> list[bytes]:
     """A stream with no-ops after it: none, up to a whole page, up to a sector."""
     data = streams.data_of(streams.full())
     sizes = [len(data), -(-len(data) // 256) * 256, SECTOR]
     return [data + bytes.fromhex("20000000") * ((size - len(data)) // 4) for size in sizes]
 
 
-def merged(lines: List[str]) -> List[str]:
+def merged(lines: list[str]) -> list[str]:
     """Steps with reads that follow one another joined: how long one is, is a board's affair."""
-    joined: List[str] = []
+    joined: list[str] = []
     for line in lines:
         verb, place, count, *digits = line.split()
         if verb == "read" and digits == ["erased"]:
@@ -106,7 +105,7 @@ def steps(bench: Bench, program: str, page: int) -> None:
             bench.tally.check(f"{case}: what is left", bench.get("flash") == done(flash, wanted))
 
 
-def done(flash: bytes, lines: List[str]) -> bytes:
+def done(flash: bytes, lines: list[str]) -> bytes:
     """What steps leave of a flash."""
     left = bytearray(flash)
     for verb, place, count, *digits in (line.split() for line in lines):

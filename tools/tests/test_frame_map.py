@@ -5,7 +5,7 @@ from __future__ import annotations
 import os
 import tempfile
 import xml.dom.minidom
-from typing import List, Mapping
+from typing import Mapping
 
 from casefiles import TOP, Tally, put_file
 from calls import called, ran, shell_status
@@ -69,7 +69,7 @@ with tempfile.TemporaryDirectory() as FOLDER:
     refused("an empty report", path, in_file("", "empty.report"))
     refused("a part for a report", path, path)
     refused("no such file", path, "/nowhere")
-    wrong: List[List[str]] = [[], [path], [path, one, two, two]]
+    wrong: list[list[str]] = [[], [path], [path, one, two, two]]
     for words in wrong:
         status, out, err = ran("frame_map", *words)
         tally.check(f"words {len(words)}", status == 2 and not out and err.count("\n") == 1, err)

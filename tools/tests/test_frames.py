@@ -5,7 +5,7 @@ from __future__ import annotations
 
 import random
 import tempfile
-from typing import Dict, Iterator, List, Sequence
+from typing import Dict, Iterator, Sequence
 
 from runs import DEVICE, X7, Bench, Came, frame_of, text_of_frames
 import x7formats as x7
@@ -26,7 +26,7 @@ ERASED = bytes(4 * x7.FRAME_WORDS)
 # the place of a frame's ECC, in bits 12:0 of its word 50
 ECC_PLACE = 4 * 50
 # ways in which a part is named, or not
-NAMED_PARTS: List[List[str]] = [[], ["--part", "xc7a35t"], ["--part=7a35tcpg236-1"]]
+NAMED_PARTS: list[list[str]] = [[], ["--part", "xc7a35t"], ["--part=7a35tcpg236-1"]]
 # what is no region
 NO_REGIONS = [
     "", "column", "column=", "column=3-1", "column=1,column=2", "minor=x", "far=xyz", "colour=1", "column=-1",

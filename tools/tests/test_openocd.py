@@ -9,7 +9,6 @@ import shutil
 import socket
 import tempfile
 import threading
-from typing import List
 
 from runs import Bench, run
 import streams
@@ -80,7 +79,7 @@ class Device(Port):
 
     def __init__(self, idcode: int) -> None:
         super().__init__(6, idcode)
-        self.bits_in: List[int] = []  # under CFG_IN, since JPROGRAM
+        self.bits_in: list[int] = []  # under CFG_IN, since JPROGRAM
         # by JPROGRAM
         self.resets = 0
         # under JSTART
@@ -113,7 +112,7 @@ class Device(Port):
 class Chain:
     """Ports in a row, from TDI to TDO, behind an adapter that openocd speaks to over a connection."""
 
-    def __init__(self, ports: List[Port]) -> None:
+    def __init__(self, ports: list[Port]) -> None:
         self.ports = ports
         # the state of all ports
         self.state = RESET
@@ -174,7 +173,7 @@ class Chain:
         return False
 
 
-def play(bench: Bench, ports: List[Port], *texts: str) -> tuple[int | None, str]:
+def play(bench: Bench, ports: list[Port], *texts: str) -> tuple[int | None, str]:
     """Lets openocd play texts on a chain: its status, and what it says."""
     with socket.socket() as listener:
         listener.bind(("127.0.0.1", 0))

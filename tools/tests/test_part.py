@@ -7,7 +7,7 @@ import json
 import os
 import re
 import tempfile
-from typing import Any, Callable, Dict, List, Tuple
+from typing import Any, Callable, Dict
 
 from casefiles import Tally, header, put_file
 from calls import called, ran, shell_status
@@ -189,7 +189,7 @@ def give_count(table: Table, count: object) -> None:
 
 
 # What is changed in part.json, so that it makes no part.
-CHANGES: List[Tuple[str, Callable[[Table], object]]] = [
+CHANGES: list[tuple[str, Callable[[Table], object]]] = [
     ("without a column", lambda it: buses_of(it)["CLB_IO_CLK"]["configuration_columns"].pop("1")),
     ("without an IDCODE", lambda it: it.pop("idcode")),
     ("without regions", lambda it: it.pop("global_clock_regions")),

@@ -7,7 +7,7 @@ from __future__ import annotations
 import gzip
 import shlex
 import tempfile
-from typing import Dict, List, NamedTuple, Optional
+from typing import NamedTuple
 
 from casefiles import Tally, header, put_file
 from calls import called, ran, shell_status
@@ -51,7 +51,7 @@ def ways() -> None:
             turned(f"{way.what}, a whole file of {len(head)} bytes more", way.back(head + DATA), head + DATA)
 
 
-def rbt(lines: List[bytes], bits: Optional[int] = None) -> bytes:
+def rbt(lines: list[bytes], bits: int | None = None) -> bytes:
     """A .rbt file of these lines, whose head says how many bits there are."""
     count = 32 * len(lines) if bits is None else bits
     head = [b"Xilinx ASCII Bitstream", b"Created by hand", b"Bits:        %d" % count]
@@ -99,12 +99,12 @@ def texts() -> None:
 class Bus(NamedTuple):
     """How a bus takes a stream."""
 
-    order: List[int]  # which byte of a group stands at each place on the bus
+    order: list[int]  # which byte of a group stands at each place on the bus
     mirrors_bits: bool  # whether each byte's bits are swapped
 
 
 # the bus of each way of --to
-BUSES: Dict[str, Bus] = {
+BUSES: dict[str, Bus] = {
     "bits": Bus([0], True),
     "halves": Bus([1, 0], False),
     "words": Bus([3, 2, 1, 0], False),
@@ -147,7 +147,7 @@ def calls() -> None:
     for options in (["--back"], ["--to", "bits", path]):
         refused(f"words {options[:2]}", DATA, "usage", *options)
     tally.check("help", ran("turn", "--help")[:1] == (0,))
-    wrong: List[List[str]] = [[], [path, path], ["/nowhere/at/all"], [FOLDER]]
+    wrong: list[list[str]] = [[], [path, path], ["/nowhere/at/all"], [FOLDER]]
     for words in wrong:
         status, out, err = ran("turn", *words)
         tally.check(f"words {len(words)}", status == 2 and not out and err.count("\n") == 1, err)

@@ -1,6 +1,6 @@
 #!/usr/bin/env python3
 """Tests that mypy --strict accepts the tools, their tests, bench/ and build, where mypy is installed; that no line of
-them is past 120 characters; and that no function lacks a type or has more than 40 lines."""
+them is past 120 characters; that no function lacks a type or has more than 40 lines; and that types have one form."""
 from __future__ import annotations
 
 import ast
@@ -16,6 +16,10 @@ from casefiles import TOP, Tally
 WIDTH, LENGTH = 120, 40
 # What is checked together, by folders: modules of one name don't stand in one call.
 GROUPS = [["tools", "tools/tests", "build", "parts", "release"], ["bench"]]
+# The names of typing for which annotations have `X | None`, `list[X]` and the like. What is evaluated, as an alias is,
+# keeps them, since Python 3.8 can't subscript its own types.
+OF_TYPING = {"Optional", "Union", "List", "Dict", "Set", "FrozenSet", "Tuple", "Type"}
+BUILT_IN = {"list", "dict", "set", "frozenset", "tuple", "type"}
 
 
 def is_python(path: str) -> bool:
@@ -72,11 +76,10 @@ def check_lines(tally: Tally) -> None:
             tally.check(f"{name}: lines past {WIDTH}", not wide, ", ".join(wide))
 
 
-def functions_of(name: str) -> list[ast.FunctionDef]:
-    """The functions of a file."""
+def nodes_of(name: str) -> list[ast.AST]:
+    """All of what a file is made of."""
     with open(os.path.join(TOP, name), encoding="utf-8") as file:
-        tree = ast.parse(file.read())
-    return [it for it in ast.walk(tree) if isinstance(it, ast.FunctionDef)]
+        return list(ast.walk(ast.parse(file.read())))
 
 
 def lacks_types(function: ast.FunctionDef) -> bool:
@@ -90,15 +93,42 @@ def check_functions(tally: Tally) -> None:
     """No function lacks a type, also where mypy isn't installed, and none has more lines than LENGTH."""
     for places in GROUPS:
         for name in (it for place in places for it in files_of(place)):
-            functions = functions_of(name)
+            functions = [it for it in nodes_of(name) if isinstance(it, ast.FunctionDef)]
             bare = [it.name for it in functions if lacks_types(it)]
             tally.same(f"{name}: functions that lack a type", bare, [])
             long = [it.name for it in functions if (it.end_lineno or 0) - it.lineno >= LENGTH]
             tally.same(f"{name}: functions of more than {LENGTH} lines", long, [])
 
 
+def annotation_of(node: ast.AST) -> ast.expr | None:
+    """The type that is said of a function's answer, of what it takes, or of a name; or none."""
+    if isinstance(node, ast.FunctionDef):
+        return node.returns
+    return node.annotation if isinstance(node, (ast.arg, ast.AnnAssign)) else None
+
+
+def is_literal(node: ast.AST) -> bool:
+    """Whether this is a Literal, whose texts are no types."""
+    return isinstance(node, ast.Subscript) and isinstance(node.value, ast.Name) and node.value.id == "Literal"
+
+
+def check_forms(tally: Tally) -> None:
+    """Annotations have one form for a type, without quotes, and nothing is evaluated that Python 3.8 can't."""
+    for name in (it for places in GROUPS for place in places for it in files_of(place)):
+        nodes = nodes_of(name)
+        said = {it for node in map(annotation_of, nodes) if node is not None for it in ast.walk(node)}
+        others = [it.lineno for it in said if isinstance(it, ast.Name) and it.id in OF_TYPING]
+        literal = {it for node in said if is_literal(node) for it in ast.walk(node)}
+        quoted = [it.lineno for it in said - literal if isinstance(it, ast.Constant) and isinstance(it.value, str)]
+        tally.same(f"{name}: lines with types of another form", sorted(others + quoted), [])
+        parts = [it.value for it in nodes if isinstance(it, ast.Subscript) and it not in said]
+        late = [it.lineno for it in parts if isinstance(it, ast.Name) and it.id in BUILT_IN]
+        tally.same(f"{name}: lines that Python 3.8 can't evaluate", late, [])
+
+
 tally = Tally()
 check_lines(tally)
 check_functions(tally)
+check_forms(tally)
 check_types(tally)
 tally.end()

@@ -6,7 +6,7 @@ from __future__ import annotations
 
 import random
 import re
-from typing import Iterator, List, Tuple
+from typing import Iterator
 
 from casefiles import header
 from runs import DEVICE, Bench, frame_of, run_parts, text_of_frames
@@ -21,13 +21,13 @@ CHECK, STEPS = [*PART, "flash", "next"], ["flash", "next"]
 NO_TEXTS = [""] * 4
 # a header for data of length 0
 EMPTY_HEADER = header(0, *NO_TEXTS)
-BAD_WORDS_OF_CHECKS: List[List[str]] = [
+BAD_WORDS_OF_CHECKS: list[list[str]] = [
     [], [*PART, "flash"], ["nowhere", "flash", "next"], [*PART, "nowhere", "next"], ["flash", "flash", "next"],
     ["--size", "x", *CHECK], ["--x7", "/nowhere", *CHECK], ["--none", *CHECK], ["--end", *CHECK],
     ["--end", "00020001", *CHECK], ["--end", "00010000", *CHECK], ["--end", "00060000", *CHECK],
     ["--end", "end", *CHECK],
 ]  # fmt: skip
-BAD_WORDS_OF_STEPS: List[List[str]] = [
+BAD_WORDS_OF_STEPS: list[list[str]] = [
     [], ["flash"], ["flash", "nowhere"], ["nowhere", "next"], [*STEPS, "next"], ["--page", *STEPS],
     ["--page", "x", *STEPS], ["--end", "00020001", *STEPS], ["--size", "327680", *STEPS],
     ["--start-unit", "2", *STEPS], ["--vendor", "--size", "327680", *STEPS], ["--vendor", *STEPS],
@@ -258,7 +258,7 @@ NAMES = [
 
 
 # Changes of an update's listing, and the checks that fail of what it then is.
-CHANGES: List[Tuple[str, str, str, List[str]]] = [
+CHANGES: list[tuple[str, str, str, list[str]]] = [
     ("another device", "data 0362D093", "data 0362C093", ["idcode", "boot", "frames"]),
     ("a clock of JTAG", "data 02003FE5", "data 02013FE5", ["clock"]),
     ("outputs stay off", "data 02003FE5", "data 02003FFD", ["boot"]),

@@ -4,7 +4,7 @@ boots."""
 from __future__ import annotations
 
 import random
-from typing import Dict, List, Optional, Sequence, Set, Tuple
+from typing import Sequence
 
 from runs import DEVICE, Bench, frame_of, run_parts, text_of_frames
 import x7formats as x7
@@ -20,7 +20,7 @@ NAMES = [
 ]  # fmt: skip
 
 
-def changed(bench: Bench, name: str, stream: str, changes: Dict[str, str]) -> None:
+def changed(bench: Bench, name: str, stream: str, changes: dict[str, str]) -> None:
     """Puts a stream with changes of its listing, its checks made anew."""
     lines = "\n".join(x7.listing_of(x7.stream_of(bench.get(stream)))).replace("write CRC 1\ndata ", "crc\n# ")
     for old, new in changes.items():
@@ -46,17 +46,17 @@ def put_flash(bench: Bench, golden: str, update: str, place: int = UPDATE, size:
     bench.put("flash", flash.ljust(size, b"\xff"))
 
 
-def said(bench: Bench, *words: str) -> Tuple[Optional[int], List[Tuple[str, str, str]]]:
+def said(bench: Bench, *words: str) -> tuple[int | None, list[tuple[str, str, str]]]:
     """The status of a call of `check_update`, and the kind, name and text of each line but the last."""
     came = bench.tool("check_update", *words)
     lines = [line.split(": ", 2) for line in came.out.decode().splitlines() if ": " in line]
     return came.status, [(kind, name, text) for kind, name, text in lines]
 
 
-def expect(bench: Bench, name: str, fails: Sequence[str], words: Sequence[str]) -> Dict[str, str]:
+def expect(bench: Bench, name: str, fails: Sequence[str], words: Sequence[str]) -> dict[str, str]:
     """The checks that fail are these; answers the notes by their names."""
     status, lines = said(bench, *words)
-    failing: Set[str] = {it for kind, it, _ in lines if kind == "fails"}
+    failing: set[str] = {it for kind, it, _ in lines if kind == "fails"}
     bench.tally.check(name, (status, failing) == (int(bool(fails)), set(fails)), str(lines))
     return {it: text for kind, it, text in lines if kind == "note"}
 
@@ -64,14 +64,14 @@ def expect(bench: Bench, name: str, fails: Sequence[str], words: Sequence[str]) 
 # ---- steps
 
 
-def steps_of(bench: Bench, *words: str) -> List[str]:
+def steps_of(bench: Bench, *words: str) -> list[str]:
     """The steps that flash_steps lists."""
     came = bench.tool("flash_steps", *words)
     bench.tally.check(f"flash_steps {' '.join(words)}", came.status == 0, came.err.decode())
     return [line for line in came.out.decode().splitlines() if not line.startswith("#")]
 
 
-def wanted_of(line: str, raw: bytes) -> Tuple[str, int, bytes]:
+def wanted_of(line: str, raw: bytes) -> tuple[str, int, bytes]:
     """The verb of a step, its place, and its bytes."""
     verb, place, count, *rest = line.split()
     if verb == "erase" or rest == ["erased"]:
@@ -99,7 +99,7 @@ def order(bench: Bench) -> None:
     the last program is the new one."""
     before, raw = bench.get("flash"), bench.get("next")
     sync = raw.index(x7.SYNC)
-    ways: List[List[str]] = [[], ["--vendor"], ["--bytes"], ["--page", "64"]]
+    ways: list[list[str]] = [[], ["--vendor"], ["--bytes"], ["--page", "64"]]
     for options in ways:
         flash, lines = bytearray(before), steps_of(bench, *options, "flash", "next")
         for number, line in enumerate(lines):

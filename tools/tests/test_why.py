@@ -10,7 +10,7 @@ import os
 import re
 import resource
 import tempfile
-from typing import List, NamedTuple, Sequence
+from typing import NamedTuple, Sequence
 
 from casefiles import Tally, header, put_file, text_of
 from calls import called, program, ran, shell_status
@@ -46,7 +46,7 @@ class Said(NamedTuple):
     """Streams, and what `why` says of them."""
 
     name: str
-    files: List[bytes]  # one after the other
+    files: list[bytes]  # one after the other
     pattern: str = GOOD  # what is said
 
 

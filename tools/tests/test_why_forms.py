@@ -6,7 +6,6 @@ from __future__ import annotations
 from casefiles import Tally, put_file
 import re
 import tempfile
-from typing import List
 
 from calls import called, program
 from damaged import Good
@@ -25,14 +24,14 @@ GOOD = Good(s.bit(FULL))
 SHORT, LONG, ARMED = 1, 0x00FFFFFF, 1 << 30
 
 
-def said(folder: str, options: List[str], *raws: bytes) -> "tuple[int, str]":
+def said(folder: str, options: list[str], *raws: bytes) -> tuple[int, str]:
     """The status of why of these files, after these options, and what it says."""
     paths = [put_file(folder, f"f{number}.bit", raw) for number, raw in enumerate(raws)]
     status, out, err = called("why", *options, *paths)
     return status, out.decode() + err
 
 
-def asked(name: str, came: "tuple[int, str]", status: int, pattern: str) -> None:
+def asked(name: str, came: tuple[int, str], status: int, pattern: str) -> None:
     """The status is this one, and what is said matches."""
     TALLY.check(name, came[0] == status and re.search(pattern, came[1]), f"status {came[0]}: {came[1][:400]!r}, "
                                                                          f"wanted {pattern!r}")
