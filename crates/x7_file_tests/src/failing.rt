@@ -29,6 +29,8 @@ enum Failing {
     Writing,
     /// Waiting until the bytes are kept.
     Keeping,
+    /// Every other call to read or to write, which a signal interrupts.
+    Interrupted,
 }
 
 /// The error of a call that fails.
@@ -43,6 +45,8 @@ struct Counts {
     opens: Cell<u64>,
     /// How many calls of the kind that fails there were.
     failures: Cell<u64>,
+    /// Whether the last call to read or to write was interrupted.
+    is_interrupted: Cell<bool>,
 }
 
 impl Counts {
@@ -51,6 +55,7 @@ impl Counts {
         Counts {
             opens: Cell::new(0),
             failures: Cell::new(0),
+            is_interrupted: Cell::new(false),
         }
     }
 
@@ -59,10 +64,22 @@ impl Counts {
         self.opens.set(self.opens.get().saturating_add(1));
     }
 
+    /// Counts a call that fails by an error of this kind; the error.
+    fn fail_by(&self, kind: ErrorKind) -> io::Error {
+        self.failures.set(self.failures.get().saturating_add(1));
+        io::Error::from(kind)
+    }
+
     /// Counts a call that fails; its error.
     fn fail(&self) -> io::Error {
-        self.failures.set(self.failures.get().saturating_add(1));
-        denied()
+        self.fail_by(ErrorKind::PermissionDenied)
+    }
+
+    /// Whether a call to read or to write is interrupted, as every other one is.
+    fn is_interrupted_now(&self) -> bool {
+        let is_interrupted = !self.is_interrupted.get();
+        self.is_interrupted.set(is_interrupted);
+        is_interrupted
     }
 
     /// Both counts: files to be opened, and calls that failed.
@@ -72,7 +89,7 @@ impl Counts {
 }
 
 /// The files of the system, of which a call fails. To open one so that it is made, cut or written at its end is
-/// refused.
+/// refused, and to cut an open one fails.
 #[derive(Drop)]
 struct FailingFiles<'r, R: Files> {
     rt: &'r R,
@@ -88,21 +105,34 @@ struct FailingFile<'r, F: Drop> {
     counts: &'r Counts,
 }
 
+impl<'r, F: Drop> FailingFile<'r, F> {
+    /// The error of a call that reads or writes, where it fails.
+    fn error_of(&self, call: Failing) -> Option<io::Error> {
+        if self.failing == call {
+            return Some(self.counts.fail());
+        }
+        if self.failing == Failing::Interrupted && self.counts.is_interrupted_now() {
+            return Some(self.counts.fail_by(ErrorKind::Interrupted));
+        }
+        None
+    }
+}
+
 impl<'r, F: Read + Drop> Read for FailingFile<'r, F> {
     fn read(&mut self, buf: &mut [u8]) -> io::Result<usize> {
-        if self.failing == Failing::Reading {
-            return Err(self.counts.fail());
+        match self.error_of(Failing::Reading) {
+            Some(error) => Err(error),
+            None => self.file.read(buf),
         }
-        self.file.read(buf)
     }
 }
 
 impl<'r, F: Write + Drop> Write for FailingFile<'r, F> {
     fn write(&mut self, buf: &[u8]) -> io::Result<usize> {
-        if self.failing == Failing::Writing {
-            return Err(self.counts.fail());
+        match self.error_of(Failing::Writing) {
+            Some(error) => Err(error),
+            None => self.file.write(buf),
         }
-        self.file.write(buf)
     }
 
     fn flush(&mut self) -> io::Result<()> {
@@ -124,8 +154,8 @@ impl<'r, F: OpenFile + Drop> OpenFile for FailingFile<'r, F> {
         self.file.metadata()
     }
 
-    fn set_len(&self, size: u64) -> io::Result<()> {
-        self.file.set_len(size)
+    fn set_len(&self, _size: u64) -> io::Result<()> {
+        Err(self.counts.fail())
     }
 
     fn sync_all(&self) -> io::Result<()> {
@@ -295,7 +325,8 @@ fn outcome_where(rt: &HostRuntime, failing: Failing) -> Option<Outcome> {
 #[test]
 fn a_write_of_a_file_fails_where_a_call_fails(rt: HostRuntime) {
     // the call, how often the file is opened and how many calls fail, whether the erase and the program succeed, the
-    // file's first bytes then, and whether they are read: no call that failed is made again
+    // file's first bytes then, and whether they are read: no call that failed is made again, but for a read or a write
+    // that a signal interrupted
     let cases = [
         (Failing::Nothing, (1, 0), true, true, [0xFF, 0x0F], true),
         (Failing::Opening, (2, 1), false, false, [0x3C, 0x3C], true),
@@ -303,6 +334,7 @@ fn a_write_of_a_file_fails_where_a_call_fails(rt: HostRuntime) {
         (Failing::Placing, (1, 3), false, false, [0x3C, 0x3C], false),
         (Failing::Writing, (1, 2), false, false, [0x3C, 0x3C], true),
         (Failing::Keeping, (1, 2), false, false, [0xFF, 0x0F], true),
+        (Failing::Interrupted, (1, 4), true, true, [0xFF, 0x0F], true),
     ];
     for (failing, counts, erased, programmed, first, is_read) in cases {
         let answers = (erased, programmed, is_read.then_some(first));
@@ -348,4 +380,11 @@ fn a_select_opens_one_file_once_for_reading(rt: HostRuntime) {
 #[test]
 fn a_read_that_failed_is_not_made_again(rt: HostRuntime) {
     assert!(rt; opens_of_an_input(&rt, Failing::Reading, "unread") == Some(((1, 1), None)));
+}
+
+#[test]
+fn a_read_of_an_input_that_is_interrupted_failed(rt: HostRuntime) {
+    assert!(rt;
+        opens_of_an_input(&rt, Failing::Interrupted, "interrupted") == Some(((1, 1), None))
+    );
 }

@@ -320,6 +320,7 @@ fn writers_are_sinks(rt: HostRuntime) {
         (5, None, Ok(())),
         (4, None, Err(Failed)),
         (4, Some(ErrorKind::BrokenPipe), Err(Failed)),
+        (4, Some(ErrorKind::Interrupted), Err(Failed)),
     ];
     for (left, then, answer) in cases {
         assert!(rt; answers(Narrow { left, then }) == (answer, Ok(0)));

@@ -1,16 +1,19 @@
 -- Lemmas on a file as a flash: what it counts is what a caller of any flash may know.
-use Rattle.std.proofs.Common.{◌≡◌, ◌≤◌, ℕ, ◌+◌, List, [], ◌∷◌, ◌++◌, length, subst, true, false, Option, None, Some, Result, Ok, Err, OnOk, OnErr, IfErr, is_some, refl, sym, ap, ◌∙◌, arith}
+use Rattle.std.proofs.Common.{◌≡◌, ◌≤◌, ℕ, ◌+◌, List, [], ◌∷◌, ◌++◌, length, subst, true, false, Option, None, Some, Result, Ok, Err, OnOk, OnErr, IfErr, is_some, bit_and, inr, refl, sym, ap, ◌∙◌, arith}
 use Rattle.std.proofs.lemmas.List.{append-nil, length-append}
 use Rattle.std.proofs.lemmas.List.Folds.{concat-append}
 use Rattle.std.specs.List.{concat}
 use Rattle.x7_words.specs.Count.{HasRisen, raised}
-use Rattle.x7_words.specs.Flash.{OnlyReads, OnlyWrites, FlashRefuses, names_asked}
+use Rattle.x7_words.specs.Flash.{OnlyReads, OnlyWrites, FlashRefuses, erased_sector, names_asked, zip_with}
 use Rattle.x7_words.proofs.CountLemmas.{raised_risen}
 use Rattle.x7_words.specs.FlashHistory.{CallsFor, NoFlashFault, attach_call}
 use Rattle.x7_words.specs.declared.flash_call.FlashCall.{FlashCall}
 use Rattle.x7_words.specs.declared.flash_call.FlashCall.TheVariants.{Read, ReadFailed}
 use Rattle.x7_ghost.specs.Answered.{read_call}
-use Rattle.x7_files.specs.Flash.{ClearsBits, ClearsAt, ClearsPieces, IsExtent, RealFlash, KnowsOfFile, after_attach, known_flash}
+use Rattle.x7_files.specs.File.{KnowsOfFile, ReadsAt, WritesAt, WritesFrom}
+use Rattle.x7_files.specs.Flash.{ClearsAt, ClearsBits, ClearsFrom, ClearsPieces, ErasesFrom, IsExtent, ProgramsFrom, RealFlash, after_attach, known_flash}
+use Rattle.x7_files.specs.FileCalls.{keep_answered}
+use Rattle.x7_files.specs.declared.file.CalledFile.{CalledFile}
 use Rattle.x7_words.specs.declared.input.Failed.{Failed as FailedCall}
 use Rattle.x7_words.specs.declared.input.SelectFault.{SelectFault}
 use Rattle.x7_words.specs.declared.input.SelectFault.TheVariants.{Missing, Failed}
@@ -18,12 +21,12 @@ use Rattle.x7_words.specs.declared.input.SelectFault.TheVariants.{Missing, Faile
 -- ---- an attach
 
 -- a file whose end was sought is open
-open_extent : {F : Type 0} → (t : KnowsOfFile F) (extent : ℕ) (file : Option F) → IsExtent t extent file → is_some file ≡ true
+open_extent : {F : Type 0} → (t : KnowsOfFile F) (extent : ℕ) (file : Option (CalledFile F)) → IsExtent t extent file → is_some file ≡ true
 open_extent t extent None e = absurd e
 open_extent t extent (Some file) e = refl
 
 -- an attach that is Ok attaches
-pub attached_ok : {F : Type 0} → (t : KnowsOfFile F) (extent : ℕ) (file : Option F) (answer : Result (Unit {0}) SelectFault) → OnOk answer (IsExtent t extent file) → OnOk answer (is_some file ≡ true)
+pub attached_ok : {F : Type 0} → (t : KnowsOfFile F) (extent : ℕ) (file : Option (CalledFile F)) (answer : Result (Unit {0}) SelectFault) → OnOk answer (IsExtent t extent file) → OnOk answer (is_some file ≡ true)
 attached_ok t extent file (Ok _) e = open_extent t extent file e
 attached_ok t extent file (Err fault) e = tt
 
@@ -106,13 +109,8 @@ only_reads old new calls answer was is o e rises names = record {
 
 -- ---- a write
 
--- what holds whatever the answer is
-pub on_ok : {A E P : Type 0} → (answer : Result A E) → P → OnOk answer P
-on_ok (Ok _) p = p
-on_ok (Err _) p = tt
-
 -- a piece more is cleared
-pieces_more : {F : Type 0} → (reads writes : KnowsOfFile F) (place : ℕ) (pieces : List (List ℕ)) (piece : List ℕ) (old between new : F) → ClearsPieces reads writes place pieces old between
+pieces_more : {F : Type 0} → (reads writes : KnowsOfFile F) (place : ℕ) (pieces : List (List ℕ)) (piece : List ℕ) (old between new : CalledFile F) → ClearsPieces reads writes place pieces old between
     → ClearsAt reads writes (place + length (concat pieces)) piece between new → ClearsPieces reads writes place (pieces ++ piece ∷ []) old new
 pieces_more {F} reads writes place [] piece old between new same one =
     let here : place + 0 ≡ place = omega arith in
@@ -121,13 +119,31 @@ pieces_more {F} reads writes place (first ∷ pieces) piece old between new (the
     let there : place + length (first ++ concat pieces) ≡ place + length first + length (concat pieces) = omega (arith, length-append first (concat pieces)) in
     (then, cleared, pieces_more reads writes (place + length first) pieces piece then between new others (subst (λ at. ClearsAt reads writes at piece between new) there one))
 
-pub clears_more : {F : Type 0} → (reads writes : KnowsOfFile F) (place at : ℕ) (prefix piece given : List ℕ) (old between new : F) → ClearsBits reads writes place prefix old between → at ≡ place + length prefix → ClearsAt reads writes at piece between new
+pub clears_more : {F : Type 0} → (reads writes : KnowsOfFile F) (place at : ℕ) (prefix piece given : List ℕ) (old between new : CalledFile F) → ClearsBits reads writes place prefix old between → at ≡ place + length prefix → ClearsAt reads writes at piece between new
     → given ≡ prefix ++ piece → ClearsBits reads writes place given old new
 clears_more {F} reads writes place at prefix piece given old between new c is one both = record {
   pieces = c.pieces ++ piece ∷ [];
   are = concat-append c.pieces (piece ∷ []) ∙ ap (λ s. concat c.pieces ++ s) (append-nil piece) ∙ ap (λ s. s ++ piece) c.are ∙ sym both;
   each = pieces_more reads writes place c.pieces piece old between new c.each (subst (λ n. ClearsAt reads writes n piece between new) (is ∙ ap (λ s. place + length s) (sym c.are)) one);
 }
+
+-- the sector was written, and the wait for the disk is the last call
+pub erased_by : {F : Type 0} → (t : KnowsOfFile F) (place : ℕ) (old done new : CalledFile F) (answer : Result (Unit {0}) FailedCall) → WritesAt t place erased_sector old done
+    → new ≡ record done { calls = done.calls ++ keep_answered answer ∷ [] } → ErasesFrom t place answer old new
+erased_by t place old done new (Ok _) w e = record { done = done; asked = w; called = e }
+erased_by t place old done new (Err _) w e = inr (record { done = done; asked = w; called = e })
+
+-- the bits were cleared, and the wait for the disk is the last call
+pub programmed_by : {F : Type 0} → (reads writes : KnowsOfFile F) (place : ℕ) (given : List ℕ) (old done new : CalledFile F) (answer : Result (Unit {0}) FailedCall) → ClearsBits reads writes place given old done
+    → new ≡ record done { calls = done.calls ++ keep_answered answer ∷ [] } → ProgramsFrom reads writes place given answer old new
+programmed_by reads writes place given old done new (Ok _) c e = record { done = done; asked = c; called = e }
+programmed_by reads writes place given old done new (Err _) c e = inr (record { done = done; asked = c; called = e })
+
+-- a piece was read, and written back
+pub cleared_by : {F : Type 0} → (reads writes : KnowsOfFile F) (place : ℕ) (given before : List ℕ) (old between new : CalledFile F) (answer : Result (Unit {0}) FailedCall) → length before ≡ length given
+    → ReadsAt reads place before old between → WritesFrom writes place (zip_with bit_and before given) answer between new → ClearsFrom reads writes place given answer old new
+cleared_by reads writes place given before old between new (Ok _) l r w = record { before = before; between = between; length = l; read = r; written = w }
+cleared_by reads writes place given before old between new (Err _) l r w = inr (record { before = before; between = between; length = l; read = r; stops = w })
 
 -- a write that fails counts a fault of writes
 pub failed_write : {F : Type 0} → (old new : RealFlash F) (file : Option F) (calls : List FlashCall) (answer : Result (Unit {0}) FailedCall) → OnErr answer (new ≡ record old { file = file; write_faults = raised old.write_faults; calls = calls }) → OnErr answer (HasRisen old.write_faults new.write_faults)

@@ -9,7 +9,7 @@ use Rattle.x7_words.specs.Input.{AsksForName, AsksForNoInput, AtEnd, InputsStay,
 use Rattle.x7_words.proofs.ListLemmas.{same_by_test}
 use Rattle.x7_words.proofs.CountLemmas.{raised_risen}
 use Rattle.x7_files.specs.Agreement.{NamedBytes, ends_rightly, gives_rightly}
-use Rattle.x7_files.specs.Inputs.{CountsFaults, Opening, RealInputs, after_failed_read, after_read, after_select, known_if, known_inputs, left_if}
+use Rattle.x7_files.specs.Inputs.{CountsFaults, Opening, FailsToRead, RealInputs, after_read, after_select, known_if, known_inputs, left_if}
 use Rattle.x7_words.specs.declared.input.Failed.{Failed as FailedRead}
 use Rattle.x7_words.specs.declared.input.SelectFault.{SelectFault}
 use Rattle.x7_words.specs.declared.input.SelectFault.TheVariants.{Missing, Failed}
@@ -85,9 +85,9 @@ opened_stays map old new name opening answer e c = record { map = subst (λ (f :
     by (Err fault) = same map old.agreement.agrees
 
 -- a read that fails counts a fault, selects nothing, gives nothing and reads no end
-pub failed_read : (map : NamedBytes) (old new : RealInputs) (answer : Result ℕ FailedRead) → OnErr answer (new ≡ after_failed_read old) → OnErr answer (ReadFails (known_inputs map old) (known_inputs map new))
+pub failed_read : (map : NamedBytes) (old new : RealInputs) (answer : Result ℕ FailedRead) → OnErr answer (FailsToRead old new) → OnErr answer (ReadFails (known_inputs map old) (known_inputs map new))
 failed_read map old new (Ok _) e = tt
-failed_read map old new (Err _) e = record {
+failed_read map old new (Err _) (kind, e) = record {
   faults = raised_risen old.faults new.faults (ap (λ f. f.faults) e);
   selected = ap (λ f. f.selected) e;
   given = let same : new.given ≡ old.given = ap (λ f. f.given) e in omega arith;
@@ -121,13 +121,13 @@ read_end map old new buf size (Err _) l e = tt
 
 -- a map that agrees after a read agreed before it, and the name last asked for stays
 pub read_stays : (map : NamedBytes) (old new : RealInputs) (buf : List ℕ) (answer : Result ℕ FailedRead) → IfOk answer (λ n. new ≡ after_read old new.rest buf n)
-    → OnErr answer (new ≡ after_failed_read old) → CountsFaults old new → InputsStay (known_inputs map old) (known_inputs map new)
+    → OnErr answer (FailsToRead old new) → CountsFaults old new → InputsStay (known_inputs map old) (known_inputs map new)
 read_stays map old new buf (Ok n) o e c = record {
   map = subst (λ (f : RealInputs). StillKnown (known_if old.agreement.agrees map) (known_if f.agreement.agrees map)) (sym o) (kept map old.agreement.agrees (gives_rightly old.agreement.left (take n buf) (length buf)));
   faults = c.faults.never_falls;
   absences = c.absences.never_falls;
 }
-read_stays map old new buf (Err _) o e c = record {
+read_stays map old new buf (Err _) o (kind, e) c = record {
   map = subst (λ (f : RealInputs). StillKnown (known_if old.agreement.agrees map) (known_if f.agreement.agrees map)) (sym e) (same map old.agreement.agrees);
   faults = c.faults.never_falls;
   absences = c.absences.never_falls;
@@ -135,9 +135,9 @@ read_stays map old new buf (Err _) o e c = record {
 
 -- a read asks for no input
 pub read_asks : (map : NamedBytes) (old new : RealInputs) (buf : List ℕ) (answer : Result ℕ FailedRead) → IfOk answer (λ n. new ≡ after_read old new.rest buf n)
-    → OnErr answer (new ≡ after_failed_read old) → new.ends ≤ old.ends + 1 → AsksForNoInput (known_inputs map old) (known_inputs map new)
+    → OnErr answer (FailsToRead old new) → new.ends ≤ old.ends + 1 → AsksForNoInput (known_inputs map old) (known_inputs map new)
 read_asks map old new buf (Ok _) o e n = record { asked = ap (λ f. f.agreement.asked) o; selects = ap (λ f. f.selects) o; ends = n }
-read_asks map old new buf (Err _) o e n = record { asked = ap (λ f. f.agreement.asked) e; selects = ap (λ f. f.selects) e; ends = n }
+read_asks map old new buf (Err _) o (kind, e) n = record { asked = ap (λ f. f.agreement.asked) e; selects = ap (λ f. f.selects) e; ends = n }
 
 -- a read that gives something reads no end
 pub read_no_end : (map : NamedBytes) (old new : RealInputs) (buf : List ℕ) (answer : Result ℕ FailedRead) → IfOk answer (λ n. new ≡ after_read old new.rest buf n) → IfOk answer (λ n. 0 < n → new.ends ≤ old.ends)

@@ -1,16 +1,19 @@
 -- A file of the system as a flash, and what is known of it (this project's choice).
-use Rattle.std.specs.Prelude.{◌≡◌, ◌+◌, ℕ, true, false, List, [], ◌∷◌, ◌++◌, length, bit_and, Option, None, Some, IfSome, is_some, Result, Ok, Err, OnOk, OnErr}
+use Rattle.std.specs.Prelude.{◌≡◌, ◌+◌, ◌⊎◌, ℕ, true, false, List, [], ◌∷◌, ◌++◌, length, bit_and, Option, None, Some, IfSome, is_some, Result, Ok, Err, OnOk, OnErr}
 use Rattle.std.specs.Fs.{asks_append, asks_create, asks_create_new, asks_read, asks_truncate, asks_write}
-use Rattle.std.specs.Io.KnownBytes.{Appends, Consumes, Keeps}
+use Rattle.std.specs.Io.KnownBytes.{Keeps}
 use Rattle.std.specs.List.{concat}
 use Rattle.std.specs.declared.fs.options.OpenOptions.{OpenOptions}
 use Rattle.std.specs.declared.io.ErrorKind.{ErrorKind}
 use Rattle.x7_words.specs.Count.{IsLaterCount, raised}
-use Rattle.x7_words.specs.Flash.{FlashState, zip_with}
+use Rattle.x7_words.specs.Flash.{FlashState, erased_sector, zip_with}
 use Rattle.x7_words.specs.declared.flash_call.FlashCall.{FlashCall}
 use Rattle.x7_words.specs.declared.flash_call.FlashCall.TheVariants.{Attached, NotAttached}
 use Rattle.x7_words.specs.declared.input.Failed.{Failed as FailedCall}
 use Rattle.x7_words.specs.declared.input.SelectFault.{SelectFault}
+use Rattle.x7_files.specs.File.{DoneAndCalled, KnowsOfFile, ReadStopsAt, ReadsAt, WhileOpen, WriteStopsAt, WritesAt}
+use Rattle.x7_files.specs.declared.file.CalledFile.{CalledFile}
+use Rattle.x7_files.specs.declared.file_call.FileCall.TheVariants.{Kept, KeepFailed}
 use Rattle.x7_files.specs.Refusal.{absences_after, faults_after}
 
 -- Options that ask to read and to write a file, and for nothing else: a file that is opened with them keeps its bytes,
@@ -23,66 +26,74 @@ pub record AsksReadAndWriteAlone (options : OpenOptions) : Type 0 where
   pub create : asks_create options ≡ false
   pub create_new : asks_create_new options ≡ false
 
--- what is known of a file of this type
-pub record KnowsOfFile (F : Type 0) : Type 0 where
-  -- the place, in bytes, at which the next read or write begins
-  pub position : F → Option ℕ
-  -- bytes of the file: those that reads will give, or those that were written, or all
-  pub bytes : F → Option (List ℕ)
+-- the end of an opened file was found at place `extent`: the number of the file's bytes, as far as the file knows its
+-- place and its bytes; they stay
+abbrev pub EndsAt : {F : Type 0} → KnowsOfFile F → ℕ → F → F → Type 0
+EndsAt t extent opened file =
+    IfSome (t.position opened) (λ _. IfSome (t.bytes opened) (λ all. extent ≡ length all)) × Keeps (t.bytes opened) (t.bytes file)
 
--- what a file tells of its place, and of its bytes
-abbrev pub file_tells : {F : Type 0} → (F → Option ℕ) → (F → Option (List ℕ)) → KnowsOfFile F
-file_tells position bytes = record { position = position; bytes = bytes }
+-- a file was opened, and its end was found at place `extent`; the calls that are made of it begin with none
+abbrev pub IsExtent : {F : Type 0} → KnowsOfFile F → ℕ → Option (CalledFile F) → Type 0
+IsExtent t extent None = ⊥
+IsExtent {F} t extent (Some file) = ((opened : F) × EndsAt t extent opened file.file) × (file.calls ≡ [])
 
-module _ {F : Type 0} (t : KnowsOfFile F) where
-  -- a file went to the place, if it knows where it is
-  abbrev pub StandsAt : ℕ → F → F → Type 0
-  StandsAt place old there = IfSome (t.position old) (λ _. t.position there ≡ Some place)
-
-  -- A file was read from the place on, and gave these bytes: as far as the file knows its place and what is left of it.
-  abbrev pub ReadsAt : ℕ → List ℕ → F → F → Type 0
-  ReadsAt place bytes old new = (there : F) × StandsAt place old there × Consumes (t.bytes there) (t.bytes new) bytes
-
-  -- A file was written from the place on with these bytes: as far as the file knows its place and what it was given.
-  abbrev pub WritesAt : ℕ → List ℕ → F → F → Type 0
-  WritesAt place bytes old new = (there : F) × StandsAt place old there × Appends (t.bytes there) (t.bytes new) bytes
-
-  -- the end of an opened file was found at place `extent`: the number of the file's bytes, as far as the file knows its
-  -- place and its bytes; they stay
-  abbrev pub EndsAt : ℕ → F → F → Type 0
-  EndsAt extent opened file =
-      IfSome (t.position opened) (λ _. IfSome (t.bytes opened) (λ all. extent ≡ length all)) × Keeps (t.bytes opened) (t.bytes file)
-
-  -- a file was opened, and its end was found at place `extent`
-  abbrev pub IsExtent : ℕ → Option F → Type 0
-  IsExtent extent None = ⊥
-  IsExtent extent (Some file) = (opened : F) × EndsAt extent opened file
+-- What an erase does by its answer. Ok: it wrote FF over the sector, and the disk has that. Else it stopped within the
+-- write, or at the wait for the disk.
+abbrev pub ErasesFrom : {F : Type 0} → KnowsOfFile F → ℕ → Result (Unit {0}) FailedCall → CalledFile F → CalledFile F → Type 0
+ErasesFrom t place (Ok _) old new = DoneAndCalled (WritesAt t place erased_sector) Kept old new
+ErasesFrom t place (Err _) old new =
+    WriteStopsAt t place erased_sector old new ⊎ DoneAndCalled (WritesAt t place erased_sector) KeepFailed old new
 
 module _ {F : Type 0} (reads writes : KnowsOfFile F) where
   -- the bytes from the place on were read, and then each of them AND the given one was written there
-  pub record ClearsAt (place : ℕ) (given : List ℕ) (old new : F) : Type 0 where
+  pub record ClearsAt (place : ℕ) (given : List ℕ) (old new : CalledFile F) : Type 0 where
     pub before : List ℕ
-    pub between : F
+    pub between : CalledFile F
     pub length : length before ≡ length given
     pub read : ReadsAt reads place before old between
     pub written : WritesAt writes place (zip_with bit_and before given) between new
 
+  -- the bytes from the place on were read, and the write of each of them AND the given one failed
+  pub record StopsAfterRead (place : ℕ) (given : List ℕ) (old new : CalledFile F) : Type 0 where
+    pub before : List ℕ
+    pub between : CalledFile F
+    pub length : length before ≡ length given
+    pub read : ReadsAt reads place before old between
+    pub stops : WriteStopsAt writes place (zip_with bit_and before given) between new
+
+  -- what is done to the bytes from the place on, by the answer
+  abbrev pub ClearsFrom : ℕ → List ℕ → Result (Unit {0}) FailedCall → CalledFile F → CalledFile F → Type 0
+  ClearsFrom place given (Ok _) old new = ClearsAt place given old new
+  ClearsFrom place given (Err _) old new = ReadStopsAt reads place (length given) old new ⊎ StopsAfterRead place given old new
+
   -- the pieces were cleared as `ClearsAt` says, one after the other, the first of them at the place
-  abbrev pub ClearsPieces : ℕ → List (List ℕ) → F → F → Type 0
+  abbrev pub ClearsPieces : ℕ → List (List ℕ) → CalledFile F → CalledFile F → Type 0
   ClearsPieces place [] old new = new ≡ old
   ClearsPieces place (piece ∷ pieces) old new =
-      (between : F) × ClearsAt place piece old between × ClearsPieces (place + length piece) pieces between new
+      (between : CalledFile F) × ClearsAt place piece old between × ClearsPieces (place + length piece) pieces between new
 
   -- each byte from the place on was made the old one AND the given one, in pieces
-  pub record ClearsBits (place : ℕ) (given : List ℕ) (old new : F) : Type 0 where
+  pub record ClearsBits (place : ℕ) (given : List ℕ) (old new : CalledFile F) : Type 0 where
     pub pieces : List (List ℕ)
     pub are : concat pieces ≡ given
     pub each : ClearsPieces place pieces old new
 
--- a file was open before and is open after, and `holds` of these two states
-abbrev pub WhileOpen : {F : Type 0} → (F → F → Type 0) → Option F → Option F → Type 0
-WhileOpen holds (Some old) (Some new) = holds old new
-WhileOpen holds old new = ⊥
+  -- the first of the given bytes were cleared, and the piece after these failed
+  pub record ClearingStops (place : ℕ) (given : List ℕ) (old new : CalledFile F) : Type 0 where
+    pub front : List ℕ
+    pub piece : List ℕ
+    pub back : List ℕ
+    pub are : given ≡ front ++ piece ++ back
+    pub between : CalledFile F
+    pub cleared : ClearsBits place front old between
+    pub stops : ClearsFrom (place + length front) piece (Err (record {})) between new
+
+  -- What a program does by its answer. Ok: it cleared the bits, and the disk has that. Else it stopped within a piece,
+  -- or at the wait for the disk.
+  abbrev pub ProgramsFrom : ℕ → List ℕ → Result (Unit {0}) FailedCall → CalledFile F → CalledFile F → Type 0
+  ProgramsFrom place given (Ok _) old new = DoneAndCalled (ClearsBits place given) Kept old new
+  ProgramsFrom place given (Err _) old new =
+      ClearingStops place given old new ⊎ DoneAndCalled (ClearsBits place given) KeepFailed old new
 
 -- a file as a flash; each count stops at 2^64 - 1
 pub record RealFlash (F : Type 0) : Type 0 where
@@ -132,10 +143,10 @@ after_attach old name (Err fault) new =
       calls = old.calls ++ NotAttached name fault ∷ [];
     }
 
--- A write of the attached file was tried, which is one call, and left it open: where the answer is Ok what was asked of
--- the file was done, else a fault of writes is counted.
-pub record TriesWrite {F : Type 0} (asked : F → F → Type 0) (call : Result (Unit {0}) FailedCall → FlashCall) (old : RealFlash F) (answer : Result (Unit {0}) FailedCall) (new : RealFlash F) : Type 0 where
-  pub written : OnOk answer (WhileOpen asked old.file new.file)
+-- A write of the attached file was tried, which is one call, and left it open. What it did is as was asked, by the
+-- answer; where that isn't Ok a fault of writes is counted.
+pub record TriesWrite {F : Type 0} (asked : Result (Unit {0}) FailedCall → F → F → Type 0) (call : Result (Unit {0}) FailedCall → FlashCall) (old : RealFlash F) (answer : Result (Unit {0}) FailedCall) (new : RealFlash F) : Type 0 where
+  pub written : WhileOpen (asked answer) old.file new.file
   pub is_open : is_some new.file ≡ true
   pub no_fault : OnOk answer (new ≡ record old { file = new.file; calls = old.calls ++ call answer ∷ [] })
   pub failed : OnErr answer (new ≡ record old { file = new.file; write_faults = raised old.write_faults; calls = old.calls ++ call answer ∷ [] })

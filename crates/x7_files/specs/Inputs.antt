@@ -1,5 +1,5 @@
 -- Files of the system as inputs, and what is known of them (this project's choice).
-use Rattle.std.specs.Prelude.{◌≡◌, ◌<◌, ℕ, Bool, true, false, List, length, take, Option, None, Some, Result, Ok, Err}
+use Rattle.std.specs.Prelude.{◌≡◌, ◌<◌, ℕ, Bool, true, false, List, [], ◌∷◌, ◌++◌, length, take, Option, None, Some, Result, Ok, Err}
 use Rattle.std.specs.Io.KnownBytes.{Consumes, IsAtEnd}
 use Rattle.std.specs.declared.io.ErrorKind.{ErrorKind}
 use Rattle.x7_words.specs.Count.{IsLaterCount, added, ends_counted, raised}
@@ -8,6 +8,8 @@ use Rattle.x7_words.specs.declared.input.SelectFault.{SelectFault}
 use Rattle.x7_files.specs.Agreement.{NamedBytes, with_fault, with_open, with_read, with_refusal}
 use Rattle.x7_files.specs.Refusal.{absences_after, faults_after}
 use Rattle.x7_files.specs.declared.agreement.Agreement.{Agreement}
+use Rattle.x7_files.specs.declared.file_call.FileCall.{FileCall}
+use Rattle.x7_files.specs.declared.file_call.FileCall.TheVariants.{Gave, ReadFailed}
 
 -- files as inputs; each count stops at 2^64 - 1
 pub record RealInputs : Type 0 where
@@ -19,6 +21,8 @@ pub record RealInputs : Type 0 where
   pub rest : Option (List ℕ)
   -- why the last select opened no file
   pub refusal : Option ErrorKind
+  -- the reads that were made of files with their answers, the newest last
+  pub calls : List FileCall
   -- how many selects there were
   pub selects : ℕ
   -- how many reads gave nothing
@@ -100,13 +104,31 @@ after_select map f name opening (Err fault) =
       absences = absences_after fault f.absences;
     }
 
--- the files after a read that put n bytes at the start of the buffer
+-- the files after one read, which put n bytes at the start of the buffer
 abbrev pub after_read : RealInputs → Option (List ℕ) → List ℕ → ℕ → RealInputs
-after_read f rest buf n = record f { agreement = with_read (take n buf) (length buf) f.agreement; rest = rest; ends = ends_counted n f.ends; given = added f.given n }
+after_read f rest buf n =
+    record f {
+      agreement = with_read (take n buf) (length buf) f.agreement;
+      rest = rest;
+      calls = f.calls ++ Gave (take n buf) ∷ [];
+      ends = ends_counted n f.ends;
+      given = added f.given n;
+    }
 
--- the files after a read that failed: no file is open
-abbrev pub after_failed_read : RealInputs → RealInputs
-after_failed_read f = record f { agreement = with_fault f.agreement; selected = false; rest = None; faults = raised f.faults }
+-- the files after a read that failed by an error of this kind: no file is open
+abbrev pub after_failed_read : RealInputs → ErrorKind → RealInputs
+after_failed_read f kind =
+    record f {
+      agreement = with_fault f.agreement;
+      selected = false;
+      rest = None;
+      calls = f.calls ++ ReadFailed kind ∷ [];
+      faults = raised f.faults;
+    }
+
+-- one read was made, and failed
+abbrev pub FailsToRead : RealInputs → RealInputs → Type 0
+FailsToRead old new = (kind : ErrorKind) × (new ≡ after_failed_read old kind)
 
 -- a read put n bytes at the start of the buffer and took them from the file, as far as its reader knows its bytes; it
 -- gave none only at the end, or where the buffer is empty

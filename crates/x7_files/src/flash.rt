@@ -1,12 +1,15 @@
 //! A file as a flash.
 ghost use Rattle.std.specs.Prelude.{◌≡◌, ◌+◌, ◌<◌, ◌≤◌, ◌^◌, [], ◌∷◌, ◌++◌, length, bit_and, is_some, None, Some, true, IfErr, IfOk, OnOk, OnErr};
-ghost use Rattle.std.specs.Io.Seek.{MovesTo};
 ghost use Rattle.x7_words.specs.Count.{IsLaterCount, raised};
-ghost use Rattle.x7_files.specs.Flash.{after_attach, file_tells, known_flash, AsksReadAndWriteAlone, ClearsBits, ClearsAt, EndsAt, IsExtent, ReadsAt, TriesWrite, WhileOpen, WritesAt};
+ghost use Rattle.x7_files.specs.FileCalls.{keep_answered};
+ghost use Rattle.x7_files.specs.File.{file_tells, ReadsFrom, WhileOpen};
+ghost use Rattle.x7_files.specs.Flash.{after_attach, known_flash, AsksReadAndWriteAlone, ClearsFrom, EndsAt, ErasesFrom, IsExtent, ProgramsFrom, TriesWrite};
 ghost use Rattle.x7_files.specs.Refusal.{RefusedFor};
 ghost use Rattle.x7_ghost.specs.Answered.{erase_call, program_call, read_call};
-ghost use Rattle.x7_words.specs.Flash.{erased_sector, sector_size, sector_place, zip_with};
+ghost use Rattle.x7_words.specs.Flash.{sector_size, sector_place, zip_with};
 
+use crate::file::{CalledFile, read_from, write_from};
+use crate::file_call::{keep_once, no_calls};
 use crate::refusal::count_refusal;
 use std::fs::{self, OpenFile, OpenOptions};
 use std::io::{self, ErrorKind, Read, Seek, SeekFrom, Write};
@@ -23,23 +26,6 @@ fn extent_of<F: OpenFile + Seek>(file: &mut F) -> io::Result<u64>
         return Err(io::Error::from(ErrorKind::IsADirectory));
     }
     file.seek(SeekFrom::End(0))
-}
-
-/// Goes to the place in a file.
-fn go_to<F: Seek>(file: &mut F, place: u64) -> io::Result<()>
-    ensures { MovesTo (F.stream_position file.old) (F.stream_position file.new) place result }
-{
-    file.seek(SeekFrom::Start(place))?;
-    Ok(())
-}
-
-/// Fills the buffer with a file's bytes from the place on.
-fn read_from<F: Read + Seek>(file: &mut F, place: u64, buf: &mut [u8]) -> io::Result<()>
-    ensures length { length buf.new ≡ length buf.old }
-    ensures read { OnOk result (ReadsAt (file_tells F.stream_position F.remaining) place buf.new file.old file.new) }
-{
-    go_to(file, place)?;
-    file.read_exact(buf)
 }
 
 /// The most bytes that programming a flash reads and writes at once.
@@ -66,29 +52,38 @@ fn open_flash<R: Files>(rt: &R, options: &OpenOptions, name: &str) -> io::Result
 }
 
 /// Opens a file as a flash, and says the number of its bytes.
-fn open_sized<R: Files>(rt: &R, name: &str) -> io::Result<(R::File, u64)>
+fn open_sized<R: Files>(rt: &R, name: &str) -> io::Result<(CalledFile<R::File>, u64)>
     ensures { IfOk result (λ opened. IsExtent (file_tells R.File.stream_position R.File.stream_bytes) opened.1 (Some opened.0)) }
 {
     let mut file = open_flash(rt, &flash_options(), name)?;
     let extent = extent_of(&mut file)?;
-    Ok((file, extent))
+    let called = CalledFile {
+        file,
+        calls: no_calls(),
+    };
+    Ok((called, extent))
 }
 
-/// Writes bytes from the place on.
-fn write_from<F: Write + Seek>(file: &mut F, place: u64, bytes: &[u8]) -> io::Result<()>
-    ensures { OnOk result (WritesAt (file_tells F.stream_position F.contents) place bytes.now file.old file.new) }
+/// Waits until the disk has what was written to a file.
+fn keep<F: OpenFile + Drop>(file: &mut CalledFile<F>) -> Result<(), Failed>
+    ensures { file.new ≡ record file.old { calls = file.old.calls ++ keep_answered result ∷ [] } }
 {
-    go_to(file, place)?;
-    file.write_all(bytes)
+    keep_once(&file.file, &mut file.calls)
 }
 
 /// Makes the bytes of a sector from the place on FF, and waits until they are kept.
-fn erase_from<F: Write + Seek + OpenFile>(file: &mut F, place: u64) -> io::Result<()>
-    ensures { OnOk result (WritesAt (file_tells F.stream_position F.contents) place erased_sector file.old file.new) }
+fn erase_from<F: Write + Seek + OpenFile + Drop>(
+    file: &mut CalledFile<F>,
+    place: u64,
+) -> Result<(), Failed>
+    ensures { ErasesFrom (file_tells F.stream_position F.contents) place result file.old file.new }
 {
     let ones = [ERASED_BYTE; SECTOR_SIZE as usize];
-    write_from(file, place, &ones)?;
-    file.sync_data()
+    match write_from(file, place, &ones) {
+        Ok(()) => {}
+        Err(Failed) => return Err(Failed),
+    }
+    keep(file)
 }
 
 /// Makes each byte of `bytes` the old one AND the given one at the same place.
@@ -102,35 +97,44 @@ fn clear_bits(bytes: &mut [u8], given: &[u8])
 }
 
 /// Makes each byte of a piece from the place on the old one AND the given one.
-fn clear_piece<F: Read + Write + Seek>(file: &mut F, place: u64, given: &[u8]) -> io::Result<()>
+fn clear_piece<F: Read + Write + Seek + Drop>(
+    file: &mut CalledFile<F>,
+    place: u64,
+    given: &[u8],
+) -> Result<(), Failed>
     requires { length given.now ≤ PIECE_SIZE }
-    ensures { OnOk result (ClearsAt (file_tells F.stream_position F.remaining) (file_tells F.stream_position F.contents)
-        place given.now file.old file.new) }
+    ensures { ClearsFrom (file_tells F.stream_position F.remaining) (file_tells F.stream_position F.contents)
+        place given.now result file.old file.new }
 {
     let mut buffer = [0; PIECE_SIZE];
     let piece = &mut buffer[..given.len()];
-    read_from(file, place, piece)?;
+    match read_from(file, place, piece) {
+        Ok(()) => {}
+        Err(Failed) => return Err(Failed),
+    }
     clear_bits(piece, given);
     write_from(file, place, piece)
 }
 
 /// Makes each byte from the place on the old one AND the given one, piece by piece, and waits until they are kept.
-fn program_from<F: Read + Write + Seek + OpenFile>(
-    file: &mut F,
+fn program_from<F: Read + Write + Seek + OpenFile + Drop>(
+    file: &mut CalledFile<F>,
     place: u64,
     given: &[u8],
-) -> io::Result<()>
+) -> Result<(), Failed>
     requires { place + length given.now < 2 ^ 64 }
-    ensures { OnOk result (ClearsBits (file_tells F.stream_position F.remaining) (file_tells F.stream_position F.contents)
-        place given.now file.old file.new) }
+    ensures { ProgramsFrom (file_tells F.stream_position F.remaining) (file_tells F.stream_position F.contents)
+        place given.now result file.old file.new }
 {
     let mut done = 0;
     while done < given.len() {
         let count = PIECE_SIZE.min(given.len() - done);
-        clear_piece(file, place + done as u64, &given[done..done + count])?;
-        done += count;
+        match clear_piece(file, place + done as u64, &given[done..done + count]) {
+            Ok(()) => done += count,
+            Err(Failed) => return Err(Failed),
+        }
     }
-    file.sync_data()
+    keep(file)
 }
 
 /// A file by its path as a flash; nothing of what it holds is known. The size is that of the file as it was attached.
@@ -143,7 +147,7 @@ fn program_from<F: Read + Write + Seek + OpenFile>(
 pub struct FileFlash<'r, R: Files> {
     rt: &'r R,
     // the attached file, if any is
-    file: Option<R::File>,
+    file: Option<CalledFile<R::File>>,
     // why the last attach opened no file
     refusal: Option<ErrorKind>,
     // how many bytes the file had as it was attached
@@ -161,8 +165,9 @@ pub struct FileFlash<'r, R: Files> {
 impl<'r, R: Files> Model for FileFlash<'r, R> {
     ghost use Rattle.std.specs.Prelude.{◌<◌, ◌^◌};
     ghost use Rattle.x7_files.specs.Flash.{RealFlash};
+    ghost use Rattle.x7_files.specs.declared.file.CalledFile.{CalledFile};
 
-    ghost Value = { RealFlash R.File };
+    ghost Value = { RealFlash (CalledFile R.File) };
 
     ghost view = { λ f. record {
       file = f.file;
@@ -237,8 +242,8 @@ impl<'r, R: Files> Flash for FileFlash<'r, R> {
     fn read_at(&mut self, place: u64, buf: &mut [u8]) -> Result<(), Failed>
         requires attached { is_some self.old.file ≡ true }
         requires within { place + length buf.old ≤ self.old.extent }
-        ensures read { OnOk result
-            (WhileOpen (ReadsAt (file_tells R.File.stream_position R.File.remaining) place buf.new) self.old.file self.new.file) }
+        ensures read { WhileOpen
+            (ReadsFrom (file_tells R.File.stream_position R.File.remaining) place buf.new result) self.old.file self.new.file }
         ensures length { length buf.new ≡ length buf.old }
         ensures is_open { is_some self.new.file ≡ true }
         ensures no_fault { OnOk result (self.new ≡
@@ -250,48 +255,60 @@ impl<'r, R: Files> Flash for FileFlash<'r, R> {
         let Some(file) = &mut self.file else {
             unreachable!()
         };
-        if read_from(file, place, buf).is_ok() {
-            self.calls.read_at(place, buf, Ok(()));
-            return Ok(());
+        match read_from(file, place, buf) {
+            Ok(()) => {
+                self.calls.read_at(place, buf, Ok(()));
+                Ok(())
+            }
+            Err(Failed) => {
+                self.calls.read_at(place, buf, Err(Failed));
+                self.faults = raised(self.faults);
+                Err(Failed)
+            }
         }
-        self.calls.read_at(place, buf, Err(Failed));
-        self.faults = raised(self.faults);
-        Err(Failed)
     }
 
     fn erase(&mut self, sector: u64) -> Result<(), Failed>
         requires attached { is_some self.old.file ≡ true }
         requires within { sector_place sector + sector_size ≤ self.old.extent }
-        ensures { TriesWrite (WritesAt (file_tells R.File.stream_position R.File.contents) (sector_place sector) erased_sector)
+        ensures { TriesWrite (ErasesFrom (file_tells R.File.stream_position R.File.contents) (sector_place sector))
             (erase_call sector) self.old result self.new }
     {
         let Some(file) = &mut self.file else {
             unreachable!()
         };
-        if erase_from(file, sector * SECTOR_SIZE).is_ok() {
-            self.calls.erase(sector, Ok(()));
-            return Ok(());
+        match erase_from(file, sector * SECTOR_SIZE) {
+            Ok(()) => {
+                self.calls.erase(sector, Ok(()));
+                Ok(())
+            }
+            Err(Failed) => {
+                self.calls.erase(sector, Err(Failed));
+                self.write_faults = raised(self.write_faults);
+                Err(Failed)
+            }
         }
-        self.calls.erase(sector, Err(Failed));
-        self.write_faults = raised(self.write_faults);
-        Err(Failed)
     }
 
     fn program(&mut self, place: u64, given: &[u8]) -> Result<(), Failed>
         requires attached { is_some self.old.file ≡ true }
         requires within { place + length given.now ≤ self.old.extent }
-        ensures { TriesWrite (ClearsBits (file_tells R.File.stream_position R.File.remaining)
+        ensures { TriesWrite (ProgramsFrom (file_tells R.File.stream_position R.File.remaining)
             (file_tells R.File.stream_position R.File.contents) place given.now) (program_call place given.now) self.old result self.new }
     {
         let Some(file) = &mut self.file else {
             unreachable!()
         };
-        if program_from(file, place, given).is_ok() {
-            self.calls.program(place, given, Ok(()));
-            return Ok(());
+        match program_from(file, place, given) {
+            Ok(()) => {
+                self.calls.program(place, given, Ok(()));
+                Ok(())
+            }
+            Err(Failed) => {
+                self.calls.program(place, given, Err(Failed));
+                self.write_faults = raised(self.write_faults);
+                Err(Failed)
+            }
         }
-        self.calls.program(place, given, Err(Failed));
-        self.write_faults = raised(self.write_faults);
-        Err(Failed)
     }
 }

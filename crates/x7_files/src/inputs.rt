@@ -1,30 +1,18 @@
 //! Files of the system as inputs by their paths.
-ghost use Rattle.std.specs.Prelude.{◌≡◌, ◌<◌, ◌≤◌, ◌+◌, length, None, true, false, IfErr, IfOk, OnErr};
-ghost use Rattle.std.specs.Io.KnownBytes.{ReadConsumes};
+ghost use Rattle.std.specs.Prelude.{◌≡◌, ◌<◌, ◌≤◌, ◌+◌, [], length, None, true, false, IfErr, IfOk, OnErr};
 ghost use Rattle.x7_files.specs.Agreement.{no_select};
-ghost use Rattle.x7_files.specs.Inputs.{after_failed_read, after_read, after_select, opening_of, CountsFaults, ReadGives};
+ghost use Rattle.x7_files.specs.Inputs.{after_read, after_select, opening_of, CountsFaults, FailsToRead, ReadGives};
 ghost use Rattle.x7_files.specs.Refusal.{RefusedFor};
 
 use crate::agreement::{self, Agreement, World};
+use crate::file_call::{FileCalls, no_calls, read_once};
 use crate::refusal::count_refusal;
 use std::fs;
-use std::io::{ErrorKind, Read};
+use std::io::ErrorKind;
 use std::marker::{Model, PhantomData};
 use std::rt::Files;
 use x7_ghost::Ghost;
 use x7_words::{Failed, Inputs, SelectFault, ends_counted, raised};
-
-/// One read of a file; every error is a fault.
-fn read_once<F: Read>(file: &mut F, buf: &mut [u8]) -> Result<usize, Failed>
-    ensures within { IfOk result (λ n. n ≤ length buf.old) }
-    ensures length { length buf.new ≡ length buf.old }
-    ensures bytes { ReadConsumes (F.remaining file.old) (F.remaining file.new) result buf.new }
-{
-    match file.read(buf) {
-        Ok(taken) => Ok(taken),
-        Err(_) => Err(Failed),
-    }
-}
 
 /// Files by their paths as inputs. Each read is one read of the file. What they hold is known in hindsight: it is what
 /// the map `W` says, whichever that is, as long as all that selects and reads gave agrees with it.
@@ -41,6 +29,8 @@ pub struct FileInputs<'r, R: Files, W: World> {
     file: Option<R::File>,
     // why the last select opened no file
     refusal: Option<ErrorKind>,
+    // the reads that were made of files with their answers; they have no bytes
+    calls: FileCalls,
     // how many selects there were
     selects: u64,
     // how many reads gave nothing
@@ -64,6 +54,7 @@ impl<'r, R: Files, W: World> Model for FileInputs<'r, R, W> {
       selected = is_some f.file;
       rest = unread_of R.File.remaining f.file;
       refusal = f.refusal;
+      calls = f.calls;
       selects = f.selects;
       ends = f.ends;
       given = f.given;
@@ -77,7 +68,7 @@ impl<'r, R: Files, W: World> Model for FileInputs<'r, R, W> {
 impl<'r, R: Files, W: World> FileInputs<'r, R, W> {
     /// The files of the runtime, of which none is selected.
     pub fn new(rt: &'r R) -> FileInputs<'r, R, W>
-        ensures { result ≡ record { agreement = no_select; selected = false; rest = None; refusal = None; selects = 0; ends = 0; given = 0; faults = 0; absences = 0 } }
+        ensures { result ≡ record { agreement = no_select; selected = false; rest = None; refusal = None; calls = []; selects = 0; ends = 0; given = 0; faults = 0; absences = 0 } }
     {
         FileInputs {
             rt,
@@ -85,6 +76,7 @@ impl<'r, R: Files, W: World> FileInputs<'r, R, W> {
             agreement: agreement::at_first(),
             file: None,
             refusal: None,
+            calls: no_calls(),
             selects: 0,
             ends: 0,
             given: 0,
@@ -131,14 +123,14 @@ impl<'r, R: Files, W: World> Inputs for FileInputs<'r, R, W> {
         ensures length { length buf.new ≡ length buf.old }
         ensures bytes { IfOk result (ReadGives self.old.rest self.new.rest buf.new) }
         ensures counted { IfOk result (λ n. self.new ≡ after_read self.old self.new.rest buf.new n) }
-        ensures failed { OnErr result (self.new ≡ after_failed_read self.old) }
+        ensures failed { OnErr result (FailsToRead self.old self.new) }
         ensures at_most_one_more { self.new.ends ≤ self.old.ends + 1 }
         ensures counts { CountsFaults self.old self.new }
     {
         let Some(file) = &mut self.file else {
             unreachable!()
         };
-        match read_once(file, buf) {
+        match read_once(file, &mut self.calls, buf) {
             Ok(count) => {
                 self.ends = ends_counted(count, self.ends);
                 self.given = self.given.saturating_add(count as u64);
@@ -146,7 +138,7 @@ impl<'r, R: Files, W: World> Inputs for FileInputs<'r, R, W> {
                 self.agreement = agreement::after_read(&self.agreement, &buf[..count], room);
                 Ok(count)
             }
-            Err(Failed) => {
+            Err(_) => {
                 self.file = None;
                 self.agreement = agreement::after_fault(&self.agreement);
                 self.faults = raised(self.faults);

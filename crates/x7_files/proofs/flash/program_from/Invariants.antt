@@ -1,5 +1,6 @@
 use Rattle.std.proofs.Common.{◌-◌, ◌≤◌, length, take}
-use Rattle.x7_files.specs.Flash.{ClearsBits, file_tells}
+use Rattle.x7_files.specs.File.{file_tells}
+use Rattle.x7_files.specs.Flash.{ClearsBits}
 use Rattle.x7_files.proofs.flash.program_from.Given as goal
 
 abbrev pub invariant-loop-done : goal.invariant-loop-done
