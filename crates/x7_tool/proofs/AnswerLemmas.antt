@@ -79,7 +79,7 @@ uses_as form asks inputs old new e h = subst (λ (f : Option AskedForm). UsesFla
 -- ---- the words
 
 -- a form whose text is whole
-pub ran_done : (form : Option AskedForm) (asks : AskedForm) (old new : Outside) (s : Status) (stopped : Bool) → form ≡ Some asks → s ≡ text_status stopped → new.err.written ≡ old.err.written → Answered asks old new (Ok stopped) → RanAs form old new s
+pub ran_done : (form : Option AskedForm) (asks : AskedForm) (old new : Outside) (s : Status) (stopped : Bool) → form ≡ Some asks → s ≡ text_status stopped → new.err ≡ old.err → Answered asks old new (Ok stopped) → RanAs form old new s
 ran_done form asks old new s stopped e t w a =
     subst (λ (f : Option AskedForm). RanAs f old new s) (sym e)
     (record {

@@ -37,10 +37,10 @@ stopped_or_event result = result_by (λ stopped. stopped) result
 abbrev pub OutputFailsLast : SinkState → SinkState → Status → Type 0
 OutputFailsLast old new s = (s ≡ status.WriteFault) ⊎ ((s ≡ status.NoMemory) ⊎ (new.faults ≡ old.faults))
 
--- what the sink of messages got: nothing after a whole text, and else the event's
--- line, or a prefix of it where the sink failed
+-- what became of the sink of messages: nothing after a whole text, not even a fault; else it got the event's line, or a
+-- prefix of it where it failed
 abbrev pub SaysEnd : SinkState → SinkState → Result Answer Event → Type 0
-SaysEnd old new (Ok answer) = new.written ≡ old.written
+SaysEnd old new (Ok answer) = new ≡ old
 SaysEnd old new (Err event) = PutsOrFails old (event_line event) new
 
 -- the input `name` is known, and has this text
@@ -155,8 +155,8 @@ pub record Runs (form : Option AskedForm) (old new : Outside) (s : Status) : Typ
   -- where the contents are known, a whole text is theirs, and an event has its cause in them; or the event reports a
   -- fault, an absence, a failed write or a byte that differs, which came; or memory was wanting
   pub cause : EndIsCaused form old new end
-  -- the sink of messages got nothing after a whole text, and else the event's one line, or a prefix of that line where
-  -- the sink failed
+  -- after a whole text the sink of messages is as it was, without a fault; else it got the event's one line, or a prefix
+  -- of that line where it failed
   pub said : SaysEnd old.err new.err end
   -- what the output got
   pub output : UsesOutput form old new s end
