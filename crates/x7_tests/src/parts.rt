@@ -23,24 +23,11 @@ fn slots_from(part: &Part, far: u32) -> Option<u64> {
     Some(part.slots_from(far))
 }
 
-/// What a part answers, beside what it should: an address, a rank or a number; none where there is none.
-type Answer = (Option<u32>, Option<u32>);
-
-/// A slot that a part answers, beside the one that it should; none where the part lacks the address.
-type SlotAnswer = (Option<Slot>, Option<Slot>);
+/// What a part answers, beside what it should: an address, a rank, a number or a slot; none where there is none.
+type Answer<T> = (Option<T>, Option<T>);
 
 /// Whether each answer is the one that it should be.
-fn are_right(answers: &[Answer]) -> bool {
-    for (is, wanted) in answers {
-        if is != wanted {
-            return false;
-        }
-    }
-    true
-}
-
-/// Whether each slot is the one that it should be.
-fn are_right_slots(answers: &[SlotAnswer]) -> bool {
+fn are_right<T: PartialEq>(answers: &[Answer<T>]) -> bool {
     for (is, wanted) in answers {
         if is != wanted {
             return false;
@@ -68,7 +55,7 @@ fn has_answers(part: &Part) -> bool {
 #[rattlefmt::skip]
 fn has_slots(part: &Part) -> bool {
     let last = 0x0000_0001; // the last address of the top row
-    are_right_slots(&[
+    are_right(&[
         (slot_from(part, last, 0), Some(Slot::Frame(last))),
         (slot_from(part, last, 1), Some(Slot::Pad)),
         (slot_from(part, last, 2), Some(Slot::Pad)),
