@@ -61,9 +61,9 @@ WritesBytesAndStops contents bytes = WritesOn contents (StopsAtLast (WritesTake 
 -- Writes of a file took the first of these bytes, but not all of them, and a last one failed or took none.
 pub record WritesShort {F : Type 0} (contents : F → Option (List ℕ)) (bytes : List ℕ) (old new : CalledFile F) : Type 0 where
   pub taken : List ℕ
-  pub back : List ℕ
-  pub are : bytes ≡ taken ++ back
-  pub short : 0 < length back
+  pub after : List ℕ
+  pub are : bytes ≡ taken ++ after
+  pub short : 0 < length after
   pub written : WritesBytesAndStops contents taken old new
 
 module _ {F : Type 0} (t : KnowsOfFile F) where

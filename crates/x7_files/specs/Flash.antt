@@ -80,13 +80,13 @@ module _ {F : Type 0} (reads writes : KnowsOfFile F) where
 
   -- the first of the given bytes were cleared, and the piece after these failed
   pub record ClearingStops (place : ℕ) (given : List ℕ) (old new : CalledFile F) : Type 0 where
-    pub front : List ℕ
+    pub prefix : List ℕ
     pub piece : List ℕ
-    pub back : List ℕ
-    pub are : given ≡ front ++ piece ++ back
+    pub after : List ℕ
+    pub are : given ≡ prefix ++ piece ++ after
     pub between : CalledFile F
-    pub cleared : ClearsBits place front old between
-    pub stops : ClearsFrom (place + length front) piece (Err (record {})) between new
+    pub cleared : ClearsBits place prefix old between
+    pub stops : ClearsFrom (place + length prefix) piece (Err (record {})) between new
 
   -- What a program does by its answer. Ok: it cleared the bits, and the disk has that. Else it stopped within a piece,
   -- or at the wait for the disk.

@@ -10,7 +10,7 @@ returns-in-Err g c =
     let bytes = c.args.bytes.now in
     record {
       taken = take at bytes;
-      back = drop at bytes;
+      after = drop at bytes;
       are = sym (take-append-drop at bytes);
       short = omega (arith, length-drop at bytes, c.loop-at-test.true);
       written = writing_stopped g.F.Write.contents (take at bytes) c.args.file.now c.loop-at.file c.write_some.new.file c.loop-at.invariant.written c.in-Err.ensures.written;

@@ -28,9 +28,9 @@ returns-in-Err g c =
     let piece = take (next - done) (drop done given) in
     let place : c.args.place + done ≡ c.args.place + length (take done given) = omega (arith, length-take-le done given c.loop-done.invariant.0) in
     inl (record {
-      front = take done given;
+      prefix = take done given;
       piece = piece;
-      back = drop (next - done) (drop done given);
+      after = drop (next - done) (drop done given);
       are = sym (take-append-drop done given) ∙ ap (λ rest. take done given ++ rest) (sym (take-append-drop (next - done) (drop done given)))
           ∙ sym (append_assoc (take done given) piece (drop (next - done) (drop done given)));
       between = c.loop-done.file;
