@@ -58,7 +58,8 @@ pub record ShowsWords (payload shown all : List ℕ) (in_line : OpenWords) : Typ
 abbrev pub on_sheet : CutterState → OpenWords → List ℕ → ℕ → List ℕ → ListerState
 on_sheet cutter in_line sheet len text = lister_with cutter (Session in_line) (text ++ take len sheet)
 
--- the same with the open line and the text that a run left on a sheet
+-- a lister in a session with the open line that a run left, whose text is any text and then what the run left on a
+-- sheet
 abbrev pub on_sheet_after : CutterState → PutRun → List ℕ → List ℕ → ListerState
 on_sheet_after cutter run sheet = on_sheet cutter run.in_line sheet run.len
 
